@@ -1,0 +1,87 @@
+-- The numbers of document 01, "When a call says no", one for each answer; and that different answers have different numbers.
+use Prim.Native.Nat.{ℕ}
+use mathlib.Core.Path.{_≡_, refl, sym, ap, _∙_}
+use mathlib.Core.Bool.{Bool}
+use mathlib.Core.List.{List, [], _∷_}
+use lib.ListN.{getD}
+use lib.Dec.{eqb}
+use Rattle.answers.specs.declared.Answer.{Answer}
+use Rattle.answers.specs.declared.Answer.the-variants.{
+  Done,
+  ReservedBit,
+  RecordTruncated,
+  PointCount,
+  PointsNotRising,
+  UnknownKind,
+  FieldMismatch,
+  TrailingBytes,
+  UnsupportedFormat,
+  PictureTooLarge,
+  MissingPlane,
+  RowStep,
+  PlaneTooShort,
+  OutputTooSmall,
+  TableLength,
+}
+
+abbrev pub numberOf : Answer → ℕ
+numberOf Done = 0
+-- Bit 7 of a record's map stands.
+numberOf ReservedBit = 1
+-- A record ends before its map or inside a field whose bit stands.
+numberOf RecordTruncated = 2
+-- A count of points is above 64, or a record's master count is 0.
+numberOf PointCount = 3
+-- A record's or set's points don't strictly rise in x.
+numberOf PointsNotRising = 4
+-- The kind byte is above 9.
+numberOf UnknownKind = 5
+-- Bit 5 or bit 6 disagrees with the kind.
+numberOf FieldMismatch = 6
+-- Bytes follow the last field.
+numberOf TrailingBytes = 7
+-- The set call is given Ya8, Cmyk or CmykInverted.
+numberOf UnsupportedFormat = 8
+-- Width or height is above 4,096.
+numberOf PictureTooLarge = 9
+-- The set call has no plane, or fewer than three for YUV.
+numberOf MissingPlane = 10
+-- The first plane's row step is below the row bytes or above 32,768.
+numberOf RowStep = 11
+-- The first plane has fewer bytes than needed.
+numberOf PlaneTooShort = 12
+-- An output holds less than what would be written.
+numberOf OutputTooSmall = 13
+-- A float table's length isn't 256 or 4,096 (build) or 4,096 (lookup).
+numberOf TableLength = 14
+
+abbrev pub isDone : Answer → Bool
+isDone a = eqb (numberOf a) 0
+
+-- ---- different answers have different numbers
+
+-- the answers in the order of their numbers
+abbrev inOrder : List Answer
+inOrder =
+    Done ∷ ReservedBit ∷ RecordTruncated ∷ PointCount ∷ PointsNotRising ∷ UnknownKind ∷ FieldMismatch ∷ TrailingBytes
+    ∷ UnsupportedFormat ∷ PictureTooLarge ∷ MissingPlane ∷ RowStep ∷ PlaneTooShort ∷ OutputTooSmall ∷ TableLength ∷ []
+
+at-number : (a : Answer) → getD inOrder (numberOf a) Done ≡ a
+at-number Done = refl
+at-number ReservedBit = refl
+at-number RecordTruncated = refl
+at-number PointCount = refl
+at-number PointsNotRising = refl
+at-number UnknownKind = refl
+at-number FieldMismatch = refl
+at-number TrailingBytes = refl
+at-number UnsupportedFormat = refl
+at-number PictureTooLarge = refl
+at-number MissingPlane = refl
+at-number RowStep = refl
+at-number PlaneTooShort = refl
+at-number OutputTooSmall = refl
+at-number TableLength = refl
+
+pub number-unique : (a b : Answer) → numberOf a ≡ numberOf b → a ≡ b
+number-unique a b e = sym (at-number a) ∙ ap (λ n. getD inOrder n Done) e ∙ at-number b

@@ -1,0 +1,52 @@
+// The answer of a call: done, or the first refusal of document 01, "When a call says no".
+ghost use mathlib.Core.Path.{_≡_};
+ghost use Rattle.answers.specs.Numbers.{numberOf, isDone};
+
+pub enum Answer {
+    Done,
+    ReservedBit,
+    RecordTruncated,
+    PointCount,
+    PointsNotRising,
+    UnknownKind,
+    FieldMismatch,
+    TrailingBytes,
+    UnsupportedFormat,
+    PictureTooLarge,
+    MissingPlane,
+    RowStep,
+    PlaneTooShort,
+    OutputTooSmall,
+    TableLength,
+}
+
+impl Answer {
+    // The paper's number; 0 for done.
+    pub fn number(self) -> u8
+        ensures { λ r. ⌜ r ≡ numberOf self ⌝ }
+    {
+        match self {
+            Answer::Done => 0,
+            Answer::ReservedBit => 1,
+            Answer::RecordTruncated => 2,
+            Answer::PointCount => 3,
+            Answer::PointsNotRising => 4,
+            Answer::UnknownKind => 5,
+            Answer::FieldMismatch => 6,
+            Answer::TrailingBytes => 7,
+            Answer::UnsupportedFormat => 8,
+            Answer::PictureTooLarge => 9,
+            Answer::MissingPlane => 10,
+            Answer::RowStep => 11,
+            Answer::PlaneTooShort => 12,
+            Answer::OutputTooSmall => 13,
+            Answer::TableLength => 14,
+        }
+    }
+
+    pub fn is_done(self) -> bool
+        ensures { λ r. ⌜ r ≡ isDone self ⌝ }
+    {
+        self.number() == 0
+    }
+}
