@@ -1,0 +1,241 @@
+-- How large a float is. `AtMost a c x` says that x is finite and |x| ≤ a / c, `AtLeast a c x` that x is finite and |x| ≥ a / c. Rounding passes
+-- no value of the format. So a bound r / e that the format holds (`Rep f r e`) bounds a result where it bounds the exact result. Operands have
+-- either sign.
+use mathlib.Core.Path.{_≡_, refl, sym, _∙_}
+use Prim.Native.Nat.{ℕ, _+_, _-_, _*_, _≤_, _<_}
+use native.Mathlib.Nat.{lt-of-lt-of-le, le-trans, le-of-eq, mul-comm, mul-mul-mul-comm, mul-pos, mul-le-mul, mul-le-mul-right}
+use native.Mathlib.Omega.{arith}
+use mathlib.Core.Bool.{Bool, true, false, true≢false, not, _&&_, cond, Bool·beq}
+use lib.Dec.{T, ltb, lit<}
+use lib.Ieee.{Float, nan, inf, fin, Format, up, down, unlike, round, neg, sum, add, sub, mul, div, lt, le}
+use lib.Ieee.Fits.{down-pos}
+use lib.Ieee.Exact.{HasValue}
+use lib.Ieee.Order.{round-mono}
+use lib.Ieee.Scale.{finite}
+use lib.Ieee.Positive.{num, den, den-pos, first-pos, through}
+use borrow.Author.Tests.{ltb-false}
+use Rattle.floats.specs.Value.{Is, own, is-of-pos, is-of-le, Apart, size-is, sign, sign-neg, unsigned, absolute}
+use Rattle.floats.specs.Order.{over-top}
+use Rattle.floats.specs.Round.{round-neg, round-unsigned}
+use Rattle.floats.specs.Exact.{Rep, round-rep}
+use Rattle.floats.specs.Ops.{add-is, sub-is, mul-is, div-is}
+use Rattle.floats.specs.Frac.{Sized}
+use Rattle.floats.specs.Calc.{val}
+
+-- |x| ≤ a / c
+pub record AtMost (a c : ℕ) (x : Float) : Type 0 where
+  pub fin : T (finite x)
+  pub unit : 0 < c
+  pub most : num x * c ≤ a * den x
+
+-- |x| ≥ a / c
+pub record AtLeast (a c : ℕ) (x : Float) : Type 0 where
+  pub fin : T (finite x)
+  pub unit : 0 < c
+  pub least : a * den x ≤ num x * c
+
+-- ---- exact values, and weaker bounds
+pub at-most-is : (x : Float) (p n c a : ℕ) → 0 < c → Is x p n c → Apart p n a → AtMost a c x
+at-most-is x p n c a C h e = record { fin = h .0; unit = C; most = le-of-eq (size-is x p n c a h e) }
+
+pub at-least-is : (x : Float) (p n c a : ℕ) → 0 < c → Is x p n c → Apart p n a → AtLeast a c x
+at-least-is x p n c a C h e = record { fin = h .0; unit = C; least = le-of-eq (sym (size-is x p n c a h e)) }
+
+pub at-least-zero : (x : Float) → T (finite x) → AtLeast 0 1 x
+at-least-zero x p = record { fin = p; unit = lit< tt; least = omega arith }
+
+-- a / c ≤ b / d
+pub at-most-more : {a c : ℕ} {x : Float} (b d : ℕ) → 0 < d → a * d ≤ b * c → AtMost a c x → AtMost b d x
+at-most-more {a} {c} {x} b d D l h = record { fin = h .fin; unit = D; most = through (num x) a b (den x) c d (h .unit) (h .most) l }
+
+-- b / d ≤ a / c
+pub at-least-less : {a c : ℕ} {x : Float} (b d : ℕ) → 0 < d → b * c ≤ a * d → AtLeast a c x → AtLeast b d x
+at-least-less {a} {c} {x} b d D l h = record { fin = h .fin; unit = D; least = through b a (num x) d c (den x) (h .unit) l (h .least) }
+
+-- in the form of `Frac`
+pub at-most-sized : {a c : ℕ} {x : Float} → AtMost a c x → Sized c a (val x)
+at-most-sized {x = nan} h = absurd (h .fin)
+at-most-sized {x = inf s} h = absurd (h .fin)
+at-most-sized {x = fin false m e} h = (omega (arith, h .most), omega arith)
+at-most-sized {x = fin true m e} h = (omega arith, omega (arith, h .most))
+
+-- ---- rounding
+most-of-le : (x y : Float) (a d : ℕ) → 0 < d → T (unsigned x) → HasValue y false a d → T (le x y) → AtMost a d x
+most-of-le nan y a d D u v h = absurd u
+most-of-le (inf true) y a d D u v h = absurd u
+most-of-le (inf false) y a d D u v h = absurd (rw (over-top y h) at v)
+most-of-le (fin true m e) y a d D u v h = absurd u
+most-of-le (fin false m e) y a d D u v h =
+    let x = fin false m e in
+    record { fin = tt; unit = D; most = omega (arith, is-of-le x y (m * up e) 0 (down e) a 0 d (own x tt) (is-of-pos y a d v) h) }
+
+least-of-le : (x y : Float) (a d : ℕ) → 0 < d → T (unsigned x) → T (finite x) → HasValue y false a d → T (le y x) → AtLeast a d x
+least-of-le nan y a d D u p v h = absurd p
+least-of-le (inf s) y a d D u p v h = absurd p
+least-of-le (fin true m e) y a d D u p v h = absurd u
+least-of-le (fin false m e) y a d D u p v h =
+    let x = fin false m e in
+    record { fin = tt; unit = D; least = omega (arith, is-of-le y x a 0 d (m * up e) 0 (down e) (is-of-pos y a d v) (own x tt) h) }
+
+pub at-most-neg : {a c : ℕ} {x : Float} → AtMost a c x → AtMost a c (neg x)
+unfolding neg
+at-most-neg {x = nan} h = absurd (h .fin)
+at-most-neg {x = inf s} h = absurd (h .fin)
+at-most-neg {x = fin s m e} h = record { fin = tt; unit = h .unit; most = h .most }
+
+pub at-least-neg : {a c : ℕ} {x : Float} → AtLeast a c x → AtLeast a c (neg x)
+unfolding neg
+at-least-neg {x = nan} h = absurd (h .fin)
+at-least-neg {x = inf s} h = absurd (h .fin)
+at-least-neg {x = fin s m e} h = record { fin = tt; unit = h .unit; least = h .least }
+
+-- p / c ≤ r / e
+pub round-at-most : (f : Format) (s : Bool) (p c r e : ℕ) → 0 < c → 0 < e → Rep f r e → p * e ≤ r * c → AtMost r e (round f s p c)
+round-at-most f s p c r e C E R h = go s
+  where
+    plain : AtMost r e (round f false p c)
+    plain =
+        most-of-le (round f false p c) (round f false r e) r e E (round-unsigned f p c) (round-rep f false r e E R) (round-mono f p c r e C E h)
+
+    go : (s : Bool) → AtMost r e (round f s p c)
+    go false = plain
+    go true = rw (← round-neg) (at-most-neg plain)
+
+-- r / e ≤ p / c, and nothing overflows
+pub round-at-least : (f : Format) (s : Bool) (p c r e : ℕ) → 0 < c → 0 < e → Rep f r e → r * c ≤ p * e → T (finite (round f s p c))
+    → AtLeast r e (round f s p c)
+round-at-least f s p c r e C E R h = go s
+  where
+    plain : T (finite (round f false p c)) → AtLeast r e (round f false p c)
+    plain q =
+        least-of-le (round f false p c) (round f false r e) r e E (round-unsigned f p c) q (round-rep f false r e E R) (round-mono f r e p c E C h)
+
+    back : (x : Float) → T (finite (neg x)) → T (finite x)
+    back nan q = unfold neg in q
+    back (inf t) q = unfold neg in q
+    back (fin t m k) q = tt
+
+    go : (s : Bool) → T (finite (round f s p c)) → AtLeast r e (round f s p c)
+    go false q = plain q
+    go true q = rw (← round-neg) (at-least-neg (plain (back (round f false p c) (rw round-neg q))))
+
+pub at-most-cond : (b : Bool) {a c : ℕ} {x y : Float} → AtMost a c x → AtMost a c y → AtMost a c (cond b x y)
+at-most-cond true h g = h
+at-most-cond false h g = g
+
+-- ---- sums and differences: of a / c and b / d the exact bound is (a * d + b * c) / (c * d)
+sum-at-most : (f : Format) (s : Bool) (p : ℕ) (t : Bool) (q u r e : ℕ) → 0 < u → 0 < e → Rep f r e → (p + q) * e ≤ r * u
+    → AtMost r e (sum f s p t q u)
+unfolding sum
+sum-at-most f s p t q u r e U E R h =
+    at-most-cond (Bool·beq s t) (round-at-most f s (p + q) u r e U E R h)
+    (at-most-cond (ltb p q) (round-at-most f t (q - p) u r e U E R (le-trans (mul-le-mul-right e (right p q)) h))
+    (round-at-most f (s && ltb q p) (p - q) u r e U E R (le-trans (mul-le-mul-right e (left p q)) h)))
+  where
+    left : (p q : ℕ) → p - q ≤ p + q
+    left p q = omega arith
+
+    right : (p q : ℕ) → q - p ≤ p + q
+    right p q = omega arith
+
+-- p / q ≤ a / c and s / t ≤ b / d
+plus-le : (p q a c s t b d : ℕ) → p * c ≤ a * q → s * d ≤ b * t → (p * t + s * q) * (c * d) ≤ (a * d + b * c) * (q * t)
+plus-le p q a c s t b d h g = omega (arith, mul-le-mul-right (t * d) h, mul-le-mul-right (q * c) g)
+
+pub at-most-add : (f : Format) {a c b d : ℕ} {x y : Float} (r e : ℕ) → 0 < e → Rep f r e → AtMost a c x → AtMost b d y
+    → (a * d + b * c) * e ≤ r * (c * d) → AtMost r e (add f x y)
+at-most-add f {a} {c} {b} {d} {x} {y} r e E R h g l =
+    rw (add-is f x y (h .fin) (g .fin))
+    (sum-at-most f (sign x) (num x * den y) (sign y) (num y * den x) (den x * den y) r e (mul-pos (den-pos x) (den-pos y)) E R
+    (through (num x * den y + num y * den x) (a * d + b * c) r (den x * den y) (c * d) e (mul-pos (h .unit) (g .unit))
+    (plus-le (num x) (den x) a c (num y) (den y) b d (h .most) (g .most)) l))
+
+pub at-most-sub : (f : Format) {a c b d : ℕ} {x y : Float} (r e : ℕ) → 0 < e → Rep f r e → AtMost a c x → AtMost b d y
+    → (a * d + b * c) * e ≤ r * (c * d) → AtMost r e (sub f x y)
+at-most-sub f r e E R h g l = rw sub-is (at-most-add f r e E R h (at-most-neg g) l)
+
+like-sum : (f : Format) (s t : Bool) (p q u : ℕ) → s ≡ t → sum f s p t q u ≡ round f s (p + q) u
+unfolding sum
+like-sum f true true p q u e = refl
+like-sum f true false p q u e = absurd (true≢false e)
+like-sum f false true p q u e = absurd (true≢false (sym e))
+like-sum f false false p q u e = refl
+
+-- of two terms with one sign
+pub at-least-add : (f : Format) {a c b d : ℕ} {x y : Float} (r e : ℕ) → 0 < e → Rep f r e → AtLeast a c x → AtLeast b d y → sign x ≡ sign y
+    → r * (c * d) ≤ (a * d + b * c) * e → T (finite (add f x y)) → AtLeast r e (add f x y)
+at-least-add f {a} {c} {b} {d} {x} {y} r e E R h g z l w =
+    let p = num x * den y + num y * den x in
+    let u = den x * den y in
+    let is : add f x y ≡ round f (sign x) p u =
+    add-is f x y (h .fin) (g .fin) ∙ like-sum f (sign x) (sign y) (num x * den y) (num y * den x) u z in
+    rw is
+    (round-at-least f (sign x) p u r e (mul-pos (den-pos x) (den-pos y)) E R
+    (through r (a * d + b * c) p e (c * d) u (mul-pos (h .unit) (g .unit)) l (plus-le a c (num x) (den x) b d (num y) (den y) (h .least) (g .least)))
+    (rw is at w))
+
+-- of two with opposite signs
+pub at-least-sub : (f : Format) {a c b d : ℕ} {x y : Float} (r e : ℕ) → 0 < e → Rep f r e → AtLeast a c x → AtLeast b d y → sign x ≡ not (sign y)
+    → r * (c * d) ≤ (a * d + b * c) * e → T (finite (sub f x y)) → AtLeast r e (sub f x y)
+at-least-sub f {y = y} r e E R h g z l w =
+    rw sub-is (at-least-add f r e E R h (at-least-neg g) (z ∙ sym (sign-neg y (g .fin))) l (rw sub-is at w))
+
+-- ---- products: the exact bound is a * b / (c * d)
+times-le : (p q a c s t b d : ℕ) → p * c ≤ a * q → s * d ≤ b * t → p * s * (c * d) ≤ a * b * (q * t)
+times-le p q a c s t b d h g = le-trans (le-of-eq (mul-mul-mul-comm p s c d)) (le-trans (mul-le-mul h g) (le-of-eq (mul-mul-mul-comm a q b t)))
+
+pub at-most-mul : (f : Format) {a c b d : ℕ} {x y : Float} (r e : ℕ) → 0 < e → Rep f r e → AtMost a c x → AtMost b d y
+    → a * b * e ≤ r * (c * d) → AtMost r e (mul f x y)
+at-most-mul f {a} {c} {b} {d} {x} {y} r e E R h g l =
+    rw (mul-is f x y (h .fin) (g .fin))
+    (round-at-most f (unlike (sign x) (sign y)) (num x * num y) (den x * den y) r e (mul-pos (den-pos x) (den-pos y)) E R
+    (through (num x * num y) (a * b) r (den x * den y) (c * d) e (mul-pos (h .unit) (g .unit))
+    (times-le (num x) (den x) a c (num y) (den y) b d (h .most) (g .most)) l))
+
+pub at-least-mul : (f : Format) {a c b d : ℕ} {x y : Float} (r e : ℕ) → 0 < e → Rep f r e → AtLeast a c x → AtLeast b d y
+    → r * (c * d) ≤ a * b * e → T (finite (mul f x y)) → AtLeast r e (mul f x y)
+at-least-mul f {a} {c} {b} {d} {x} {y} r e E R h g l w =
+    let is = mul-is f x y (h .fin) (g .fin) in
+    rw is
+    (round-at-least f (unlike (sign x) (sign y)) (num x * num y) (den x * den y) r e (mul-pos (den-pos x) (den-pos y)) E R
+    (through r (a * b) (num x * num y) e (c * d) (den x * den y) (mul-pos (h .unit) (g .unit)) l
+    (times-le a c (num x) (den x) b d (num y) (den y) (h .least) (g .least))) (rw is at w))
+
+-- ---- quotients: the exact bound is a * d / (c * b)
+over-le : (p q a c s t b d : ℕ) → p * c ≤ a * q → b * t ≤ s * d → p * t * (c * b) ≤ a * d * (s * q)
+over-le p q a c s t b d h g = omega (arith, times-le p q a c t s d b h (le-trans (le-of-eq (mul-comm t b)) (le-trans g (le-of-eq (mul-comm s d)))))
+
+pub at-most-div : (f : Format) {a c b d : ℕ} {x y : Float} (r e : ℕ) → 0 < e → Rep f r e → AtMost a c x → AtLeast b d y → 0 < b
+    → a * d * e ≤ r * (c * b) → AtMost r e (div f x y)
+at-most-div f {a} {c} {b} {d} {x} {y} r e E R h g B l =
+    let N : 0 < num y = first-pos (num y) d (lt-of-lt-of-le (mul-pos B (den-pos y)) (g .least)) in
+    rw (div-is f x y (h .fin) N)
+    (round-at-most f (unlike (sign x) (sign y)) (num x * den y) (num y * den x) r e (mul-pos N (den-pos x)) E R
+    (through (num x * den y) (a * d) r (num y * den x) (c * b) e (mul-pos (h .unit) B)
+    (over-le (num x) (den x) a c (num y) (den y) b d (h .most) (g .least)) l))
+
+pub at-least-div : (f : Format) {a c b d : ℕ} {x y : Float} (r e : ℕ) → 0 < e → Rep f r e → AtLeast a c x → AtMost b d y → 0 < num y
+    → r * (c * b) ≤ a * d * e → T (finite (div f x y)) → AtLeast r e (div f x y)
+at-least-div f {a} {c} {b} {d} {x} {y} r e E R h g N l w =
+    let B : 0 < b = first-pos b (den y) (lt-of-lt-of-le (mul-pos N (g .unit)) (g .most)) in
+    let is = div-is f x y (h .fin) N in
+    rw is
+    (round-at-least f (unlike (sign x) (sign y)) (num x * den y) (num y * den x) r e (mul-pos N (den-pos x)) E R
+    (through r (a * d) (num x * den y) e (c * b) (num y * den x) (mul-pos (h .unit) B) l
+    (omega (arith, over-le a c (num x) (den x) b d (num y) (den y) (h .least) (g .most)))) (rw is at w))
+
+-- ---- a test of the size: what is not below a guard is at least what the guard is
+pub at-least-guarded : {a c : ℕ} {x guard : Float} → T (finite x) → T (unsigned guard) → AtLeast a c guard → lt (absolute x) guard ≡ false
+    → AtLeast a c x
+unfolding lt absolute
+at-least-guarded {x = nan} p u h e = absurd p
+at-least-guarded {x = inf s} p u h e = absurd p
+at-least-guarded {x = fin s m k} {guard = nan} p u h e = absurd u
+at-least-guarded {x = fin s m k} {guard = inf t} p u h e = absurd (h .fin)
+at-least-guarded {x = fin s m k} {guard = fin true n i} p u h e = absurd u
+at-least-guarded {a} {c} {x = fin s m k} {guard = fin false n i} p u h e =
+    record {
+      fin = tt;
+      unit = h .unit;
+      least = through a (n * up i) (m * up k) c (down i) (down k) (down-pos i) (h .least) (ltb-false (m * up k * down i) (n * up i * down k) e);
+    }

@@ -1,0 +1,84 @@
+-- A value of the format is known by its sign and its fraction, so a fraction that it has rounds to it and to nothing else.
+use mathlib.Core.Path.{_≡_, refl, sym, ap, ap₂, _∙_}
+use Prim.Native.Nat.{ℕ, _+_, _-_, _*_, _/_, _^_, _<_}
+use native.Mathlib.Nat.{mul-pos, eq-of-mul-eq-mul-right}
+use native.Mathlib.Omega.{arith}
+use mathlib.Core.Bool.{Bool, true, false, cond}
+use mathlib.Core.Logic.{inl}
+use lib.Dec.{T, lit<}
+use lib.Ieee.{Float, nan, inf, fin, Format, prec, low, hid, up, down, size, round, fits, toBits, ofBits}
+use lib.Ieee.Fits.{down-pos, round-fits}
+use lib.Ieee.Exact.{HasValue}
+use lib.Ieee.Bits.{ofBits-toBits}
+use lib.Ieee.Nearest.{div-same}
+use lib.Ieee.Scale.{finite, round-same}
+use lib.Ieee.Positive.{num, den, den-pos}
+use Rattle.floats.specs.Value.{top, bot, Is, is-same, sign, nought, value-is}
+use Rattle.floats.specs.Round.{Rounds, over, under}
+use Rattle.floats.specs.Exact.{fits-rep, round-rep}
+
+-- x / u and y / w are both a / c
+cross : (x y u w a c l : ℕ) → 0 < c → x * c ≡ a * u → y * c ≡ a * w → x * l * w ≡ y * l * u
+cross x y u w a c l C h k =
+    let e : x * w ≡ y * u = eq-of-mul-eq-mul-right c C (x * w) (y * u) (omega (arith, ap (λ (z : ℕ). z * w) h, ap (λ (z : ℕ). z * u) k)) in
+    omega (arith, ap (λ (z : ℕ). z * l) e)
+
+-- the bit pattern of n smallest values with the sign s
+abbrev pattern : Format → Bool → ℕ → ℕ
+pattern f s n = cond s (lib.Ieee.top f) 0 + (size n - prec f) * hid f + n / 2 ^ (size n - prec f)
+
+same-bits : (f : Format) (x y : Float) (s : Bool) (a c : ℕ) → 0 < c → HasValue x s a c → HasValue y s a c → toBits f x ≡ toBits f y
+unfolding toBits
+same-bits f nan y s a c C v w = absurd v
+same-bits f (inf t) y s a c C v w = absurd v
+same-bits f (fin t m e) nan s a c C v w = absurd w
+same-bits f (fin t m e) (inf u) s a c C v w = absurd w
+same-bits f (fin t m e) (fin u n d) s a c C v w =
+    ap₂ (pattern f) (v .0 ∙ sym (w .0))
+    (div-same (m * up e * 2 ^ low f) (down e) (n * up d * 2 ^ low f) (down d) (down-pos e) (down-pos d)
+    (cross (m * up e) (n * up d) (down e) (down d) a c (2 ^ low f) C (v .1) (w .1)))
+
+pub value-unique : (f : Format) (x y : Float) (s : Bool) (a c : ℕ) → 0 < c → T (fits f x) → T (fits f y) → HasValue x s a c → HasValue y s a c
+    → x ≡ y
+value-unique f x y s a c C p q v w = sym (ofBits-toBits f x p) ∙ ap (ofBits f) (same-bits f x y s a c C v w) ∙ ofBits-toBits f y q
+
+-- ---- a fraction that a value of the format has rounds to that value, with the sign kept
+pub round-own : (f : Format) (x : Float) → T (finite x) → T (fits f x) → round f (sign x) (num x) (den x) ≡ x
+round-own f nan p t = absurd p
+round-own f (inf s) p t = absurd p
+round-own f (fin s m e) p t =
+    value-unique f (round f s (m * up e) (down e)) (fin s m e) s (m * up e) (down e) (down-pos e) (round-fits f s (m * up e) (down e)) t
+    (round-rep f s (m * up e) (down e) (down-pos e) (fits-rep f (fin s m e) tt t)) (refl, refl)
+
+pub rounds-to : (f : Format) (x : Float) (a c : ℕ) → T (finite x) → T (fits f x) → 0 < c → a * den x ≡ num x * c → round f (sign x) a c ≡ x
+rounds-to f x a c p t C h = round-same f (sign x) a c (num x) (den x) C (den-pos x) h ∙ round-own f x p t
+
+pub rounds-own : (f : Format) (x : Float) → T (finite x) → T (fits f x) → Rounds f x (top x) (bot x) (den x)
+rounds-own f nan p t = absurd p
+rounds-own f (inf s) p t = absurd p
+rounds-own f (fin false m e) p t = over (m * up e) (omega arith) (sym (round-own f (fin false m e) p t))
+rounds-own f (fin true m e) p t = under (m * up e) (omega arith) (sym (round-own f (fin true m e) p t))
+
+-- ---- a value that is no zero is known by its fraction alone, and a zero by its sign
+same-own : (f : Format) (x y : Float) → T (fits f x) → T (fits f y) → 0 < num y → Is x (top y) (bot y) (den y) → x ≡ y
+same-own f nan y p q N h = absurd (h .0)
+same-own f (inf s) y p q N h = absurd (h .0)
+same-own f (fin s m e) nan p q N h = let none : ⊥ = omega arith in absurd none
+same-own f (fin s m e) (inf t) p q N h = let none : ⊥ = omega arith in absurd none
+same-own f (fin false m e) (fin false n d) p q N h =
+    value-unique f (fin false m e) (fin false n d) false (n * up d) (down d) (down-pos d) p q (refl, omega (arith, h .1)) (refl, refl)
+same-own f (fin false m e) (fin true n d) p q N h = let none : ⊥ = omega (arith, mul-pos N (down-pos e), h .1) in absurd none
+same-own f (fin true m e) (fin false n d) p q N h = let none : ⊥ = omega (arith, mul-pos N (down-pos e), h .1) in absurd none
+same-own f (fin true m e) (fin true n d) p q N h =
+    value-unique f (fin true m e) (fin true n d) true (n * up d) (down d) (down-pos d) p q (refl, omega (arith, h .1)) (refl, refl)
+
+pub is-unique : (f : Format) (x y : Float) (p n c : ℕ) → 0 < c → T (fits f x) → T (fits f y) → 0 < num y → Is x p n c → Is y p n c → x ≡ y
+is-unique f x y p n c C t u N h k = same-own f x y t u N (is-same x p n c (top y) (bot y) (den y) C h (sym (k .1)))
+
+pub nought-fits : (f : Format) (s : Bool) → T (fits f (nought s))
+unfolding fits
+nought-fits f s = tt
+
+pub nought-unique : (f : Format) (x : Float) → T (fits f x) → Is x 0 0 1 → x ≡ nought (sign x)
+nought-unique f x t h =
+    value-unique f x (nought (sign x)) (sign x) 0 1 (lit< tt) t (nought-fits f (sign x)) (value-is x 0 0 1 0 h (inl refl)) (refl, refl)

@@ -1,0 +1,281 @@
+-- A finite float is the signed fraction (top - bot) / den, where top or bot is 0; its size is num / den. `Is x p n c` says that x is finite and
+-- equals (p - n) / c, whichever sign a zero has. The order of finite floats is the order of their fractions.
+use mathlib.Core.Path.{_≡_, refl, sym, ap, _∙_, subst}
+use mathlib.Core.Logic.{_⊎_, inl, inr}
+use Prim.Native.Nat.{ℕ, _+_, _*_, _≤_, _<_, zero-le}
+use native.Mathlib.Nat.{zero-add, mul-pos, mul-lt-mul-of-pos-right, eq-of-mul-eq-mul-right}
+use native.Mathlib.Nat.{mul-le-mul-right, le-of-eq, le-of-lt, eq-or-lt-of-le, lt-of-not-le, le-of-suc-le-suc}
+use native.Mathlib.Omega.{arith}
+use mathlib.Core.Bool.{Bool, true, false, not, _&&_, _||_, true≢false}
+use lib.IntN.{pos}
+use lib.Dec.{T, ltb, eqb, eqb→eq, ltb→lt, lt→ltb, T-not}
+use lib.Ieee.{Float, nan, inf, fin, up, down, neg, le, lt}
+use lib.Ieee.Fits.{down-pos, and-l, and-r, and-i, eq→eqb}
+use lib.Ieee.Exact.{HasValue}
+use lib.Ieee.Scale.{finite}
+use lib.Ieee.Positive.{num, den, den-pos, first-pos}
+use Rattle.floats.specs.Signed.{Le, Lt, Equal, le-through}
+
+abbrev pub top : Float → ℕ
+top nan = 0
+top (inf s) = 0
+top (fin false m e) = m * up e
+top (fin true m e) = 0
+
+abbrev pub bot : Float → ℕ
+bot nan = 0
+bot (inf s) = 0
+bot (fin false m e) = 0
+bot (fin true m e) = m * up e
+
+-- x is (p - n) / c
+abbrev pub Is : Float → ℕ → ℕ → ℕ → Type 0
+Is x p n c = T (finite x) × Equal (top x) (bot x) (den x) p n c
+
+pub own : (x : Float) → T (finite x) → Is x (top x) (bot x) (den x)
+own x f = (f, refl)
+
+-- another fraction of the same value
+pub is-same : (x : Float) (p n c q m d : ℕ) → 0 < c → Is x p n c → Equal p n c q m d → Is x q m d
+is-same x p n c q m d C h e = (
+  h .0,
+  eq-of-mul-eq-mul-right c C (top x * d + m * den x) (q * den x + bot x * d)
+      (omega (arith, ap (λ (z : ℕ). z * d) (h .1), ap (λ (z : ℕ). z * den x) e)),
+)
+
+pub is-neg : (x : Float) (p n c : ℕ) → Is x p n c → Is (neg x) n p c
+unfolding neg
+is-neg nan p n c h = absurd (h .0)
+is-neg (inf s) p n c h = absurd (h .0)
+is-neg (fin false m e) p n c h = (tt, omega (arith, h .1))
+is-neg (fin true m e) p n c h = (tt, omega (arith, h .1))
+
+-- ---- size
+-- |p - n| = a
+abbrev pub Apart : ℕ → ℕ → ℕ → Type 0
+Apart p n a = (p ≡ n + a) ⊎ (n ≡ p + a)
+
+-- the size of (p - n) / c is |p - n| / c
+pub size-is : (x : Float) (p n c a : ℕ) → Is x p n c → Apart p n a → num x * c ≡ a * den x
+size-is nan p n c a h e = absurd (h .0)
+size-is (inf s) p n c a h e = absurd (h .0)
+size-is (fin false m k) p n c a h (inl e) = omega (arith, h .1, ap (λ (z : ℕ). z * down k) e)
+size-is (fin false m k) p n c a h (inr e) = omega (arith, h .1, ap (λ (z : ℕ). z * down k) e)
+size-is (fin true m k) p n c a h (inl e) = omega (arith, h .1, ap (λ (z : ℕ). z * down k) e)
+size-is (fin true m k) p n c a h (inr e) = omega (arith, h .1, ap (λ (z : ℕ). z * down k) e)
+
+-- 0 < num x says that x is finite and no zero
+pub nonzero-finite : (x : Float) → 0 < num x → T (finite x)
+nonzero-finite nan h = let none : ⊥ = omega arith in none
+nonzero-finite (inf s) h = let none : ⊥ = omega arith in none
+nonzero-finite (fin s m e) h = tt
+
+pub nonzero-is : (x : Float) (p n c a : ℕ) → Is x p n c → Apart p n a → 0 < a → 0 < num x
+nonzero-is x p n c a h e A = first-pos (num x) c (rw (size-is x p n c a h e) (mul-pos A (den-pos x)))
+
+pub num-neg : (x : Float) → num (neg x) ≡ num x
+unfolding neg
+num-neg nan = refl
+num-neg (inf s) = refl
+num-neg (fin s m e) = refl
+
+-- ---- sign
+-- the sign bit, which a NaN has not
+abbrev pub sign : Float → Bool
+sign nan = false
+sign (inf s) = s
+sign (fin s m e) = s
+
+-- no NaN, and no sign bit
+abbrev pub unsigned : Float → Bool
+unsigned nan = false
+unsigned (inf s) = not s
+unsigned (fin s m e) = not s
+
+-- the zero with the sign s
+abbrev pub nought : Bool → Float
+nought s = fin s 0 (pos 0)
+
+-- the absolute value: the number without its sign, +0 for −0
+unfoldable pub absolute : Float → Float
+absolute nan = nan
+absolute (inf s) = inf false
+absolute (fin s m e) = fin false m e
+
+pub nought-is : (s : Bool) → Is (nought s) 0 0 1
+nought-is true = (tt, refl)
+nought-is false = (tt, refl)
+
+pub unsigned-sign : (x : Float) → T (unsigned x) → sign x ≡ false
+unsigned-sign nan u = absurd u
+unsigned-sign (inf true) u = absurd u
+unsigned-sign (inf false) u = refl
+unsigned-sign (fin true m e) u = absurd u
+unsigned-sign (fin false m e) u = refl
+
+-- what is above zero has no sign bit
+pub sign-is : (x : Float) (p n c : ℕ) → Is x p n c → n < p → sign x ≡ false
+sign-is nan p n c h l = refl
+sign-is (inf s) p n c h l = absurd (h .0)
+sign-is (fin false m e) p n c h l = refl
+sign-is (fin true m e) p n c h l = let none : ⊥ = omega (arith, h .1, mul-lt-mul-of-pos-right l (down-pos e)) in absurd none
+
+pub sign-neg : (x : Float) → T (finite x) → sign (neg x) ≡ not (sign x)
+unfolding neg
+sign-neg nan p = absurd p
+sign-neg (inf s) p = absurd p
+sign-neg (fin s m e) p = refl
+
+-- ---- the library's `HasValue x s a c`: x is finite, has the sign s, and is a / c in size
+pub is-of-pos : (x : Float) (a c : ℕ) → HasValue x false a c → Is x a 0 c
+is-of-pos nan a c h = absurd h
+is-of-pos (inf s) a c h = absurd h
+is-of-pos (fin true m e) a c h = absurd (true≢false (h .0))
+is-of-pos (fin false m e) a c h = (tt, omega (arith, h .1))
+
+pub is-of-neg : (x : Float) (a c : ℕ) → HasValue x true a c → Is x 0 a c
+is-of-neg nan a c h = absurd h
+is-of-neg (inf s) a c h = absurd h
+is-of-neg (fin false m e) a c h = absurd (true≢false (sym (h .0)))
+is-of-neg (fin true m e) a c h = (tt, omega (arith, h .1))
+
+pub value-is : (x : Float) (p n c a : ℕ) → Is x p n c → Apart p n a → HasValue x (sign x) a c
+value-is nan p n c a h e = absurd (h .0)
+value-is (inf s) p n c a h e = absurd (h .0)
+value-is (fin s m k) p n c a h e = (refl, size-is (fin s m k) p n c a h e)
+
+pub unsigned-value : (x : Float) (a c : ℕ) → T (unsigned x) → Is x a 0 c → HasValue x false a c
+unsigned-value x a c u h = subst (λ (s : Bool). HasValue x s a c) (unsigned-sign x u) (value-is x a 0 c a h (inl (sym (zero-add a))))
+
+-- ---- the order: `le` asks whether one size is less than the other, or else whether they are equal
+less-or-equal : (a b : ℕ) (e : Bool) → (a ≡ b → T e) → a ≤ b → T (ltb a b || e)
+less-or-equal a b e k h = elim (eq-or-lt-of-le h) [ inl p ↦ right (ltb a b) (k p) | inr l ↦ left (ltb a b) (lt→ltb a b l) ]
+  where
+    left : (t : Bool) → T t → T (t || e)
+    left true i = tt
+    left false i = absurd i
+
+    right : (t : Bool) → T e → T (t || e)
+    right true i = tt
+    right false i = i
+
+of-less-or-equal : (a b : ℕ) (e : Bool) → (T e → a ≡ b) → T (ltb a b || e) → a ≤ b
+of-less-or-equal a b e k h = go (ltb a b) (ltb→lt a b) h
+  where
+    go : (t : Bool) → (T t → a < b) → T (t || e) → a ≤ b
+    go true l i = le-of-lt (l tt)
+    go false l i = le-of-eq (k i)
+
+equal : (a b : ℕ) → a ≡ b → T (eqb a b && true)
+equal a b e = and-i (eqb a b) true (eq→eqb e) tt
+
+of-equal : (a b : ℕ) → T (eqb a b && true) → a ≡ b
+of-equal a b t = eqb→eq a b (and-l (eqb a b) true t)
+
+both-zero : (a b : ℕ) → a ≡ 0 → b ≡ 0 → T (eqb a b && eqb a 0)
+both-zero a b z w = and-i (eqb a b) (eqb a 0) (eq→eqb (z ∙ sym w)) (eq→eqb z)
+
+pub le-of : (x y : Float) → T (finite x) → T (finite y) → Le (top x) (bot x) (den x) (top y) (bot y) (den y) → T (le x y)
+unfolding le
+le-of nan y p q h = absurd p
+le-of (inf s) y p q h = absurd p
+le-of (fin false m e) nan p q h = absurd q
+le-of (fin false m e) (inf t) p q h = absurd q
+le-of (fin false m e) (fin false n d) p q h =
+    let a = m * up e * down d in
+    let b = n * up d * down e in
+    less-or-equal a b (eqb a b && true) (equal a b) (omega arith)
+le-of (fin false m e) (fin true n d) p q h = both-zero (m * up e * down d) (n * up d * down e) (omega arith) (omega arith)
+le-of (fin true m e) nan p q h = absurd q
+le-of (fin true m e) (inf t) p q h = absurd q
+le-of (fin true m e) (fin false n d) p q h =
+    let a = m * up e * down d in
+    let b = n * up d * down e in
+    less-or-equal 0 (a + b) (eqb a b && eqb a 0) (λ (z : 0 ≡ a + b). both-zero a b (omega arith) (omega arith)) zero-le
+le-of (fin true m e) (fin true n d) p q h =
+    let a = m * up e * down d in
+    let b = n * up d * down e in
+    less-or-equal b a (eqb a b && true) (λ (z : b ≡ a). equal a b (sym z)) (omega arith)
+
+pub of-le : (x y : Float) → T (finite x) → T (finite y) → T (le x y) → Le (top x) (bot x) (den x) (top y) (bot y) (den y)
+unfolding le
+of-le nan y p q h = absurd p
+of-le (inf s) y p q h = absurd p
+of-le (fin false m e) nan p q h = absurd q
+of-le (fin false m e) (inf t) p q h = absurd q
+of-le (fin false m e) (fin false n d) p q h =
+    let a = m * up e * down d in
+    let b = n * up d * down e in
+    omega (arith, of-less-or-equal a b (eqb a b && true) (of-equal a b) h)
+of-le (fin false m e) (fin true n d) p q h =
+    let a = m * up e * down d in
+    let b = n * up d * down e in
+    omega (arith, eqb→eq a b (and-l (eqb a b) (eqb a 0) h), eqb→eq a 0 (and-r (eqb a b) (eqb a 0) h))
+of-le (fin true m e) nan p q h = absurd q
+of-le (fin true m e) (inf t) p q h = absurd q
+of-le (fin true m e) (fin false n d) p q h = omega arith
+of-le (fin true m e) (fin true n d) p q h =
+    let a = m * up e * down d in
+    let b = n * up d * down e in
+    omega (arith, of-less-or-equal b a (eqb a b && true) (λ (t : T (eqb a b && true)). sym (of-equal a b t)) h)
+
+-- ---- the order by any fractions that the two equal
+pub is→le : (x : Float) (p n c : ℕ) → Is x p n c → Le (top x) (bot x) (den x) p n c
+is→le x p n c h = omega (arith, h .1)
+
+pub is→ge : (x : Float) (p n c : ℕ) → Is x p n c → Le p n c (top x) (bot x) (den x)
+is→ge x p n c h = omega (arith, h .1)
+
+pub le-of-is : (x y : Float) (p n c q m d : ℕ) → 0 < c → 0 < d → Is x p n c → Is y q m d → Le p n c q m d → T (le x y)
+le-of-is x y p n c q m d C D h k l =
+    le-of x y (h .0) (k .0)
+    (le-through (top x) (bot x) (den x) p n c (top y) (bot y) (den y) C (is→le x p n c h)
+    (le-through p n c q m d (top y) (bot y) (den y) D l (is→ge y q m d k)))
+
+pub is-of-le : (x y : Float) (p n c q m d : ℕ) → Is x p n c → Is y q m d → T (le x y) → Le p n c q m d
+is-of-le x y p n c q m d h k l =
+    le-through p n c (top x) (bot x) (den x) q m d (den-pos x) (is→ge x p n c h)
+    (le-through (top x) (bot x) (den x) (top y) (bot y) (den y) q m d (den-pos y) (of-le x y (h .0) (k .0) l) (is→le y q m d k))
+
+-- ---- the strict order, and a test that failed
+pub lt-of : (x y : Float) → T (finite x) → T (finite y) → Lt (top x) (bot x) (den x) (top y) (bot y) (den y) → T (lt x y)
+unfolding lt
+lt-of nan y p q h = absurd p
+lt-of (inf s) y p q h = absurd p
+lt-of (fin false m e) nan p q h = absurd q
+lt-of (fin false m e) (inf t) p q h = absurd q
+lt-of (fin false m e) (fin false n d) p q h = omega (arith, lt→ltb)
+lt-of (fin false m e) (fin true n d) p q h = let none : ⊥ = omega arith in none
+lt-of (fin true m e) nan p q h = absurd q
+lt-of (fin true m e) (inf t) p q h = absurd q
+lt-of (fin true m e) (fin false n d) p q h = omega (arith, lt→ltb)
+lt-of (fin true m e) (fin true n d) p q h = omega (arith, lt→ltb)
+
+pub of-lt : (x y : Float) → T (finite x) → T (finite y) → T (lt x y) → Lt (top x) (bot x) (den x) (top y) (bot y) (den y)
+unfolding lt
+of-lt nan y p q h = absurd p
+of-lt (inf s) y p q h = absurd p
+of-lt (fin false m e) nan p q h = absurd q
+of-lt (fin false m e) (inf t) p q h = absurd q
+of-lt (fin false m e) (fin false n d) p q h = omega (arith, ltb→lt)
+of-lt (fin false m e) (fin true n d) p q h = absurd h
+of-lt (fin true m e) nan p q h = absurd q
+of-lt (fin true m e) (inf t) p q h = absurd q
+of-lt (fin true m e) (fin false n d) p q h = omega (arith, ltb→lt)
+of-lt (fin true m e) (fin true n d) p q h = omega (arith, ltb→lt)
+
+pub lt-of-nle : (x y : Float) → T (finite x) → T (finite y) → T (not (le x y)) → Lt (top y) (bot y) (den y) (top x) (bot x) (den x)
+lt-of-nle x y p q h =
+    omega (arith, lt-of-not-le (λ (l : Le (top x) (bot x) (den x) (top y) (bot y) (den y)). T-not (le x y) h (le-of x y p q l)))
+
+pub le-of-nlt : (x y : Float) → T (finite x) → T (finite y) → T (not (lt x y)) → T (le y x)
+le-of-nlt x y p q h =
+    le-of y x q p
+    (le-of-suc-le-suc (lt-of-not-le (λ (l : Lt (top x) (bot x) (den x) (top y) (bot y) (den y)). T-not (lt x y) h (lt-of x y p q l))))
+
+-- a float that is at least 0 as a fraction without a sign
+pub not-below : (v : Float) → T (finite v) → bot v ≤ top v → Is v (top v) 0 (den v)
+not-below nan f h = absurd f
+not-below (inf s) f h = absurd f
+not-below (fin false m e) f h = (tt, refl)
+not-below (fin true m e) f h = (tt, omega (arith, mul-le-mul-right (down e) h))

@@ -1,0 +1,1 @@
+// The laws of single precision stand in specs/: no code.
