@@ -1,0 +1,3 @@
+-- The laws that the proofs of `root` share.
+pub mod Units
+pub mod Patterns

@@ -1,0 +1,66 @@
+-- The small rules on single floats where a slip would show, computed: halves, the float just below one, both zeros, NaN, and the lowest slope.
+use mathlib.Core.Path.{_≡_, refl}
+use lib.IntN.{negsuc}
+use lib.Ieee.{Float, nan, binary32, lt, add, div, ofInt, ofBits}
+use Rattle.floats.specs.Notation.{_⊕_, _⊘_}
+use Rattle.floats.specs.Value.{Is, absolute}
+use Rattle.single.specs.Constants.{𝟎, ½, 𝟏, 𝟐𝟓𝟔}
+use Rattle.single.specs.Rules.{clamped, byteOf}
+
+abbrev pub −𝟎 : Float
+−𝟎 = ofBits binary32 0x8000_0000
+
+-- ---- to a byte
+-- the largest float below a half
+abbrev pub below-half : Float
+below-half = ofBits binary32 0x3eff_ffff
+
+pub below-half-byte : byteOf below-half ≡ 0
+unfolding byteOf ofBits
+below-half-byte = refl
+
+-- "Adding 0.5 and cutting turns the float just below 0.5 into 1": the sum is rounded, up to 1.
+pub below-half-added : below-half ⊕ ½ ≡ 𝟏
+unfolding add ofBits
+below-half-added = refl
+
+pub half-byte : byteOf ½ ≡ 1
+unfolding byteOf ofBits
+half-byte = refl
+
+abbrev pub last-half : Float
+last-half = ofBits binary32 0x437e_8000
+
+pub last-half-is : Is last-half 509 0 2
+unfolding ofBits
+last-half-is = (tt, refl)
+
+pub last-half-byte : byteOf last-half ≡ 255
+unfolding byteOf ofBits
+last-half-byte = refl
+
+pub minus-zero-byte : byteOf −𝟎 ≡ 0
+unfolding byteOf ofBits
+minus-zero-byte = refl
+
+pub nan-byte : byteOf nan ≡ 0
+unfolding byteOf
+nan-byte = refl
+
+-- ---- clamp and absolute value
+pub clamped-nan : clamped nan ≡ nan
+unfolding clamped lt ofBits
+clamped-nan = refl
+
+pub clamped-minus-zero : clamped −𝟎 ≡ −𝟎
+unfolding clamped lt ofBits
+clamped-minus-zero = refl
+
+pub absolute-minus-zero : absolute −𝟎 ≡ 𝟎
+unfolding absolute ofBits
+absolute-minus-zero = refl
+
+-- ---- P8: slope −32,768 is −128.0. In ℤ the number −(n + 1) is negsuc n.
+pub lowest-slope : ofInt binary32 (negsuc 32767) ⊘ 𝟐𝟓𝟔 ≡ ofInt binary32 (negsuc 127)
+unfolding div ofInt ofBits
+lowest-slope = refl

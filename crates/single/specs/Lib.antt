@@ -1,0 +1,9 @@
+pub mod Constants
+pub mod Rules
+pub mod RuleLaws
+pub mod ByteLaws
+pub mod Root
+pub mod NearestRoot
+pub mod RootUnits
+pub mod RootLaws
+pub mod Examples

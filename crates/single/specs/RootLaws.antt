@@ -1,0 +1,135 @@
+-- What the square root of a float is: the root of a positive float by squares, its sign, special values, and examples by computation, P9 among them.
+use mathlib.Core.Path.{_≡_, refl, sym, ap, _∙_, subst}
+use mathlib.Core.Bool.{Bool, true, false, cond}
+use Prim.Native.Nat.{ℕ, zero, suc, _+_, _-_, _*_, _/_, _^_, _≤_, _<_}
+use native.Mathlib.Nat.{le-trans, le-of-eq, le-of-lt, lt-of-le-of-lt, lt-of-lt-of-le, lt-of-not-le, mul-le-mul-right, one-mul, mul-assoc}
+use native.Mathlib.Nat.{not-le-of-lt, le-of-suc-le-suc, mul-one, mul-div-cancel, mul-lt-mul-of-pos-right, mul-right-comm, zero-lt-suc}
+use native.Mathlib.Omega.{arith}
+use lib.IntN.{ℤ, pos, negsuc}
+use lib.Dec.{T, ltb, lit<, lit≤}
+use lib.Pow.{pow-pos, pow-add, pow-mono}
+use lib.Ieee.{Float, nan, inf, fin, binary32, up, down, odd, units, fits, toBits, ofBits}
+use lib.Ieee.Fits.{down-pos}
+use Rattle.floats.specs.Value.{sign}
+use Rattle.floats.specs.Exact.{fits-parts}
+use Rattle.single.specs.Constants.{𝟐}
+use Rattle.single.specs.Root.{nearestRoot, rootOfUnits, rootOf}
+use Rattle.single.specs.RootUnits.{dropped, part, Rooted, units-rooted}
+
+-- ---- the root of a positive float
+-- 2 ^ e in units, where it is a whole number of them
+in-units : (e : ℤ) → down e ≤ 2 ^ 149 → (i : ℕ) × (up e * 2 ^ 149 ≡ 2 ^ i * down e)
+in-units (pos j) h = (j + 149, sym (pow-add 2 j 149) ∙ sym (mul-one (2 ^ (j + 149))))
+in-units (negsuc j) h = (149 - suc j, one-mul (2 ^ 149) ∙ sym (part 149 (suc j) (le-of-suc-le-suc (lt-of-not-le more))))
+  where
+    more : 150 ≤ suc j → ⊥
+    more g = not-le-of-lt (lit< {m = 2 ^ 149} {n = 2 ^ 150} tt) (le-trans (pow-mono g) h)
+
+module _ (m : ℕ) (e : ℤ) (f : T (fits binary32 (fin false (suc m) e))) where
+  what-fits : (suc m < 2 ^ 24) × (down e ≤ 2 ^ 149) × (suc m * up e < 2 ^ 128 * down e)
+  what-fits = fits-parts binary32 false m e f
+
+  abbrev i : ℕ
+  i = in-units e (what-fits .1) .0
+
+  exact : suc m * up e * 2 ^ 149 ≡ suc m * 2 ^ i * down e
+  exact =
+      mul-assoc (suc m) (up e) (2 ^ 149)
+      ∙ ap (λ (x : ℕ). suc m * x) (in-units e (what-fits .1) .1)
+      ∙ sym (mul-assoc (suc m) (2 ^ i) (down e))
+
+  units-are : suc m * up e * 2 ^ 149 / down e ≡ suc m * 2 ^ i
+  units-are = ap (λ (x : ℕ). x / down e) exact ∙ mul-div-cancel (suc m * 2 ^ i) (down-pos e)
+
+  -- what fits is a whole number of units: nothing is lost where `rootOf` divides
+  pub whole-units : suc m * up e * 2 ^ 149 / down e * down e ≡ suc m * up e * 2 ^ 149
+  whole-units = ap (λ (x : ℕ). x * down e) units-are ∙ sym exact
+
+  below : suc m * 2 ^ i < 2 ^ 277
+  below = lt-of-not-le (λ (g : 2 ^ 277 ≤ suc m * 2 ^ i). not-le-of-lt small (mul-le-mul-right (down e) g))
+    where
+      small : suc m * 2 ^ i * down e < 2 ^ 277 * down e
+      small =
+          lt-of-le-of-lt (le-of-eq (sym exact))
+          (lt-of-lt-of-le (mul-lt-mul-of-pos-right (what-fits .2) (pow-pos 149)) (le-of-eq (mul-right-comm (2 ^ 128) (down e) (2 ^ 149))))
+
+  -- The root of a positive float x is p * 2 ^ k units, correctly rounded: p has 24 digits, and `NearestRoot n k p`, n being x's units times 2 ^ 149.
+  pub root-is : Rooted (suc m * up e * 2 ^ 149 / down e * 2 ^ 149) (rootOf (fin false (suc m) e))
+  unfolding rootOf
+  root-is =
+      subst (λ (n : ℕ). Rooted n (rootOfUnits n)) (sym (ap (λ (x : ℕ). x * 2 ^ 149) units-are ∙ joined))
+      (units-rooted (suc m) (i + 149) (zero-lt-suc m) (what-fits .0) (omega arith) 213 most (lit≤ tt))
+    where
+      joined : suc m * 2 ^ i * 2 ^ 149 ≡ suc m * 2 ^ (i + 149)
+      joined = mul-assoc (suc m) (2 ^ i) (2 ^ 149) ∙ ap (λ (x : ℕ). suc m * x) (sym (pow-add 2 i 149))
+
+      most : suc m * 2 ^ (i + 149) ≤ 2 ^ 213 * 2 ^ 213
+      most = le-trans (le-of-eq (sym joined)) (mul-le-mul-right (2 ^ 149) (le-of-lt below))
+
+-- ---- its sign
+odd-unsigned : (d q k l : ℕ) → T (sign (odd d false q k l)) → ⊥
+unfolding odd
+odd-unsigned d zero k l t = t
+odd-unsigned d (suc q) k l t = t
+
+units-unsigned : (q k : ℕ) → T (sign (units binary32 false q k)) → ⊥
+unfolding units
+units-unsigned q k = go (ltb (q * 2 ^ k) (2 ^ 277))
+  where
+    go : (b : Bool) → T (sign (cond b (odd 25 false q k 149) (inf false))) → ⊥
+    go true t = odd-unsigned 25 q k 149 t
+    go false t = t
+
+-- no root is negative but -0, which is the root of -0
+pub root-signed : (x : Float) → T (sign (rootOf x)) → (e : ℤ) × (x ≡ fin true 0 e)
+unfolding rootOf rootOfUnits
+root-signed nan t = absurd t
+root-signed (inf true) t = absurd t
+root-signed (inf false) t = absurd t
+root-signed (fin true zero e) t = (e, refl)
+root-signed (fin false zero e) t = absurd t
+root-signed (fin true (suc m) e) t = absurd t
+root-signed (fin false (suc m) e) t =
+    let n = suc m * up e * 2 ^ 149 / down e * 2 ^ 149 in
+    absurd (units-unsigned (nearestRoot n (dropped n)) (dropped n) t)
+
+-- ---- special values
+pub root-of-nan : rootOf nan ≡ nan
+unfolding rootOf
+root-of-nan = refl
+
+pub root-of-infinity : rootOf (inf false) ≡ inf false
+unfolding rootOf
+root-of-infinity = refl
+
+pub root-of-minus-infinity : rootOf (inf true) ≡ nan
+unfolding rootOf
+root-of-minus-infinity = refl
+
+-- a zero keeps its sign
+pub root-of-zero : (s : Bool) (e : ℤ) → rootOf (fin s 0 e) ≡ fin s 0 e
+unfolding rootOf
+root-of-zero s e = refl
+
+pub root-of-negative : (m : ℕ) (e : ℤ) → rootOf (fin true (suc m) e) ≡ nan
+unfolding rootOf
+root-of-negative m e = refl
+
+-- ---- by computation
+-- P9: the root of 2.0 has the bits 0x3FB504F3
+pub root-of-two : toBits binary32 (rootOf 𝟐) ≡ 0x3fb5_04f3
+unfolding rootOf ofBits toBits
+root-of-two = refl
+
+pub root-of-four : rootOf (ofBits binary32 0x4080_0000) ≡ 𝟐
+unfolding rootOf ofBits
+root-of-four = refl
+
+-- the smallest positive float, a unit, and the largest
+pub root-of-unit : toBits binary32 (rootOf (ofBits binary32 1)) ≡ 0x1a35_04f3
+unfolding rootOf ofBits toBits
+root-of-unit = refl
+
+pub root-of-largest : toBits binary32 (rootOf (ofBits binary32 0x7f7f_ffff)) ≡ 0x5f7f_ffff
+unfolding rootOf ofBits toBits
+root-of-largest = refl
