@@ -1,0 +1,76 @@
+-- The knots of a list, and its exact broken line, as document 01's section "Points" has them. Definitions only.
+use Prim.Native.Nat.{ℕ, suc, _+_, _-_, _*_, _≤_, _<_}
+use mathlib.Core.Path.{_≡_}
+use mathlib.Core.Bool.{cond}
+use mathlib.Core.List.{List, [], _∷_}
+use lib.Dec.{eqb}
+use lib.ListN.{length, getD, replicate}
+use lib.Ieee.{Float, nan}
+use Rattle.lists.specs.Tabulate.{filled}
+use Rattle.single.specs.Constants.{𝟎}
+use Rattle.single.specs.Rules.{float}
+use Rattle.points.specs.declared.Point.{Point}
+use Rattle.points.specs.declared.Knot.{Knot}
+use Rattle.points.specs.declared.Knots.{Knots}
+use Rattle.points.specs.Points.{pt, nth}
+
+-- ---- the knots
+-- what stands behind p, followed by the points of l: these, and if the last does not stand at 255, one at 255 with the last y
+unfoldable pub rest : Point → List Point → List Point
+rest p [] = cond (eqb (p .x) 255) [] (pt 255 (p .y) ∷ [])
+rest p (q ∷ l) = q ∷ rest q l
+
+-- "Knots": in front, if none stands at 0, one at 0 with the first y; an empty list gives (0,0),(255,0)
+unfoldable pub knots : List Point → List Point
+unfolding rest
+knots [] = pt 0 0 ∷ pt 255 0 ∷ []
+knots (p ∷ l) = cond (eqb (p .x) 0) (p ∷ rest p l) (pt 0 (p .y) ∷ p ∷ rest p l)
+
+-- x and y of knot i
+abbrev pub xOf : List Point → ℕ → ℕ
+xOf ks i = nth ks i .x
+
+abbrev pub yOf : List Point → ℕ → ℕ
+yOf ks i = nth ks i .y
+
+-- ---- as floats
+-- a height as a float, in this one place
+abbrev pub heightOf : ℕ → Float
+heightOf y = float y
+
+-- in rows of 66 with zeros behind
+unfoldable pub xAt : List Point → ℕ → Float
+xAt ks i = float (xOf ks i)
+
+unfoldable pub yAt : List Point → ℕ → Float
+yAt ks i = heightOf (yOf ks i)
+
+unfoldable pub xRow : List Point → List Float
+unfolding xAt filled
+xRow ks = filled (length ks) (xAt ks) (replicate 66 𝟎)
+
+unfoldable pub yRow : List Point → List Float
+unfolding yAt filled
+yRow ks = filled (length ks) (yAt ks) (replicate 66 𝟎)
+
+-- knot i of two rows
+abbrev pub knotAt : List Float → List Float → ℕ → Knot
+knotAt xs ys i = record { x = getD xs i nan; y = getD ys i nan }
+
+-- r holds the knots ks
+pub record KnotsOf (ks : List Point) (r : Knots) : Type 0 where
+  pub xs : r .xs ≡ xRow ks
+  pub ys : r .ys ≡ yRow ks
+  pub count : r .count ≡ length ks
+
+-- ---- "the exact broken line" of l at v is n / d
+pub record OnLine (l : List Point) (v n d : ℕ) : Type 0 where
+  -- neighbouring knots i and i + 1 ..
+  pub i : ℕ
+  pub inside : suc i < length (knots l)
+  -- .. with v between their x, ends included
+  pub left : xOf (knots l) i ≤ v
+  pub right : v ≤ xOf (knots l) (suc i)
+  pub width : d ≡ xOf (knots l) (suc i) - xOf (knots l) i
+  -- n = y0 * d + (y1 - y0) * (v - x0)
+  pub height : n + yOf (knots l) i * (v - xOf (knots l) i) ≡ yOf (knots l) i * d + yOf (knots l) (suc i) * (v - xOf (knots l) i)

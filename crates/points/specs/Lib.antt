@@ -1,0 +1,10 @@
+pub mod Points
+pub mod Knots
+pub mod Steps
+pub mod Order
+pub mod Kept
+pub mod Shape
+pub mod Rows
+pub mod Line
+pub mod Owned
+pub mod Examples

@@ -1,0 +1,115 @@
+-- The exact broken line of a kept list: it is there at every byte, has one value there, also where two pieces meet,
+-- and at a knot's x it is the knot's y.
+use mathlib.Core.Path.{_≡_, refl, sym, ap, _∙_}
+use mathlib.Core.List.{List, List·Memᴰ}
+use Prim.Native.Nat.{ℕ, zero, suc, _+_, _-_, _*_, _≤_, _<_}
+use native.Mathlib.Nat.{le-refl, mul-right-comm}
+use native.Mathlib.Decide.{ℕ-discrete, decLe, decLt}
+use native.Mathlib.Omega.{arith}
+use lib.ListN.{length}
+use Rattle.points.specs.declared.Point.{Point}
+use Rattle.points.specs.Points.{nth}
+use Rattle.points.specs.Knots.{knots, xOf, yOf, OnLine}
+use Rattle.points.specs.Order.{IsKept, mem-at, rising-to}
+use Rattle.points.specs.Shape.{Shape, knots-shape, knots-mem}
+
+-- some neighbours among f 0, .., f (n + 1) have v between them
+between : (f : ℕ → ℕ) (v n : ℕ) → f 0 ≤ v → v ≤ f (suc n) → (i : ℕ) × (i ≤ n) × (f i ≤ v) × (v ≤ f (suc i))
+between f v zero low high = (0, omega arith, low, high)
+between f v (suc n) low high = elim (decLe v (f (suc n))) [
+  | yes below ↦ let r = between f v n low below in (r .0, omega (arith, r .1), r .2, r .3)
+  | no above ↦ (suc n, le-refl (suc n), omega arith, high)
+]
+
+-- ---- a piece of width d from the height m0 to m1, and its value n / d at k from its left end
+at-left : (n m0 m1 d k : ℕ) → k ≡ 0 → n + m0 * k ≡ m0 * d + m1 * k → n ≡ m0 * d
+at-left n m0 m1 d k z e = omega (arith, rw z at e)
+
+at-right : (n m0 m1 d k : ℕ) → k ≡ d → n + m0 * k ≡ m0 * d + m1 * k → n ≡ m1 * d
+at-right n m0 m1 d k z e = omega (arith, rw z at e)
+
+inside-piece : (m0 m1 k g : ℕ) → (m0 * g + m1 * k) + m0 * k ≡ m0 * (k + g) + m1 * k
+inside-piece m0 m1 k g = omega arith
+
+same-piece : (n m d e m0 m1 k : ℕ) → d ≡ e → n + m0 * k ≡ m0 * d + m1 * k → m + m0 * k ≡ m0 * e + m1 * k → n * e ≡ m * d
+same-piece n m d e m0 m1 k w f g = let same : n ≡ m = omega (arith, rw w at f) in rw (w, same)
+
+-- ---- the line
+module _ (l : List Point) (is-kept : IsKept l) where
+  abbrev ks : List Point
+  ks = knots l
+
+  shape : Shape (knots l)
+  shape = knots-shape l is-kept
+
+  rise : (i j : ℕ) → i < j → j < length (knots l) → xOf (knots l) i < xOf (knots l) j
+  rise = rising-to (knots l) (shape .rising)
+
+  -- its width is above 0
+  pub line-width : (v n d : ℕ) → OnLine l v n d → 0 < d
+  line-width v n d o = omega (arith, rise (o .i) (suc (o .i)) (le-refl (suc (o .i))) (o .inside))
+
+  -- it is there at every byte
+  piece : (v i : ℕ) → suc i < length (knots l) → xOf (knots l) i ≤ v → v ≤ xOf (knots l) (suc i) → (n d : ℕ) × OnLine l v n d
+  piece v i h low high =
+      let parts : (v - xOf ks i) + (xOf ks (suc i) - v) ≡ xOf ks (suc i) - xOf ks i = omega arith in (
+        yOf ks i * (xOf ks (suc i) - v) + yOf ks (suc i) * (v - xOf ks i),
+        xOf ks (suc i) - xOf ks i,
+        record {
+          i = i;
+          inside = h;
+          left = low;
+          right = high;
+          width = refl;
+          height = rw parts at (inside-piece (yOf ks i) (yOf ks (suc i)) (v - xOf ks i) (xOf ks (suc i) - v));
+        },
+      )
+
+  pub on-line : (v : ℕ) → v < 256 → (n d : ℕ) × OnLine l v n d
+  on-line v h =
+      let last : suc (length ks - 2) ≡ length ks - 1 = omega (arith, shape .two) in
+      let r = between (xOf ks) v (length ks - 2) (omega (arith, shape .start)) (rw last (omega (arith, shape .end))) in
+      piece v (r .0) (omega (arith, r .1, shape .two)) (r .2) (r .3)
+
+  -- at a knot's x it is the knot's y
+  pub line-at-knot : (v n d : ℕ) → OnLine l v n d → (j : ℕ) → j < length (knots l) → xOf (knots l) j ≡ v → n ≡ yOf (knots l) j * d
+  line-at-knot v n d o j h e =
+      let i = o .i in
+      let not-before : j < i → ⊥ = λ less. omega (arith, rise j i less (omega arith)) in
+      let not-behind : suc i < j → ⊥ = λ more. omega (arith, rise (suc i) j more h) in
+      elim (ℕ-discrete j i) [
+        | yes same ↦
+            rw same (at-left n (yOf ks i) (yOf ks (suc i)) d (v - xOf ks i) (omega (arith, ap (xOf ks) same)) (o .height))
+        | no other ↦
+            let next : j ≡ suc i = omega arith in
+            rw next (at-right n (yOf ks i) (yOf ks (suc i)) d (v - xOf ks i) (omega (arith, ap (xOf ks) next)) (o .height))
+      ]
+
+  -- so it passes through the list's points
+  pub line-at-point : (p : Point) → List·Memᴰ p l → (n d : ℕ) → OnLine l (p .x) n d → n ≡ p .y * d
+  line-at-point p m n d o =
+      let r = mem-at ks p (knots-mem l p m) in
+      let k : nth ks (r .0) ≡ p = r .2 in
+      line-at-knot (p .x) n d o (r .0) (r .1) (ap (λ (q : Point). q .x) k) ∙ ap (λ (q : Point). q .y * d) k
+
+  -- two pieces meet at a knot
+  meet : (v n d m e : ℕ) (o : OnLine l v n d) (p : OnLine l v m e) → o .i < p .i → n * e ≡ m * d
+  meet v n d m e o p less =
+      let j = suc (o .i) in
+      let not-past : j < p .i → ⊥ = λ past. omega (arith, rise j (p .i) past (omega arith)) in
+      let same : p .i ≡ j = omega arith in
+      let at-v : xOf ks j ≡ v = omega (arith, ap (xOf ks) same) in
+      rw (line-at-knot v n d o j (o .inside) at-v, line-at-knot v m e p j (o .inside) at-v) (mul-right-comm (yOf ks j) d e)
+
+  -- one value
+  pub one-value : (v n d m e : ℕ) → OnLine l v n d → OnLine l v m e → n * e ≡ m * d
+  one-value v n d m e o p = elim (decLt (o .i) (p .i)) [
+    | yes less ↦ meet v n d m e o p less
+    | no not-less ↦ elim (decLt (p .i) (o .i)) [
+      | yes more ↦ sym (meet v m e n d p o more)
+      | no not-more ↦
+          let same : p .i ≡ o .i = omega arith in
+          same-piece n m d e (yOf ks (o .i)) (yOf ks (suc (o .i))) (v - xOf ks (o .i))
+          (o .width ∙ sym (rw same at (p .width))) (o .height) (rw same at (p .height))
+    ]
+  ]
