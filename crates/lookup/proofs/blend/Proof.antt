@@ -1,0 +1,47 @@
+-- `lookup::blend` meets its contract: both entries are the table's, since no index passes 4,094.
+use native.Mathlib.Omega.{arith}
+use borrow.Author.Needs.{needs}
+use Rattle.lookup.specs.Lookup.{between}
+use Rattle.lookup.specs.Laws.{entry-inside}
+use Rattle.lookup.proofs.blend.Statement.{statement}
+use Rattle.lookup.proofs.blend.Tie as tie
+
+add-next : tie.Need-add-next
+add-next c = search needs
+
+position-requires : tie.Need-position-requires
+position-requires c κs = search needs
+
+count-to-float-requires : tie.Need-count-to-float-requires
+count-to-float-requires c κs = search needs
+
+mul-result : tie.Need-mul-result
+mul-result c = search needs
+
+shared-slice-read-result : tie.Need-shared-slice-read-result
+shared-slice-read-result c = omega (arith, entry-inside (c .before .before .before .before .args .v))
+
+mul-result-2 : tie.Need-mul-result-2
+mul-result-2 c = search needs
+
+shared-slice-read-result-2 : tie.Need-shared-slice-read-result-2
+shared-slice-read-result-2 c = omega (arith, entry-inside (c .before .before .before .before .before .args .v))
+
+returns : tie.Need-returns
+unfolding between
+returns c =
+    let k = c .before .before in
+    rw (k .count-to-float .ensures, k .before .position .ensures, k .before .before .before .pre .1)
+
+pub blend-spec : {M : Type 1} → statement M
+blend-spec =
+    tie.close
+    (tie.spec
+    add-next
+    position-requires
+    count-to-float-requires
+    mul-result
+    shared-slice-read-result
+    mul-result-2
+    shared-slice-read-result-2
+    returns)
