@@ -1,0 +1,18 @@
+-- `tangents::by_box`: both tangents are capped.
+use borrow.Author.Needs.{needs}
+use Rattle.hermite.specs.Monotone.{boxed}
+use Rattle.hermite.proofs.tangents.by_box.Statement.{statement}
+use Rattle.hermite.proofs.tangents.by_box.Tie as tie
+
+capped-requires : tie.Need-capped-requires
+capped-requires c κs = search needs
+
+capped-requires-2 : tie.Need-capped-requires-2
+capped-requires-2 c κs = search needs
+
+returns : tie.Need-returns
+unfolding boxed
+returns c = rw (c .before .capped .ensures, c .capped2 .ensures)
+
+pub by-box-spec : {M : Type 1} → statement M
+by-box-spec = tie.close (tie.spec capped-requires capped-requires-2 returns)

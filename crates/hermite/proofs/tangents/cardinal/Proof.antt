@@ -1,0 +1,50 @@
+-- `tangents::cardinal`: the loop stores the rule's element at each place.
+use Prim.Native.Nat.{_≤_, _-_}
+use native.Mathlib.Omega.{arith}
+use borrow.Author.Needs.{needs}
+use Rattle.lists.specs.Stored.{Stored, stored-none, stored-next, stored-front}
+use Rattle.hermite.specs.CatmullRom.{cardinalAt}
+use Rattle.hermite.proofs.tangents.cardinal.Statement.{statement}
+use Rattle.hermite.proofs.tangents.cardinal.Tie as tie
+
+abbrev Inv-loop : tie.InvT-loop
+Inv-loop q xs ys n c tangents₀ i₀ tangents i = (i ≤ n) × Stored (cardinalAt q xs ys n) 0 i tangents₀ tangents
+
+abbrev μ-loop : tie.MeasureT-loop
+μ-loop q xs ys n c tangents₀ i₀ tangents i = n - i
+
+loop-again : tie.Need-loop-again Inv-loop μ-loop
+unfolding cardinalAt
+loop-again c =
+    let right = c .before .before in
+    let left = right .before .before in
+    let b = left .before .before in
+    let l = right .before .knot-at .ensures in
+    let r = c .before .knot-at2 .ensures in (
+      search needs,
+      stored-next (b .loop .inv .1)
+          (rw (← b .before .looseness .ensures, ← left .before2 .ensures, ← right .after .ensures, ← l, ← r) (c .loose-slope .ensures)),
+    )
+
+returns : tie.Need-returns Inv-loop μ-loop
+returns c = stored-front (c .before .loop .inv .1) (omega arith) (search needs)
+
+pub cardinal-spec : {M : Type 1} → statement M
+cardinal-spec =
+    tie.close
+    (tie.spec
+    Inv-loop
+    μ-loop
+    (λ c κs. search needs)
+    (λ c. (search needs, stored-none))
+    (λ c κs. search needs)
+    (λ c κs. search needs)
+    (λ c κs. search needs)
+    (λ c κs. search needs)
+    (λ c κs. search needs)
+    (λ c. search needs)
+    (λ c. search needs)
+    (λ c. search needs)
+    (λ c. search needs)
+    loop-again
+    returns)

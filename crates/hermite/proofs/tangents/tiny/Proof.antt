@@ -1,0 +1,13 @@
+-- `tangents::tiny`: `abs` gives the size.
+use borrow.Author.Needs.{needs}
+use Rattle.hermite.proofs.tangents.tiny.Statement.{statement}
+use Rattle.hermite.proofs.tangents.tiny.Tie as tie
+
+abs-requires : tie.Need-abs-requires
+abs-requires c κs = search needs
+
+returns : tie.Need-returns
+returns c = rw (c .abs .ensures)
+
+pub tiny-spec : {M : Type 1} → statement M
+tiny-spec = tie.close (tie.spec abs-requires returns)

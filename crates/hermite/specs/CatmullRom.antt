@@ -1,0 +1,35 @@
+-- The tangents of CatmullRom and Cardinal (Catmull and Rom, "A class of local interpolating splines", 1974), as document 01 has them. Definitions only.
+use Prim.Native.Nat.{ℕ, _+_, _-_, min}
+use mathlib.Core.List.{List}
+use lib.Ieee.{Float}
+use Rattle.floats.specs.Notation.{_⊖_, _⊗_, _⊘_}
+use Rattle.single.specs.Constants.{𝟏, 𝟐𝟓𝟓, micro}
+use Rattle.single.specs.Rules.{float, guardedQuotient}
+use Rattle.points.specs.declared.Knot.{Knot}
+use Rattle.points.specs.Knots.{knotAt}
+
+-- the knot before knot i and the one after it, of n: "a missing neighbour replaced by the knot"
+abbrev pub before : ℕ → ℕ
+before i = i - 1
+
+abbrev pub after : ℕ → ℕ → ℕ
+after n i = min (i + 1) (n - 1)
+
+-- the rise from l to r over the run; 0 without a run
+unfoldable pub slope : Knot → Knot → Float
+slope l r = guardedQuotient (r .y ⊖ l .y) (r .x ⊖ l .x) micro
+
+-- "CatmullRom: (right y − left y) / (right x − left x)"
+unfoldable pub catmullRomAt : List Float → List Float → ℕ → ℕ → Float
+catmullRomAt xs ys n i = slope (knotAt xs ys (before i)) (knotAt xs ys (after n i))
+
+-- 1 − c, the tension q being decoded in this one place: "c = q / 255"
+unfoldable pub looseness : ℕ → Float
+looseness q = 𝟏 ⊖ float q ⊘ 𝟐𝟓𝟓
+
+-- "Cardinal: (1 − c) times that rise first, then divided"
+unfoldable pub looseSlope : Float → Knot → Knot → Float
+looseSlope c l r = guardedQuotient (c ⊗ (r .y ⊖ l .y)) (r .x ⊖ l .x) micro
+
+unfoldable pub cardinalAt : ℕ → List Float → List Float → ℕ → ℕ → Float
+cardinalAt q xs ys n i = looseSlope (looseness q) (knotAt xs ys (before i)) (knotAt xs ys (after n i))
