@@ -1,0 +1,86 @@
+-- `spline::framed`: the first value, the loop over the inner knots, the last value; each is what the definition picks.
+use mathlib.Core.Path.{refl, sym}
+use Prim.Native.Nat.{_+_, _≤_, _-_}
+use native.Mathlib.Omega.{arith}
+use borrow.Author.Needs.{needs}
+use lib.ListN.{replicate}
+use Rattle.lists.specs.Stored.{Stored, stored-none, stored-next, stored-front}
+use Rattle.single.specs.Constants.{𝟎}
+use Rattle.spline.specs.Second as M
+use Rattle.spline.specs.Second.{at}
+use Rattle.spline.proofs.Rows.{framed-inside, framed-last}
+use Rattle.spline.proofs.framed.Statement.{statement}
+use Rattle.spline.proofs.framed.Tie as tie
+
+abbrev Inv-loop : tie.InvT-loop
+Inv-loop first last inside n out₀ i₀ out i =
+    (1 ≤ i) × (i + 1 ≤ n) × Stored (M.framed n first last (at inside)) 0 i (replicate 66 𝟎) out
+
+abbrev μ-loop : tie.MeasureT-loop
+μ-loop first last inside n out₀ i₀ out i = n - i
+
+array-write-out : tie.Need-array-write-out Inv-loop μ-loop
+array-write-out c = search needs
+
+loop-holds : tie.Need-loop-holds Inv-loop μ-loop
+unfolding M.framed
+loop-holds c = (omega arith, omega arith, stored-next stored-none refl)
+
+add-loop : tie.Need-add-loop Inv-loop μ-loop
+add-loop c = search needs
+
+sub-out : tie.Need-sub-out Inv-loop μ-loop
+sub-out c = search needs
+
+mul-out : tie.Need-mul-out Inv-loop μ-loop
+mul-out c = search needs
+
+element-copy-out-out : tie.Need-element-copy-out-out Inv-loop μ-loop
+element-copy-out-out c = search needs
+
+mul-out-2 : tie.Need-mul-out-2 Inv-loop μ-loop
+mul-out-2 c = search needs
+
+array-write-out-2 : tie.Need-array-write-out-2 Inv-loop μ-loop
+array-write-out-2 c = search needs
+
+add-i : tie.Need-add-i Inv-loop μ-loop
+add-i c = search needs
+
+loop-less : tie.Need-loop-less Inv-loop μ-loop
+loop-less c = search needs
+
+loop-again : tie.Need-loop-again Inv-loop μ-loop
+unfolding at
+loop-again c = (omega arith, omega arith, stored-next (c .before .before .loop .inv .2) (sym (framed-inside _ _ _ _ _ (omega arith) (omega arith))))
+
+mul-out-3 : tie.Need-mul-out-3 Inv-loop μ-loop
+mul-out-3 c = search needs
+
+array-write-out-3 : tie.Need-array-write-out-3 Inv-loop μ-loop
+array-write-out-3 c = search needs
+
+returns : tie.Need-returns Inv-loop μ-loop
+returns c =
+    stored-front (stored-next (c .before .loop .inv .2) (sym (framed-last _ _ _ _ _ (omega arith) (omega arith)))) (omega arith) (omega arith)
+
+pub framed-spec : {M : Type 1} → statement M
+framed-spec =
+    tie.close
+    (tie.spec
+    Inv-loop
+    μ-loop
+    array-write-out
+    loop-holds
+    add-loop
+    sub-out
+    mul-out
+    element-copy-out-out
+    mul-out-2
+    array-write-out-2
+    add-i
+    loop-less
+    loop-again
+    mul-out-3
+    array-write-out-3
+    returns)

@@ -1,0 +1,62 @@
+-- `spline::not_a_knot`: the tests are the definition's.
+use mathlib.Core.Path.{_≡_, _∙_}
+use native.Mathlib.Omega.{arith}
+use borrow.Author.Needs.{needs}
+use borrow.Author.Tests.{le-ltb, ne-eqb}
+use Rattle.lists.specs.Tabulate.{filled, tabulate}
+use Rattle.spline.specs.Second.{notAKnotAt}
+use Rattle.spline.proofs.Rows.{filled-same}
+use Rattle.spline.proofs.not_a_knot.Statement.{statement}
+use Rattle.spline.proofs.not_a_knot.Tie as tie
+
+returns : tie.Need-returns
+unfolding filled tabulate notAKnotAt
+returns c = let two : c .before .args .n ≡ 2 = omega arith in rw two
+
+segment-at-requires : tie.Need-segment-at-requires
+segment-at-requires c κs = search needs
+
+segment-at-requires-2 : tie.Need-segment-at-requires-2
+segment-at-requires-2 c κs = search needs
+
+parabola-requires : tie.Need-parabola-requires
+parabola-requires c κs = search needs
+
+array-write-out : tie.Need-array-write-out
+array-write-out c = search needs
+
+array-write-out-2 : tie.Need-array-write-out-2
+array-write-out-2 c = search needs
+
+array-write-out-3 : tie.Need-array-write-out-3
+array-write-out-3 c = search needs
+
+returns-2 : tie.Need-returns-2
+unfolding filled tabulate notAKnotAt
+returns-2 c =
+    let b = c .before .before in
+    rw (b .before .if2 .taken, c .parabola .ensures, b .segment-at .ensures, c .before .segment-at2 .ensures)
+
+ends-recovered-requires : tie.Need-ends-recovered-requires
+ends-recovered-requires c κs = omega arith
+
+returns-3 : tie.Need-returns-3
+unfolding notAKnotAt
+returns-3 c =
+    let b = c .before in
+    c .ends-recovered .ensures ∙ filled-same (λ k h. rw (le-ltb _ _ (b .before .if1 .left), ne-eqb _ _ (b .if2 .left)))
+
+pub not-a-knot-spec : {M : Type 1} → statement M
+not-a-knot-spec =
+    tie.close
+    (tie.spec
+    returns
+    segment-at-requires
+    segment-at-requires-2
+    parabola-requires
+    array-write-out
+    array-write-out-2
+    array-write-out-3
+    returns-2
+    ends-recovered-requires
+    returns-3)

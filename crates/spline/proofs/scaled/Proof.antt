@@ -1,0 +1,15 @@
+-- `spline::scaled`: both parts times the inverse.
+use borrow.Author.Needs.{needs}
+use Rattle.spline.specs.Thomas as T
+use Rattle.spline.proofs.scaled.Statement.{statement}
+use Rattle.spline.proofs.scaled.Tie as tie
+
+inverse-requires : tie.Need-inverse-requires
+inverse-requires c κs = search needs
+
+returns : tie.Need-returns
+unfolding T.scaled
+returns c = rw (c .inverse .ensures)
+
+pub scaled-spec : {M : Type 1} → statement M
+scaled-spec = tie.close (tie.spec inverse-requires returns)

@@ -1,0 +1,64 @@
+-- `spline::second_derivatives`: the arms are the definition's.
+use mathlib.Core.Path.{_∙_}
+use borrow.Author.Needs.{needs}
+use Rattle.spline.specs.declared.SplineBoundary.the-variants.{Natural}
+use Rattle.spline.specs.Second.{unknown, secondAt}
+use Rattle.spline.proofs.Rows.{framed-row}
+use Rattle.spline.proofs.second_derivatives.Statement.{statement}
+use Rattle.spline.proofs.second_derivatives.Tie as tie
+
+enum-told : tie.Need-enum-told
+enum-told c = search needs
+
+sub-unknowns : tie.Need-sub-unknowns
+sub-unknowns c = search needs
+
+unknowns-requires : tie.Need-unknowns-requires
+unknowns-requires c κs = search needs
+
+framed-requires : tie.Need-framed-requires
+framed-requires c κs = search needs
+
+enum-known-boundary : tie.Need-enum-known-boundary
+enum-known-boundary c = search needs
+
+unknowns-requires-2 : tie.Need-unknowns-requires-2
+unknowns-requires-2 c κs = search needs
+
+enum-told-2 : tie.Need-enum-told-2
+enum-told-2 c = search needs
+
+not-a-knot-requires : tie.Need-not-a-knot-requires
+not-a-knot-requires c κs = search needs
+
+returns : tie.Need-returns
+unfolding secondAt
+returns c =
+    let b = c .before .before in
+    let a = b .before .before .before .args in
+    rw (b .before .enum-told .given .1)
+    (c .framed .ensures ∙ framed-row (a .n) (unknown (a .xs .now) (a .ys .now) (a .n) Natural) (b .unknowns .ensures) _ _)
+
+returns-2 : tie.Need-returns-2
+unfolding secondAt
+returns-2 c = rw (c .before .before .boundary .given .1) (c .unknowns2 .ensures)
+
+returns-3 : tie.Need-returns-3
+unfolding secondAt
+returns-3 c = rw (c .before .enum-told2 .given .1) (c .not-a-knot .ensures)
+
+pub second-derivatives-spec : {M : Type 1} → statement M
+second-derivatives-spec =
+    tie.close
+    (tie.spec
+    enum-told
+    sub-unknowns
+    unknowns-requires
+    framed-requires
+    enum-known-boundary
+    unknowns-requires-2
+    enum-told-2
+    not-a-knot-requires
+    returns
+    returns-2
+    returns-3)

@@ -1,0 +1,25 @@
+-- `spline::sweep`: the test is the definition's.
+use borrow.Author.Needs.{needs}
+use borrow.Author.Tests.{eq-eqb, ne-eqb}
+use Rattle.spline.specs.Thomas as T
+use Rattle.spline.proofs.sweep.Statement.{statement}
+use Rattle.spline.proofs.sweep.Tie as tie
+
+scaled-requires : tie.Need-scaled-requires
+scaled-requires c κs = search needs
+
+returns : tie.Need-returns
+unfolding T.sweep
+returns c = rw (eq-eqb _ _ (c .before .if1 .taken)) (c .scaled .ensures)
+
+scaled-requires-2 : tie.Need-scaled-requires-2
+scaled-requires-2 c κs = search needs
+
+returns-2 : tie.Need-returns-2
+unfolding T.sweep
+returns-2 c =
+    let b = c .before .before .before .before .before .before .before in
+    rw (ne-eqb _ _ (b .if1 .left)) (c .scaled2 .ensures)
+
+pub sweep-spec : {M : Type 1} → statement M
+sweep-spec = tie.close (tie.spec scaled-requires returns scaled-requires-2 returns-2)

@@ -1,0 +1,5 @@
+pub mod Segments
+pub mod Thomas
+pub mod ThomasLaws
+pub mod Second
+pub mod Examples

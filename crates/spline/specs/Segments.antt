@@ -1,0 +1,37 @@
+-- The segment between two neighbouring knots, the piece of a spline drawn there by the second derivatives at its ends, and the slopes of a clamped
+-- curve. The order of operations is the file's. Definitions only.
+use Prim.Native.Nat.{ℕ, _+_}
+use mathlib.Core.Bool.{cond}
+use mathlib.Core.List.{List}
+use lib.IntN.{ℤ}
+use lib.Ieee.{Float, binary32, lt, ofInt}
+use Rattle.floats.specs.Notation.{_⊕_, _⊖_, _⊗_, _⊘_}
+use Rattle.floats.specs.Value.{absolute}
+use Rattle.single.specs.Constants.{𝟐, 𝟔, 𝟐𝟓𝟔, micro}
+use Rattle.single.specs.Rules.{guardedQuotient}
+use Rattle.points.specs.declared.Knot.{Knot}
+use Rattle.points.specs.Knots.{knotAt}
+use Rattle.spline.specs.declared.Segment.{Segment}
+
+-- the segment from a to b: its width h and its secant Δ, 0 where h is below 1e-6 in size
+unfoldable pub between : Knot → Knot → Segment
+between a b = record { width = b .x ⊖ a .x; secant = guardedQuotient (b .y ⊖ a .y) (b .x ⊖ a .x) micro }
+
+-- the segment i of the knots in the rows xs and ys
+unfoldable pub segmentAt : List Float → List Float → ℕ → Segment
+segmentAt xs ys i = between (knotAt xs ys i) (knotAt xs ys (i + 1))
+
+-- P(x) = y + (Δ − h (2 M + M') / 6) t + (M / 2) t² + ((M' − M) / (6 h)) t³ with t = x − x0, M and M' being the second derivatives ma and mb
+unfoldable pub splinePiece : Knot → Knot → Float → Float → Float → Float
+splinePiece a b ma mb x =
+    let s = between a b in
+    let h = s .width in
+    let t = x ⊖ a .x in
+    let c1 = s .secant ⊖ h ⊗ (𝟐 ⊗ ma ⊕ mb) ⊘ 𝟔 in
+    let c2 = ma ⊘ 𝟐 in
+    let c3 = (mb ⊖ ma) ⊘ (𝟔 ⊗ h) in
+    cond (lt (absolute h) micro) (a .y) (a .y ⊕ c1 ⊗ t ⊕ c2 ⊗ t ⊗ t ⊕ c3 ⊗ t ⊗ t ⊗ t)
+
+-- "ClampedCubic carries two slopes, signed 16-bit, each divided by 256"
+unfoldable pub slopeOf : ℤ → Float
+slopeOf q = ofInt binary32 q ⊘ 𝟐𝟓𝟔

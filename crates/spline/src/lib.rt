@@ -1,0 +1,391 @@
+// Cubic splines through the knots (de Boor 1978): second derivatives by the Thomas solve under three boundary rules, and the pieces drawn by them.
+ghost use mathlib.Core.Path.{_≡_};
+ghost use Prim.Native.Nat.{_+_, _≤_, _<_};
+ghost use lib.ListN.{replicate};
+ghost use Rattle.lists.specs.Tabulate.{filled};
+ghost use Rattle.single.specs.Constants.{𝟎};
+ghost use Rattle.spline.specs.Segments as S;
+ghost use Rattle.spline.specs.Segments.{segmentAt, splinePiece, slopeOf};
+ghost use Rattle.spline.specs.Thomas as T;
+ghost use Rattle.spline.specs.Thomas.{sweptIn, substituted, solution, rowsOf, RowHeld};
+ghost use Rattle.spline.specs.Second as M;
+ghost use Rattle.spline.specs.Second.{clampedFirst, clampedLast, notAKnotFirst, notAKnotLast, rowAt, rowCount};
+ghost use Rattle.spline.specs.Second.{at, unknown, endsRecovered, notAKnotAt, secondAt};
+use points::Knot;
+use points::knot_at;
+use single::guarded_quotient;
+
+// "The edge rule": natural, clamped with its start slope and end slope, or not-a-knot.
+pub enum SplineBoundary {
+    Natural,
+    Clamped { s0: f32, s1: f32 },
+    NotAKnot,
+}
+
+// What lies between two neighbouring knots: the distance of their x, and the slope of the straight line through them.
+pub struct Segment {
+    pub width: f32,
+    pub secant: f32,
+}
+
+// A row of the tridiagonal system: below, on and above the diagonal, and the right-hand side.
+pub struct Row {
+    pub a: f32,
+    pub b: f32,
+    pub c: f32,
+    pub d: f32,
+}
+
+// A row after the forward sweep: 1 on the diagonal, what stands above it, and the right-hand side.
+pub struct Swept {
+    pub above: f32,
+    pub right: f32,
+}
+
+// The segment from a to b.
+fn between(a: Knot, b: Knot) -> Segment
+    ensures { λ r. ⌜ r ≡ S.between a b ⌝ }
+{
+    let width = b.x - a.x;
+    Segment {
+        width,
+        secant: guarded_quotient(b.y - a.y, width, 1.0e-6),
+    }
+}
+
+// The segment i of the knots in two rows.
+fn segment_at(xs: &[f32; 66], ys: &[f32; 66], i: usize) -> Segment
+    requires { ⌜ i + 1 < 66 ⌝ }
+    ensures { λ r. ⌜ r ≡ segmentAt (now (xs .entry)) (now (ys .entry)) i ⌝ }
+{
+    between(knot_at(xs, ys, i), knot_at(xs, ys, i + 1))
+}
+
+// The piece from a to b with the second derivatives ma and mb there, at x, unclamped.
+pub fn spline_piece(a: Knot, b: Knot, ma: f32, mb: f32, x: f32) -> f32
+    ensures { λ r. ⌜ r ≡ splinePiece a b ma mb x ⌝ }
+{
+    let s = between(a, b);
+    let h = s.width;
+    if single::abs(h) < 1.0e-6 {
+        return a.y;
+    }
+    let t = x - a.x;
+    let c1 = s.secant - h * (2.0 * ma + mb) / 6.0;
+    let c2 = ma / 2.0;
+    let c3 = (mb - ma) / (6.0 * h);
+    a.y + c1 * t + c2 * t * t + c3 * t * t * t
+}
+
+// A slope of a clamped curve, a signed 16-bit number over 256, as a float, in this one place.
+pub fn slope(q: i16) -> f32
+    ensures { λ r. ⌜ r ≡ slopeOf q ⌝ }
+{
+    (q as f32) / 256.0
+}
+
+// One over the pivot, and 0 for a pivot below 1e-12 in size.
+fn inverse(pivot: f32) -> f32
+    ensures { λ r. ⌜ r ≡ T.inverse pivot ⌝ }
+{
+    guarded_quotient(1.0, pivot, 1.0e-12)
+}
+
+// A row over its pivot.
+fn scaled(pivot: f32, c: f32, d: f32) -> Swept
+    ensures { λ r. ⌜ r ≡ T.scaled pivot c d ⌝ }
+{
+    let i = inverse(pivot);
+    Swept {
+        above: c * i,
+        right: d * i,
+    }
+}
+
+// The row k swept, p being the row before it.
+fn sweep(k: usize, p: Swept, r: Row) -> Swept
+    ensures { λ s. ⌜ s ≡ T.sweep k p r ⌝ }
+{
+    if k == 0 {
+        return scaled(r.b, r.c, r.d);
+    }
+    scaled(r.b - r.a * p.above, r.c, r.d - r.a * p.right)
+}
+
+// The row k that four rows of floats hold.
+fn row_of(a: &[f32; 66], b: &[f32; 66], c: &[f32; 66], d: &[f32; 66], k: usize) -> Row
+    requires { ⌜ k < 66 ⌝ }
+    ensures { λ r. ⌜ RowHeld (now (a .entry)) (now (b .entry)) (now (c .entry)) (now (d .entry)) k r ⌝ }
+{
+    Row {
+        a: a[k],
+        b: b[k],
+        c: c[k],
+        d: d[k],
+    }
+}
+
+// Back substitution over m swept rows, from the last one on.
+fn substitute(rows: [Swept; 66], m: usize) -> [f32; 66]
+    requires { ⌜ m ≤ 66 ⌝ }
+    ensures { λ r. ⌜ r ≡ filled m (substituted (sweptIn rows) m) (replicate 66 𝟎) ⌝ }
+{
+    let mut x = [0.0; 66];
+    let mut next = 0.0;
+    let mut k = m;
+    while 0 < k {
+        k -= 1;
+        let p = rows[k];
+        next = p.right - p.above * next;
+        x[k] = next;
+    }
+    x
+}
+
+// The Thomas solve of m rows: the forward sweep, then back substitution.
+pub fn thomas_solve(
+    a: &[f32; 66],
+    b: &[f32; 66],
+    c: &[f32; 66],
+    d: &[f32; 66],
+    m: usize,
+) -> [f32; 66]
+    requires { ⌜ m ≤ 66 ⌝ }
+    ensures { λ r. ⌜ r ≡ filled m (solution (rowsOf (now (a .entry)) (now (b .entry)) (now (c .entry)) (now (d .entry))) m) (replicate 66 𝟎) ⌝ }
+{
+    let none = Swept {
+        above: 0.0,
+        right: 0.0,
+    };
+    let mut rows = [none; 66];
+    let mut p = none;
+    let mut k: usize = 0;
+    while k < m {
+        p = sweep(k, p, row_of(a, b, c, d, k));
+        rows[k] = p;
+        k += 1;
+    }
+    substitute(rows, m)
+}
+
+// The row of an inner knot between the segments p and q.
+fn inner(p: Segment, q: Segment) -> Row
+    ensures { λ r. ⌜ r ≡ M.inner p q ⌝ }
+{
+    Row {
+        a: p.width,
+        b: 2.0 * (p.width + q.width),
+        c: q.width,
+        d: 6.0 * (q.secant - p.secant),
+    }
+}
+
+// Clamped: the row of the first knot, with the segment q after it, and that of the last, with p before it.
+fn clamped_first(s0: f32, q: Segment) -> Row
+    ensures { λ r. ⌜ r ≡ clampedFirst s0 q ⌝ }
+{
+    Row {
+        a: 0.0,
+        b: 2.0 * q.width,
+        c: q.width,
+        d: 6.0 * (q.secant - s0),
+    }
+}
+
+fn clamped_last(s1: f32, p: Segment) -> Row
+    ensures { λ r. ⌜ r ≡ clampedLast s1 p ⌝ }
+{
+    Row {
+        a: p.width,
+        b: 2.0 * p.width,
+        c: 0.0,
+        d: 6.0 * (s1 - p.secant),
+    }
+}
+
+// Not-a-knot: the rows of the first and the last inner knot, each between the segments p and q.
+fn not_a_knot_first(p: Segment, q: Segment) -> Row
+    ensures { λ r. ⌜ r ≡ notAKnotFirst p q ⌝ }
+{
+    let h0 = p.width;
+    let h1 = q.width;
+    Row {
+        a: 0.0,
+        b: (h0 + h1) * (h0 + 2.0 * h1),
+        c: (h1 - h0) * (h1 + h0),
+        d: h1 * 6.0 * (q.secant - p.secant),
+    }
+}
+
+fn not_a_knot_last(p: Segment, q: Segment) -> Row
+    ensures { λ r. ⌜ r ≡ notAKnotLast p q ⌝ }
+{
+    let g0 = p.width;
+    let g1 = q.width;
+    Row {
+        a: (g0 - g1) * (g0 + g1),
+        b: (g0 + g1) * (2.0 * g0 + g1),
+        c: 0.0,
+        d: g0 * 6.0 * (q.secant - p.secant),
+    }
+}
+
+// The row of the knot k where the slopes at the ends are given.
+fn clamped_row(xs: &[f32; 66], ys: &[f32; 66], n: usize, s0: f32, s1: f32, k: usize) -> Row
+    requires { ⌜ (2 ≤ n) × (n ≤ 66) × (k < n) ⌝ }
+    ensures { λ r. ⌜ r ≡ rowAt (now (xs .entry)) (now (ys .entry)) n (SplineBoundary.Clamped s0 s1) k ⌝ }
+{
+    if k == 0 {
+        return clamped_first(s0, segment_at(xs, ys, k));
+    }
+    let p = segment_at(xs, ys, k - 1);
+    if k + 1 == n {
+        return clamped_last(s1, p);
+    }
+    inner(p, segment_at(xs, ys, k))
+}
+
+// The row of the inner knot k + 1 under not-a-knot.
+fn not_a_knot_row(xs: &[f32; 66], ys: &[f32; 66], n: usize, k: usize) -> Row
+    requires { ⌜ (n ≤ 66) × (k + 2 < n) ⌝ }
+    ensures { λ r. ⌜ r ≡ rowAt (now (xs .entry)) (now (ys .entry)) n SplineBoundary.NotAKnot k ⌝ }
+{
+    let p = segment_at(xs, ys, k);
+    let q = segment_at(xs, ys, k + 1);
+    if k == 0 {
+        return not_a_knot_first(p, q);
+    }
+    if k + 3 == n {
+        return not_a_knot_last(p, q);
+    }
+    inner(p, q)
+}
+
+// The row k of the system.
+fn row_at(xs: &[f32; 66], ys: &[f32; 66], n: usize, boundary: SplineBoundary, k: usize) -> Row
+    requires { ⌜ (2 ≤ n) × (n ≤ 66) × (k < rowCount boundary n) ⌝ }
+    ensures { λ r. ⌜ r ≡ rowAt (now (xs .entry)) (now (ys .entry)) n boundary k ⌝ }
+{
+    match boundary {
+        SplineBoundary::Natural => inner(segment_at(xs, ys, k), segment_at(xs, ys, k + 1)),
+        SplineBoundary::Clamped { s0, s1 } => clamped_row(xs, ys, n, s0, s1, k),
+        SplineBoundary::NotAKnot => not_a_knot_row(xs, ys, n, k),
+    }
+}
+
+// The unknowns of the system of m rows: the Thomas solve, each row being made just before it is swept.
+fn unknowns(
+    xs: &[f32; 66],
+    ys: &[f32; 66],
+    n: usize,
+    boundary: SplineBoundary,
+    m: usize,
+) -> [f32; 66]
+    requires { ⌜ (2 ≤ n) × (n ≤ 66) × (m ≤ n) × (m ≡ rowCount boundary n) ⌝ }
+    ensures { λ r. ⌜ r ≡ filled m (unknown (now (xs .entry)) (now (ys .entry)) n boundary) (replicate 66 𝟎) ⌝ }
+{
+    // two knots have no inner one
+    if m == 0 {
+        return [0.0; 66];
+    }
+    let none = Swept {
+        above: 0.0,
+        right: 0.0,
+    };
+    let mut rows = [none; 66];
+    let mut p = none;
+    let mut k: usize = 0;
+    while k < m {
+        p = sweep(k, p, row_at(xs, ys, n, boundary, k));
+        rows[k] = p;
+        k += 1;
+    }
+    substitute(rows, m)
+}
+
+// The values of n knots: first, those of the inner knots, last.
+fn framed(first: f32, last: f32, inside: &[f32; 66], n: usize) -> [f32; 66]
+    requires { ⌜ (2 ≤ n) × (n ≤ 66) ⌝ }
+    ensures { λ r. ⌜ r ≡ filled n (M.framed n first last (at (now (inside .entry)))) (replicate 66 𝟎) ⌝ }
+{
+    let mut out = [0.0; 66];
+    out[0] = first;
+    let mut i: usize = 1;
+    while i + 1 < n {
+        out[i] = inside[i - 1];
+        i += 1;
+    }
+    out[i] = last;
+    out
+}
+
+// The second derivative that the parabola through three knots has, with the segments p and q between them.
+fn parabola(p: Segment, q: Segment) -> f32
+    ensures { λ r. ⌜ r ≡ M.parabola p q ⌝ }
+{
+    guarded_quotient(2.0 * (q.secant - p.secant), p.width + q.width, 1.0e-12)
+}
+
+// An end value from p and q, those of the next two knots: g is the segment from the end to p's knot, h the next one.
+fn recovered(g: Segment, h: Segment, p: f32, q: f32) -> f32
+    ensures { λ r. ⌜ r ≡ M.recovered g h p q ⌝ }
+{
+    p + guarded_quotient(g.width, h.width, 1.0e-12) * (p - q)
+}
+
+// Not-a-knot with at least 4 knots: the values at both ends are recovered from those of the inner knots.
+fn ends_recovered(xs: &[f32; 66], ys: &[f32; 66], n: usize) -> [f32; 66]
+    requires { ⌜ (4 ≤ n) × (n ≤ 66) ⌝ }
+    ensures { λ r. ⌜ r ≡ filled n (endsRecovered (now (xs .entry)) (now (ys .entry)) n) (replicate 66 𝟎) ⌝ }
+{
+    let u = unknowns(xs, ys, n, SplineBoundary::NotAKnot, n - 2);
+    let first = recovered(segment_at(xs, ys, 0), segment_at(xs, ys, 1), u[0], u[1]);
+    let last = recovered(
+        segment_at(xs, ys, n - 2),
+        segment_at(xs, ys, n - 3),
+        u[n - 3],
+        u[n - 4],
+    );
+    framed(first, last, &u, n)
+}
+
+// Not-a-knot: two knots give zeros, three the parabola through them.
+fn not_a_knot(xs: &[f32; 66], ys: &[f32; 66], n: usize) -> [f32; 66]
+    requires { ⌜ (2 ≤ n) × (n ≤ 66) ⌝ }
+    ensures { λ r. ⌜ r ≡ filled n (notAKnotAt (now (xs .entry)) (now (ys .entry)) n) (replicate 66 𝟎) ⌝ }
+{
+    if n < 3 {
+        return [0.0; 66];
+    }
+    if n == 3 {
+        let v = parabola(segment_at(xs, ys, 0), segment_at(xs, ys, 1));
+        let mut out = [0.0; 66];
+        out[0] = v;
+        out[1] = v;
+        out[2] = v;
+        return out;
+    }
+    ends_recovered(xs, ys, n)
+}
+
+// The second derivatives at n knots, zeros behind.
+pub fn second_derivatives(
+    xs: &[f32; 66],
+    ys: &[f32; 66],
+    n: usize,
+    boundary: SplineBoundary,
+) -> [f32; 66]
+    requires { ⌜ (2 ≤ n) × (n ≤ 66) ⌝ }
+    ensures { λ r. ⌜ r ≡ filled n (secondAt (now (xs .entry)) (now (ys .entry)) n boundary) (replicate 66 𝟎) ⌝ }
+{
+    match boundary {
+        SplineBoundary::Natural => {
+            let u = unknowns(xs, ys, n, SplineBoundary::Natural, n - 2);
+            framed(0.0, 0.0, &u, n)
+        }
+        SplineBoundary::Clamped { s0, s1 } => {
+            unknowns(xs, ys, n, SplineBoundary::Clamped { s0, s1 }, n)
+        }
+        SplineBoundary::NotAKnot => not_a_knot(xs, ys, n),
+    }
+}
