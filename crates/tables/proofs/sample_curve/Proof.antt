@@ -1,0 +1,90 @@
+-- `tables::sample_curve`: the knots of a sorted list are from 2 to 66, so `fill` has its rows.
+use mathlib.Core.Path.{_≡_}
+use mathlib.Core.List.{List}
+use Prim.Native.Nat.{ℕ, _≤_}
+use native.Mathlib.Omega.{arith}
+use borrow.Author.Needs.{needs}
+use borrow.Author.Tests.{le-ltb}
+use lib.ListN.{length, length-take}
+use lib.Ieee.{Float}
+use Rattle.lists.specs.Tabulate.{tabulate}
+use Rattle.points.specs.declared.Curve.{Curve}
+use Rattle.points.specs.declared.Sorted.{Sorted}
+use Rattle.points.specs.declared.Knots.{Knots}
+use Rattle.points.specs.Points.{listOf, kept, SortedFrom}
+use Rattle.points.specs.Knots.{knots, KnotsOf}
+use Rattle.points.specs.Order.{All, Bytes, all-take}
+use Rattle.points.specs.Owned.{bytes-told}
+use Rattle.points.specs.Kept.{kept-is-kept, kept-length}
+use Rattle.points.specs.Shape.{knots-shape, knots-length}
+use Rattle.tables.specs.declared.CurveInterpolation.{CurveInterpolation}
+use Rattle.tables.specs.declared.fill.Form.{Form}
+use Rattle.tables.specs.Kinds.{formOf, rowOf}
+use Rattle.tables.specs.Pieces.{heightAt, sampled}
+use Rattle.tables.specs.Tables.{unclampedAt, sampleOf, fineTable}
+use Rattle.tables.proofs.sample_curve.Statement.{statement}
+use Rattle.tables.proofs.sample_curve.Tie as tie
+
+-- ---- what sorting and the knots give, for a list of at most 64 points
+module _ {given : Curve} {sorted : Sorted} {k : Knots} (few : given .count ≤ 64) (s : SortedFrom given sorted)
+    (r : KnotsOf (knots (listOf (sorted .curve))) k) where
+  rows : KnotsOf (knots (kept (listOf given))) k
+  rows = rw (rw (le-ltb 64 (given .count) few) at (s .list)) at r
+
+  count : All Bytes (listOf given) → (2 ≤ k .count) × (k .count ≤ 66)
+  count bytes =
+      let l = listOf given in
+      let short : length l ≤ 64 = simp length-take (omega arith) in
+      rw (rows .count)
+      (omega (arith, knots-shape (kept l) (kept-is-kept l bytes) .two), omega (arith, knots-length (kept l), kept-length l))
+
+  table : (kind : CurveInterpolation) (S : ℕ) {form : Form} {ms new : List Float} → form ≡ formOf kind → ms ≡ rowOf kind (k .xs) (k .ys) (k .count)
+      → new ≡ tabulate S (sampled (heightAt form (k .xs) (k .ys) ms (k .count)) S) → new ≡ fineTable kind (listOf given) S
+  unfolding sampleOf unclampedAt
+  table kind S f m e = rw (f, m, rows .xs, rows .ys, rows .count) at e
+
+new-requires : tie.Need-new-requires
+new-requires c κs = search needs
+
+knots-requires : tie.Need-knots-requires
+knots-requires c κs = search needs
+
+numbers-requires : tie.Need-numbers-requires
+numbers-requires c κs =
+    let k = c .before .before .before .before in
+    let n = k .before .before in
+    let given = n .before .before in
+    count (given .pre .0) (n .new .ensures) (k .knots .ensures) (search (needs, all-take, bytes-told))
+
+form-of-requires : tie.Need-form-of-requires
+form-of-requires c κs = search needs
+
+fill-requires : tie.Need-fill-requires
+fill-requires c κs =
+    let k = c .before .before .before .before .before .before .before .before .before .before in
+    let n = k .before .before in
+    let given = n .before .before in
+    (count (given .pre .0) (n .new .ensures) (k .knots .ensures) (search (needs, all-take, bytes-told)), given .pre .1)
+
+same-length : tie.Need-same-length
+same-length c = search needs
+
+returns : tie.Need-returns
+returns c =
+    let f = c .before .before in
+    let m = f .before .before .before .before .before in
+    let k = m .before .before .before .before .before .before in
+    let n = k .before .before in
+    table (n .before .before .pre .0) (n .new .ensures) (k .knots .ensures) _ _ (m .form-of .ensures) (m .before .numbers .ensures) (f .fill .ensures)
+
+pub sample-curve-spec : {M : Type 1} → statement M
+sample-curve-spec =
+    tie.close
+    (tie.spec
+    new-requires
+    knots-requires
+    numbers-requires
+    form-of-requires
+    fill-requires
+    same-length
+    returns)

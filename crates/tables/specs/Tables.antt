@@ -1,0 +1,72 @@
+-- The tables of a given list, and what the two calls that build them answer, as document 01's sections "Kinds and tables" and "When a call says no" have
+-- them. Definitions only.
+use Prim.Native.Nat.{ℕ}
+use mathlib.Core.Path.{_≡_}
+use mathlib.Core.Bool.{Bool, cond, _||_}
+use mathlib.Core.List.{List}
+use lib.Dec.{eqb}
+use lib.ListN.{length, getD, replicate}
+use lib.Ieee.{Float, nan}
+use Rattle.lists.specs.Tabulate.{tabulate}
+use Rattle.answers.specs.declared.Answer.{Answer}
+use Rattle.answers.specs.declared.Answer.the-variants.{Done, PointCount, TableLength}
+use Rattle.answers.specs.Numbers.{isDone}
+use Rattle.single.specs.Rules.{byteOf}
+use Rattle.points.specs.declared.Point.{Point}
+use Rattle.points.specs.declared.Curve.{Curve}
+use Rattle.points.specs.Points.{listOf, kept, tooMany}
+use Rattle.points.specs.Knots.{knots, xRow, yRow}
+use Rattle.tables.specs.declared.CurveInterpolation.{CurveInterpolation}
+use Rattle.tables.specs.declared.Lut.{Lut}
+use Rattle.tables.specs.Pieces.{heightAt, sampled}
+use Rattle.tables.specs.Kinds.{formOf, rowOf}
+
+-- the height at x of the curve of a given list, unclamped
+unfoldable pub unclampedAt : CurveInterpolation → List Point → Float → Float
+unclampedAt kind l x =
+    let ks = knots (kept l) in
+    let xs = xRow ks in
+    let ys = yRow ks in
+    let n = length ks in
+    heightAt (formOf kind) xs ys (rowOf kind xs ys n) n x
+
+-- sample v of S
+unfoldable pub sampleOf : CurveInterpolation → List Point → ℕ → ℕ → Float
+sampleOf kind l S v = sampled (unclampedAt kind l) S v
+
+-- "The fine table": S samples
+abbrev pub fineTable : CurveInterpolation → List Point → ℕ → List Float
+fineTable kind l S = tabulate S (sampleOf kind l S)
+
+-- each of 256 samples to a byte
+unfoldable pub byteAt : List Float → ℕ → ℕ
+byteAt samples v = byteOf (getD samples v nan)
+
+abbrev pub bytesOf : List Float → List ℕ
+bytesOf samples = tabulate 256 (byteAt samples)
+
+-- "The byte table of 256 entries"
+unfoldable pub entryOf : CurveInterpolation → List Point → ℕ → ℕ
+entryOf kind l v = byteOf (sampleOf kind l 256 v)
+
+abbrev pub byteTable : CurveInterpolation → List Point → List ℕ
+byteTable kind l = tabulate 256 (entryOf kind l)
+
+-- ---- the calls
+-- "A float table's length isn't 256 or 4,096 (build)" is refused with 14
+abbrev pub isTableLength : ℕ → Bool
+isTableLength S = eqb S 256 || eqb S 4096
+
+-- 3, then 14
+abbrev pub tableAnswer : Curve → ℕ → Answer
+tableAnswer curve S = cond (tooMany curve) PointCount (cond (isTableLength S) Done TableLength)
+
+-- the answer, and the lent slice: filled, or on a refusal unchanged
+pub record BuiltTable (curve : Curve) (kind : CurveInterpolation) (old : List Float) (r : Answer) (new : List Float) : Type 0 where
+  pub answer : r ≡ tableAnswer curve (length old)
+  pub table : new ≡ cond (isDone r) (fineTable kind (listOf curve) (length old)) old
+
+-- the answer, and the table: "A table handed back with it is all 0"
+pub record BuiltLut (curve : Curve) (kind : CurveInterpolation) (r : Lut) : Type 0 where
+  pub answer : r .answer ≡ cond (tooMany curve) PointCount Done
+  pub table : r .table ≡ cond (tooMany curve) (replicate 256 0) (byteTable kind (listOf curve))

@@ -1,0 +1,179 @@
+// Tables of a curve: the kinds of interpolation, S samples into a lent slice, and the byte table by value.
+ghost use mathlib.Core.Path.{_≡_};
+ghost use Prim.Native.Nat.{_≤_};
+ghost use lib.ListN.{length};
+ghost use Rattle.points.specs.Points.{listOf};
+ghost use Rattle.tables.specs.Kinds.{formOf, rowOf};
+ghost use Rattle.tables.specs.Tables.{fineTable, byteTable, bytesOf, isTableLength, BuiltTable, BuiltLut};
+use answers::Answer;
+use hermite::tangents;
+use points::Curve;
+use spline::SplineBoundary;
+use spline::second_derivatives;
+use spline::slope;
+
+pub mod fill;
+
+use fill::Form;
+
+// The kinds, in the order of document 01's numbers.
+pub enum CurveInterpolation {
+    Linear,
+    CatmullRom,
+    MonotoneCubic,
+    MonotoneCubicBox,
+    NaturalCubic,
+    CentripetalCatmullRom,
+    ChordalCatmullRom,
+    Cardinal {
+        tension_q8: u8,
+    },
+    ClampedCubic {
+        start_slope_q8: i16,
+        end_slope_q8: i16,
+    },
+    NotAKnotCubic,
+}
+
+// A byte table, beside the answer.
+pub struct Lut {
+    pub answer: Answer,
+    pub table: [u8; 256],
+}
+
+// How a piece is drawn.
+fn form_of(kind: CurveInterpolation) -> Form
+    ensures { λ r. ⌜ r ≡ formOf kind ⌝ }
+{
+    match kind {
+        CurveInterpolation::Linear => Form::Straight,
+        CurveInterpolation::CatmullRom => Form::Cubic,
+        CurveInterpolation::MonotoneCubic => Form::Cubic,
+        CurveInterpolation::MonotoneCubicBox => Form::Cubic,
+        CurveInterpolation::NaturalCubic => Form::Spline,
+        CurveInterpolation::CentripetalCatmullRom => Form::Cubic,
+        CurveInterpolation::ChordalCatmullRom => Form::Cubic,
+        CurveInterpolation::Cardinal { tension_q8: _ } => Form::Cubic,
+        CurveInterpolation::ClampedCubic {
+            start_slope_q8: _,
+            end_slope_q8: _,
+        } => Form::Spline,
+        CurveInterpolation::NotAKnotCubic => Form::Spline,
+    }
+}
+
+// The numbers at n knots: tangents, or second derivatives.
+fn numbers(kind: CurveInterpolation, xs: &[f32; 66], ys: &[f32; 66], n: usize) -> [f32; 66]
+    requires { ⌜ (2 ≤ n) × (n ≤ 66) ⌝ }
+    ensures { λ r. ⌜ r ≡ rowOf kind (now (xs .entry)) (now (ys .entry)) n ⌝ }
+{
+    match kind {
+        CurveInterpolation::Linear => [0.0; 66],
+        CurveInterpolation::CatmullRom => tangents::catmull_rom(xs, ys, n),
+        CurveInterpolation::MonotoneCubic => tangents::monotone(false, xs, ys, n),
+        CurveInterpolation::MonotoneCubicBox => tangents::monotone(true, xs, ys, n),
+        CurveInterpolation::NaturalCubic => second_derivatives(xs, ys, n, SplineBoundary::Natural),
+        CurveInterpolation::CentripetalCatmullRom => tangents::alpha(true, xs, ys, n),
+        CurveInterpolation::ChordalCatmullRom => tangents::alpha(false, xs, ys, n),
+        CurveInterpolation::Cardinal { tension_q8 } => tangents::cardinal(tension_q8, xs, ys, n),
+        CurveInterpolation::ClampedCubic {
+            start_slope_q8,
+            end_slope_q8,
+        } => {
+            second_derivatives(
+                xs,
+                ys,
+                n,
+                SplineBoundary::Clamped {
+                    s0: slope(start_slope_q8),
+                    s1: slope(end_slope_q8),
+                },
+            )
+        }
+        CurveInterpolation::NotAKnotCubic => second_derivatives(
+            xs,
+            ys,
+            n,
+            SplineBoundary::NotAKnot,
+        ),
+    }
+}
+
+// The samples of a given list.
+pub fn sample_curve(curve: Curve, kind: CurveInterpolation, samples: &mut [f32])
+    requires { ⌜ curve .count ≤ 64 ⌝ }
+    requires { ⌜ (2 ≤ length (now samples)) × (length (now samples) ≤ 4096) ⌝ }
+    ensures { λ _. ⌜ now (samples .exit) ≡ fineTable kind (listOf curve) (length (now (samples .entry))) ⌝ }
+{
+    let sorted = Curve::new(curve);
+    let list = sorted.curve;
+    let knots = list.knots();
+    let xs = knots.xs;
+    let ys = knots.ys;
+    let n = knots.count;
+    let ms = numbers(kind, &xs, &ys, n);
+    fill::fill(form_of(kind), &xs, &ys, &ms, n, samples);
+}
+
+// Each sample to a byte.
+fn to_bytes(samples: &[f32; 256]) -> [u8; 256]
+    ensures { λ r. ⌜ r ≡ bytesOf (now (samples .entry)) ⌝ }
+{
+    let mut bytes = [0; 256];
+    let mut v: usize = 0;
+    while v < 256 {
+        bytes[v] = single::to_byte(samples[v]);
+        v += 1;
+    }
+    bytes
+}
+
+// The byte table of a given list.
+pub fn byte_table(curve: Curve, kind: CurveInterpolation) -> [u8; 256]
+    requires { ⌜ curve .count ≤ 64 ⌝ }
+    ensures { λ r. ⌜ r ≡ byteTable kind (listOf curve) ⌝ }
+{
+    let mut samples = [0.0; 256];
+    sample_curve(curve, kind, &mut samples);
+    to_bytes(&samples)
+}
+
+// Whether a fine table has so many samples.
+fn is_table_length(count: usize) -> bool
+    ensures { λ r. ⌜ r ≡ isTableLength count ⌝ }
+{
+    count == 256 || count == 4096
+}
+
+// The fine table of a given list, into a lent slice of 256 or 4,096 samples.
+pub fn build_table(curve: Curve, kind: CurveInterpolation, samples: &mut [f32]) -> Answer
+    ensures { λ r. ⌜ BuiltTable curve kind (now (samples .entry)) r (now (samples .exit)) ⌝ }
+{
+    let count = curve.count;
+    let fits = is_table_length(samples.len());
+    if Curve::LIMIT < count {
+        return Answer::PointCount;
+    }
+    if !fits {
+        return Answer::TableLength;
+    }
+    sample_curve(curve, kind, samples);
+    Answer::Done
+}
+
+// The byte table of a given list, beside the answer.
+pub fn build_lut(curve: Curve, kind: CurveInterpolation) -> Lut
+    ensures { λ r. ⌜ BuiltLut curve kind r ⌝ }
+{
+    let count = curve.count;
+    if Curve::LIMIT < count {
+        return Lut {
+            answer: Answer::PointCount,
+            table: [0; 256],
+        };
+    }
+    Lut {
+        answer: Answer::Done,
+        table: byte_table(curve, kind),
+    }
+}
