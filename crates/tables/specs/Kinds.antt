@@ -1,8 +1,9 @@
 -- The ten kinds: their numbers, how a piece is drawn, and the number that stands at each knot, as document 01's section "Kinds and tables" has them.
 -- Definitions only.
-use Prim.Native.Nat.{ℕ}
+use Prim.Native.Nat.{ℕ, zero, suc}
 use mathlib.Core.Bool.{true, false}
 use mathlib.Core.List.{List}
+use lib.IntN.{ℤ}
 use lib.ListN.{replicate}
 use lib.Ieee.{Float}
 use Rattle.lists.specs.Tabulate.{filled}
@@ -41,6 +42,19 @@ kindNumber ChordalCatmullRom = 6
 kindNumber (Cardinal q) = 7
 kindNumber (ClampedCubic start end) = 8
 kindNumber NotAKnotCubic = 9
+
+-- the kind of a number below 10, with a tension and two slopes for the kinds that carry them
+abbrev pub kindOf : ℕ → ℕ → ℤ → ℤ → CurveInterpolation
+kindOf zero q start end = Linear
+kindOf (suc zero) q start end = CatmullRom
+kindOf (suc (suc zero)) q start end = MonotoneCubic
+kindOf (suc (suc (suc zero))) q start end = MonotoneCubicBox
+kindOf (suc (suc (suc (suc zero)))) q start end = NaturalCubic
+kindOf (suc (suc (suc (suc (suc zero))))) q start end = CentripetalCatmullRom
+kindOf (suc (suc (suc (suc (suc (suc zero)))))) q start end = ChordalCatmullRom
+kindOf (suc (suc (suc (suc (suc (suc (suc zero))))))) q start end = Cardinal q
+kindOf (suc (suc (suc (suc (suc (suc (suc (suc zero)))))))) q start end = ClampedCubic start end
+kindOf (suc (suc (suc (suc (suc (suc (suc (suc (suc n))))))))) q start end = NotAKnotCubic
 
 -- "Linear", "Hermite kinds (1, 2, 3, 5, 6, 7)", "Splines (4, 8, 9)"
 abbrev pub formOf : CurveInterpolation → Form

@@ -3,7 +3,7 @@ ghost use mathlib.Core.Path.{_≡_};
 ghost use Prim.Native.Nat.{_≤_};
 ghost use lib.ListN.{length};
 ghost use Rattle.points.specs.Points.{listOf};
-ghost use Rattle.tables.specs.Kinds.{formOf, rowOf};
+ghost use Rattle.tables.specs.Kinds.{kindNumber, kindOf, formOf, rowOf};
 ghost use Rattle.tables.specs.Tables.{fineTable, byteTable, bytesOf, isTableLength, BuiltTable, BuiltLut};
 use answers::Answer;
 use hermite::tangents;
@@ -33,6 +33,50 @@ pub enum CurveInterpolation {
         end_slope_q8: i16,
     },
     NotAKnotCubic,
+}
+
+impl CurveInterpolation {
+    // The kind's number.
+    pub fn number(self) -> u8
+        ensures { λ r. ⌜ r ≡ kindNumber self ⌝ }
+    {
+        match self {
+            CurveInterpolation::Linear => 0,
+            CurveInterpolation::CatmullRom => 1,
+            CurveInterpolation::MonotoneCubic => 2,
+            CurveInterpolation::MonotoneCubicBox => 3,
+            CurveInterpolation::NaturalCubic => 4,
+            CurveInterpolation::CentripetalCatmullRom => 5,
+            CurveInterpolation::ChordalCatmullRom => 6,
+            CurveInterpolation::Cardinal { tension_q8: _ } => 7,
+            CurveInterpolation::ClampedCubic {
+                start_slope_q8: _,
+                end_slope_q8: _,
+            } => 8,
+            CurveInterpolation::NotAKnotCubic => 9,
+        }
+    }
+}
+
+// The kind of a number below 10, with a tension and two slopes for the kinds that carry them.
+pub fn kind_of(k: u8, tension_q8: u8, start_slope_q8: i16, end_slope_q8: i16) -> CurveInterpolation
+    ensures { λ r. ⌜ r ≡ kindOf k «tension_q8» «start_slope_q8» «end_slope_q8» ⌝ }
+{
+    match k {
+        0 => CurveInterpolation::Linear,
+        1 => CurveInterpolation::CatmullRom,
+        2 => CurveInterpolation::MonotoneCubic,
+        3 => CurveInterpolation::MonotoneCubicBox,
+        4 => CurveInterpolation::NaturalCubic,
+        5 => CurveInterpolation::CentripetalCatmullRom,
+        6 => CurveInterpolation::ChordalCatmullRom,
+        7 => CurveInterpolation::Cardinal { tension_q8 },
+        8 => CurveInterpolation::ClampedCubic {
+            start_slope_q8,
+            end_slope_q8,
+        },
+        _ => CurveInterpolation::NotAKnotCubic,
+    }
 }
 
 // A byte table, beside the answer.
