@@ -16,4 +16,3 @@ pub mod AlphaBounds
 pub mod CubicBounds
 pub mod HermiteKinds
 pub mod ListLaws
-pub mod Entries

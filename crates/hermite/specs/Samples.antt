@@ -44,14 +44,14 @@ module _ (S : ℕ) (two : 2 ≤ S) (most : S ≤ 2 ^ 24) where
   step-is = nonnegative-is (step S) (step-between .0) (step-between .1)
 
   -- in order
-  pub sample-le : (v w : ℕ) → v ≤ w → w < S → T (le (sampleAt (step S) v) (sampleAt (step S) w))
+  pub sample-le : (v w : ℕ) → v ≤ w → w ≤ 2 ^ 24 → T (le (sampleAt (step S) v) (sampleAt (step S) w))
   unfolding sampleAt
   sample-le v w l u =
       rw (mul-commutes binary32 (float v) (step S), mul-commutes binary32 (float w) (step S))
       (mul-mono-left binary32 (step S) (float v) (float w) (top (step S)) (den (step S)) (den-pos (step S)) step-is
       (float-is v (omega arith) .0) (float-is w (omega arith) .0) (float-le v w l (omega arith)))
 
-  -- finite, and none below 0
+  -- none below 0
   sample-between : (v : ℕ) → v < S
       → T (finite (sampleAt (step S) v)) × T (le 𝟎 (sampleAt (step S) v)) × T (le (sampleAt (step S) v) (fin false 1 (pos 32)))
   unfolding sampleAt ofBits fits
@@ -63,9 +63,6 @@ module _ (S : ℕ) (two : 2 ≤ S) (most : S ≤ 2 ^ 24) where
       (omega (arith, den-pos s)) tt tt tt tt
       (mul-rounds binary32 (float v) s v 0 1 (top s) 0 (den s) (lit< tt) (den-pos s) (float-is v (omega arith)) step-is)
       (omega arith) (omega arith)
-
-  pub sample-finite : (v : ℕ) → v < S → T (finite (sampleAt (step S) v))
-  sample-finite v u = sample-between v u .0
 
   pub sample-low : (v : ℕ) → v < S → T (le 𝟎 (sampleAt (step S) v))
   sample-low v u = sample-between v u .1

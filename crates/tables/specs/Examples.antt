@@ -19,7 +19,7 @@ use Rattle.tables.specs.declared.CurveInterpolation.the-variants.{Linear
 use Rattle.spline.specs.Segments.{between, segmentAt, splinePiece, slopeOf}
 use Rattle.spline.specs.Second.{rowAt, unknown, framed, secondAt}
 use Rattle.spline.specs.Thomas.{scaled, sweep, swept, sweptRow, backward, substituted, solution}
-use Rattle.tables.specs.Pieces.{heightOf, heightAt, sampled}
+use Rattle.sampling.specs.Pieces.{heightOf, heightAt, sampled}
 use Rattle.tables.specs.Tables.{unclampedAt, sampleOf, entryOf, byteTable}
 
 -- an entry, with all that its computation opens named in this one place: a theorem that unfolds `computed` unfolds them too

@@ -27,8 +27,8 @@ use Rattle.tables.specs.declared.CurveInterpolation.the-variants.{
   ClampedCubic,
   NotAKnotCubic,
 }
-use Rattle.tables.specs.declared.fill.Form.{Form}
-use Rattle.tables.specs.declared.fill.Form.the-variants.{Straight, Cubic, Spline}
+use Rattle.sampling.specs.declared.Form.{Form}
+use Rattle.sampling.specs.declared.Form.the-variants.{Straight, Cubic, Spline}
 
 -- "Kinds, numbered 0 to 9"
 abbrev pub kindNumber : CurveInterpolation → ℕ

@@ -18,7 +18,7 @@ use Rattle.points.specs.Points.{listOf, kept, tooMany}
 use Rattle.points.specs.Knots.{knots, xRow, yRow}
 use Rattle.tables.specs.declared.CurveInterpolation.{CurveInterpolation}
 use Rattle.tables.specs.declared.Lut.{Lut}
-use Rattle.tables.specs.Pieces.{heightAt, sampled}
+use Rattle.sampling.specs.Pieces.{heightAt, sampled}
 use Rattle.tables.specs.Kinds.{formOf, rowOf}
 
 -- the height at x of the curve of a given list, unclamped

@@ -8,13 +8,10 @@ ghost use Rattle.tables.specs.Tables.{fineTable, byteTable, bytesOf, isT
 use answers::Answer;
 use hermite::tangents;
 use points::Curve;
+use sampling::Form;
 use spline::SplineBoundary;
 use spline::second_derivatives;
 use spline::slope;
-
-pub mod fill;
-
-use fill::Form;
 
 // The kinds, in the order of document 01's numbers.
 pub enum CurveInterpolation {
@@ -156,7 +153,7 @@ pub fn sample_curve(curve: Curve, kind: CurveInterpolation, samples: &mut [f32])
     let ys = knots.ys;
     let n = knots.count;
     let ms = numbers(kind, &xs, &ys, n);
-    fill::fill(form_of(kind), &xs, &ys, &ms, n, samples);
+    sampling::fill(form_of(kind), &xs, &ys, &ms, n, samples);
 }
 
 // Each sample to a byte.

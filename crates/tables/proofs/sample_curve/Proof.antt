@@ -18,9 +18,9 @@ use Rattle.points.specs.Owned.{bytes-told}
 use Rattle.points.specs.Kept.{kept-is-kept, kept-length}
 use Rattle.points.specs.Shape.{knots-shape, knots-length}
 use Rattle.tables.specs.declared.CurveInterpolation.{CurveInterpolation}
-use Rattle.tables.specs.declared.fill.Form.{Form}
+use Rattle.sampling.specs.declared.Form.{Form}
 use Rattle.tables.specs.Kinds.{formOf, rowOf}
-use Rattle.tables.specs.Pieces.{heightAt, sampled}
+use Rattle.sampling.specs.Pieces.{heightAt, sampled}
 use Rattle.tables.specs.Tables.{unclampedAt, sampleOf, fineTable}
 use Rattle.tables.proofs.sample_curve.Statement.{statement}
 use Rattle.tables.proofs.sample_curve.Tie as tie

@@ -1,0 +1,39 @@
+-- The curve of a given list is that of its kept points, which the laws of `hermite` speak of; and where the samples stand.
+use mathlib.Core.Path.{_≡_, refl}
+use mathlib.Core.List.{List}
+use Prim.Native.Nat.{ℕ, _<_}
+use native.Mathlib.Omega.{arith}
+use lib.ListN.{length}
+use lib.Ieee.{Float}
+use Rattle.floats.specs.Value.{Is}
+use Rattle.single.specs.RuleLaws.{float-is}
+use Rattle.points.specs.declared.Point.{Point}
+use Rattle.points.specs.Points.{kept}
+use Rattle.points.specs.Knots.{knots, xOf, xRow, yRow}
+use Rattle.points.specs.Order.{All, Bytes}
+use Rattle.points.specs.Kept.{kept-is-kept}
+use Rattle.hermite.specs.Segments.{step, sampleAt}
+use Rattle.hermite.specs.Samples.{sample-byte}
+use Rattle.hermite.specs.Rows.{Rows, fineHeight}
+use Rattle.hermite.specs.ListLaws.{straightOf, knot-rows}
+use Rattle.tables.specs.declared.CurveInterpolation.the-variants.{Linear}
+use Rattle.sampling.specs.Pieces.{heightOf, heightAt}
+use Rattle.tables.specs.Tables.{unclampedAt}
+
+-- the x of sample v of S
+abbrev pub position : ℕ → ℕ → Float
+position S v = sampleAt (step S) v
+
+-- of 256 samples, sample v stands at v
+pub position-is : (v : ℕ) → v < 256 → Is (position 256 v) v 0 1
+position-is v h = rw (sample-byte v (omega arith)) (float-is v (omega arith))
+
+-- Linear is drawn by straight pieces
+pub linear-height : (l : List Point) (x : Float) → unclampedAt Linear l x ≡ straightOf (kept l) x
+unfolding unclampedAt heightAt heightOf
+linear-height l x = refl
+
+-- the rows hold the knots of the kept points
+pub given-rows : (l : List Point) → All Bytes l
+    → Rows (xRow (knots (kept l))) (yRow (knots (kept l))) (length (knots (kept l))) (xOf (knots (kept l))) (fineHeight (knots (kept l)))
+given-rows l bytes = knot-rows (kept l) (kept-is-kept l bytes)

@@ -1,0 +1,80 @@
+-- The exact broken line at any position, a fraction p / c: the definition, what it is at a byte, and that it is there at every position in range.
+use mathlib.Core.Path.{_≡_, refl, ap}
+use mathlib.Core.List.{List}
+use Prim.Native.Nat.{ℕ, suc, _+_, _-_, _*_, _≤_, _<_}
+use native.Mathlib.Nat.{le-refl, le-of-lt, mul-one, add-sub-of-le}
+use native.Mathlib.Numerals.{add-one}
+use native.Mathlib.Omega.{arith}
+use lib.ListN.{length}
+use lib.Ieee.{Float}
+use Rattle.floats.specs.Value.{Is, is-of-le}
+use Rattle.points.specs.declared.Point.{Point}
+use Rattle.points.specs.Points.{kept}
+use Rattle.points.specs.Knots.{knots, xOf, yOf, xRow, OnLine}
+use Rattle.points.specs.Order.{All, Bytes}
+use Rattle.hermite.specs.Rows.{fineHeight}
+use Rattle.hermite.specs.Segments.{at, segment}
+use Rattle.hermite.specs.SegmentLaws.{InRange, segment-holds}
+use Rattle.table_facts.specs.Given.{given-rows}
+
+-- "the exact broken line" of l at the position p / c is n / (256 * d): as `OnLine`, which is at a byte, with the heights in 256ths
+pub record LineAt (l : List Point) (p c n d : ℕ) : Type 0 where
+  -- neighbouring knots i and i + 1 ..
+  pub i : ℕ
+  pub inside : suc i < length (knots l)
+  -- .. with p / c between their x, ends included
+  pub left : xOf (knots l) i * c ≤ p
+  pub right : p ≤ xOf (knots l) (suc i) * c
+  pub width : d ≡ (xOf (knots l) (suc i) - xOf (knots l) i) * c
+  -- n = y0 * d + (y1 - y0) * (p - x0 * c), with y0 and y1 in 256ths
+  pub height : n + fineHeight (knots l) i * (p - xOf (knots l) i * c)
+      ≡ fineHeight (knots l) i * d + fineHeight (knots l) (suc i) * (p - xOf (knots l) i * c)
+
+-- ---- at a byte it is what `OnLine` says
+in-256ths : (n y0 y1 d k : ℕ) → n + y0 * k ≡ y0 * d + y1 * k → 256 * n + 256 * y0 * k ≡ 256 * y0 * d + 256 * y1 * k
+in-256ths n y0 y1 d k h = omega (arith, ap (λ (t : ℕ). 256 * t) h)
+
+pub at-byte : (l : List Point) (v n d : ℕ) → OnLine l v n d → LineAt l v 1 (256 * n) d
+at-byte l v n d o =
+    let ks = knots l in
+    let i = o .i in
+    record {
+      i = i;
+      inside = o .inside;
+      left = omega (arith, o .left);
+      right = omega (arith, o .right);
+      width = omega (arith, o .width);
+      height = simp mul-one (in-256ths n (yOf ks i) (yOf ks (suc i)) d (v - xOf ks i) (o .height));
+    }
+
+-- ---- it is there at every position in range
+-- the height between two knots, k from the first and g from the second
+between : (y0 y1 k g : ℕ) → (y0 * g + y1 * k) + y0 * k ≡ y0 * (k + g) + y1 * k
+between y0 y1 k g = omega arith
+
+pub line-at : (l : List Point) → All Bytes l → (x : Float) → InRange x → (p c : ℕ) → Is x p 0 c → (n d : ℕ) × LineAt (kept l) p c n d
+line-at l bytes x r p c e =
+    let ks = knots (kept l) in
+    let rows = given-rows l bytes in
+    let s = segment (xRow ks) (length ks) x in
+    let held = segment-holds rows x (r .low) (r .high) in
+    let next : s + 1 ≡ suc s = add-one s in
+    let inside : suc s < length ks = rw next at (held .inside) in
+    let low = is-of-le (at (xRow ks) s) x (xOf ks s) 0 1 p 0 c (rows .x-is s (omega arith)) e (held .low) in
+    let high = is-of-le x (at (xRow ks) (suc s)) p 0 c (xOf ks (suc s)) 0 1 e (rows .x-is (suc s) inside) (rw next at (held .high)) in
+    let k = p - xOf ks s * c in
+    let g = xOf ks (suc s) * c - p in
+    let d = (xOf ks (suc s) - xOf ks s) * c in
+    let split = ap (λ (t : ℕ). t * c) (add-sub-of-le (le-of-lt (rows .rising s (suc s) (le-refl (suc s)) inside))) in
+    let parts : k + g ≡ d = omega arith in (
+      fineHeight ks s * g + fineHeight ks (suc s) * k,
+      d,
+      record {
+        i = s;
+        inside = inside;
+        left = omega (arith, low);
+        right = omega (arith, high);
+        width = refl;
+        height = rw parts at (between (fineHeight ks s) (fineHeight ks (suc s)) k g);
+      },
+    )

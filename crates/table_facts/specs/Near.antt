@@ -1,0 +1,131 @@
+-- Linear: a sample is within 1 / 16,384 of the exact broken line at its position, and an entry is a whole number nearest to the line.
+use mathlib.Core.Path.{_≡_, sym, ap, _∙_}
+use mathlib.Core.List.{List}
+use Prim.Native.Nat.{ℕ, suc, _+_, _-_, _*_, _≤_, _<_}
+use native.Mathlib.Nat.{mul-pos, add-sub-of-le, eq-of-mul-eq-mul-right}
+use native.Mathlib.Numerals.{add-one}
+use native.Mathlib.Omega.{arith}
+use lib.Dec.{T, lit<}
+use lib.ListN.{length}
+use lib.Ieee.{Float, le}
+use lib.Ieee.Scale.{finite}
+use lib.Ieee.Positive.{den, den-pos}
+use Rattle.floats.specs.Value.{Is, top, bot, is-of-le, le-of-is}
+use Rattle.floats.specs.Frac.{frac, Close, close-same}
+use Rattle.floats.specs.Calc.{val}
+use Rattle.floats.specs.Nearest.{Nearest, nearest}
+use Rattle.single.specs.Constants.{𝟎, 𝟐𝟓𝟓, 𝟐𝟓𝟓-is}
+use Rattle.single.specs.Rules.{byteOf}
+use Rattle.single.specs.RuleLaws.{clamped-keeps}
+use Rattle.single.specs.ByteLaws.{byte-near}
+use Rattle.points.specs.declared.Point.{Point}
+use Rattle.points.specs.Points.{kept}
+use Rattle.points.specs.Knots.{knots, xOf, xRow, OnLine}
+use Rattle.points.specs.Order.{All, Bytes}
+use Rattle.points.specs.Kept.{kept-is-kept}
+use Rattle.points.specs.Line.{line-width}
+use Rattle.hermite.specs.Rows.{fineHeight, x-most}
+use Rattle.hermite.specs.Segments.{at}
+use Rattle.hermite.specs.SegmentLaws.{InRange, nonnegative-is}
+use Rattle.hermite.specs.Samples.{sample-256, sample-4096}
+use Rattle.hermite.specs.StraightLaws.{exactLine, straight-finite, straight-in-range, straight-close}
+use Rattle.hermite.specs.ListLaws.{straightOf}
+use Rattle.tables.specs.declared.CurveInterpolation.the-variants.{Linear}
+use Rattle.sampling.specs.Pieces.{sampled}
+use Rattle.tables.specs.Tables.{unclampedAt, sampleOf, entryOf}
+use Rattle.table_facts.specs.Given.{position, position-is, linear-height, given-rows}
+use Rattle.table_facts.specs.Line.{LineAt, at-byte}
+
+-- ---- over whole numbers
+-- a distance K from a, in parts of e, is k in parts of c
+same-distance : (K k a c e t p : ℕ) → a * e + K ≡ t → a * c + k ≡ p → t * c ≡ p * e → K * c ≡ k * e
+same-distance K k a c e t p f g h = omega (arith, ap (λ (z : ℕ). z * c) f, ap (λ (z : ℕ). z * e) g)
+
+-- K / W of the way from y0 to y1 is k / w of the way, where the height is n / (256 * w)
+same-height : (y0 y1 K W k w n : ℕ) (z : Float) → 0 < W → K * w ≡ k * W → n + y0 * k ≡ y0 * w + y1 * k
+    → Close 1 16384 (val z) (exactLine y0 y1 K W) → Close 1 16384 (val z) (frac n 0 (256 * w))
+same-height y0 y1 K W k w n z some e h near =
+    let f = ap (λ (t : ℕ). t * W) h in
+    let g = ap (λ (t : ℕ). y0 * t) e in
+    let i = ap (λ (t : ℕ). y1 * t) e in
+    close-same 1 16384 (val z) (exactLine y0 y1 K W) (frac n 0 (256 * w)) (omega arith) near (omega arith) (omega arith)
+
+-- a float that is not below 0 has no negative part
+unsigned : (x : Float) → T (finite x) → T (le 𝟎 x) → bot x ≡ 0
+unsigned x f low = eq-of-mul-eq-mul-right (den x) (den-pos x) (bot x) 0 (omega (arith, nonnegative-is x f low .1))
+
+-- the byte of a float from 0 to 255 is nearest to it
+byte-of-range : (z : Float) → T (finite z) → T (le 𝟎 z) → T (le z 𝟐𝟓𝟓) → Nearest (byteOf z) (val z)
+byte-of-range z f low high =
+    let i = nonnegative-is z f low in
+    let near = byte-near z (top z) (den z) (den-pos z) (omega (arith, is-of-le z 𝟐𝟓𝟓 (top z) 0 (den z) 255 0 1 i 𝟐𝟓𝟓-is high)) i in
+    (omega (arith, near .0, unsigned z f low), omega (arith, near .1, unsigned z f low))
+
+module _ (l : List Point) (bytes : All Bytes l) where
+  abbrev ks : List Point
+  ks = knots (kept l)
+
+  -- clamping changes no sample
+  pub sample-unclamped : (S v : ℕ) → InRange (position S v) → sampleOf Linear l S v ≡ unclampedAt Linear l (position S v)
+  unfolding sampleOf sampled
+  sample-unclamped S v r =
+      let b = straight-in-range (given-rows l bytes) (position S v) r in
+      clamped-keeps (unclampedAt Linear l (position S v)) (rw (linear-height l (position S v)) (b .0)) (rw (linear-height l (position S v)) (b .1))
+
+  sample-straight : (S v : ℕ) → InRange (position S v) → sampleOf Linear l S v ≡ straightOf (kept l) (position S v)
+  sample-straight S v r = sample-unclamped S v r ∙ linear-height l (position S v)
+
+  -- ---- for any S, where the sample stands at p / c
+  pub sample-near : (S v : ℕ) → InRange (position S v) → (p c n d : ℕ) → 0 < c → Is (position S v) p 0 c → LineAt (kept l) p c n d
+      → Close 1 16384 (val (sampleOf Linear l S v)) (frac n 0 (256 * d))
+  sample-near S v r p c n d C e o =
+      let rows = given-rows l bytes in
+      let x = position S v in
+      let i = o .i in
+      let a = xOf ks i in
+      let b = xOf ks (i + 1) in
+      let next : suc i ≡ i + 1 = sym (add-one i) in
+      let inside : i + 1 < length ks = rw next at (o .inside) in
+      let right : p ≤ b * c = rw next at (o .right) in
+      let width : d ≡ (b - a) * c = rw next at (o .width) in
+      let a-is = rows .x-is i (omega arith) in
+      let low = le-of-is (at (xRow ks) i) x a 0 1 p 0 c (lit< tt) C a-is e (omega (arith, o .left)) in
+      let high = le-of-is x (at (xRow ks) (i + 1)) p 0 c b 0 1 C (lit< tt) e (rows .x-is (i + 1) inside) (omega arith) in
+      let own-left = is-of-le (at (xRow ks) i) x a 0 1 (top x) 0 (den x) a-is (nonnegative-is x (e .0) (r .low)) low in
+      let positive = ap (λ (t : ℕ). t * c) (unsigned x (e .0) (r .low)) in
+      let far : (top x - a * den x) * c ≡ (p - a * c) * den x =
+      same-distance (top x - a * den x) (p - a * c) a c (den x) (top x) p
+      (add-sub-of-le (omega (arith, own-left))) (add-sub-of-le (o .left)) (omega (arith, e .1, positive)) in
+      let apart : 0 < b - a = omega (arith, rows .rising i (i + 1) (omega arith) inside) in
+      rw (sample-straight S v r)
+      (rw width
+      (same-height (fineHeight ks i) (fineHeight ks (i + 1)) (top x - a * den x) ((b - a) * den x) (p - a * c) ((b - a) * c) n (straightOf (kept l) x)
+      (mul-pos apart (den-pos x)) (omega (arith, ap (λ (t : ℕ). (b - a) * t) far)) (rw (next, width) at (o .height))
+      (straight-close rows x r i inside low high)))
+
+  -- of 256 samples, where sample v stands at v ..
+  pub byte-sample-near : (v : ℕ) → v < 256 → (n d : ℕ) → OnLine (kept l) v n d → Close 1 16384 (val (sampleOf Linear l 256 v)) (frac n 0 d)
+  byte-sample-near v h n d o =
+      close-same 1 16384 (val (sampleOf Linear l 256 v)) (frac (256 * n) 0 (256 * d)) (frac n 0 d)
+      (omega (arith, line-width (kept l) (kept-is-kept l bytes) v n d o))
+      (sample-near 256 v (sample-256 v h) v 1 (256 * n) d (lit< tt) (position-is v h) (at-byte (kept l) v n d o))
+      (omega arith) (omega arith)
+
+  -- .. and of 4,096
+  pub fine-sample-near : (v : ℕ) → v < 4096 → (p c n d : ℕ) → 0 < c → Is (position 4096 v) p 0 c → LineAt (kept l) p c n d
+      → Close 1 16384 (val (sampleOf Linear l 4096 v)) (frac n 0 (256 * d))
+  fine-sample-near v h = sample-near 4096 v (sample-4096 v h)
+
+  -- ---- an entry is the whole number nearest to the line, at an exact half one of the two nearest
+  pub entry-near : (v : ℕ) → v < 256 → (n d : ℕ) → OnLine (kept l) v n d → Nearest (entryOf Linear l v) (frac n 0 d)
+  unfolding entryOf
+  entry-near v h n d o =
+      let rows = given-rows l bytes in
+      let x = position 256 v in
+      let r = sample-256 v h in
+      let z = sampleOf Linear l 256 v in
+      let b = straight-in-range rows x r in
+      let same = sample-straight 256 v r in
+      nearest (byteOf z) (val z) (frac n 0 d) (den-pos z)
+      (byte-of-range z (rw same (straight-finite rows x r)) (rw same (b .0)) (rw same (b .1)))
+      (byte-sample-near v h n d o) (omega (arith, o .width, x-most rows (suc (o .i)) (o .inside)))

@@ -1,0 +1,40 @@
+-- Linear, where no kept point is lower than the one before it: no sample is lower than one before it, and no entry, across segments too.
+use mathlib.Core.List.{List}
+use Prim.Native.Nat.{ℕ, _≤_, _<_}
+use native.Mathlib.Omega.{arith}
+use lib.Dec.{T, lit≤}
+use lib.Ieee.{le}
+use Rattle.single.specs.RuleLaws.{clamped-le}
+use Rattle.single.specs.ByteLaws.{byte-le}
+use Rattle.points.specs.declared.Point.{Point}
+use Rattle.points.specs.Points.{kept}
+use Rattle.points.specs.Order.{All, Bytes, NeverFalls}
+use Rattle.points.specs.Kept.{kept-is-kept}
+use Rattle.hermite.specs.SegmentLaws.{InRange}
+use Rattle.hermite.specs.Samples.{sample-256, sample-4096, sample-le}
+use Rattle.hermite.specs.ListLaws.{straight-rises}
+use Rattle.tables.specs.declared.CurveInterpolation.the-variants.{Linear}
+use Rattle.sampling.specs.Pieces.{sampled}
+use Rattle.tables.specs.Tables.{unclampedAt, sampleOf, entryOf}
+use Rattle.table_facts.specs.Given.{position, linear-height}
+
+module _ (l : List Point) (bytes : All Bytes l) (never-falls : NeverFalls (kept l)) where
+  -- ---- for any S
+  pub sample-order : (S : ℕ) → 2 ≤ S → S ≤ 4096 → (v w : ℕ) → v ≤ w → w < S → InRange (position S v) → InRange (position S w)
+      → T (le (sampleOf Linear l S v) (sampleOf Linear l S w))
+  unfolding sampleOf sampled
+  sample-order S two most v w h k p q =
+      clamped-le (unclampedAt Linear l (position S v)) (unclampedAt Linear l (position S w))
+      (rw (linear-height l (position S v), linear-height l (position S w))
+      (straight-rises (kept l) (kept-is-kept l bytes) never-falls (position S v) (position S w) p q (sample-le S two (omega arith) v w h (omega arith))))
+
+  pub byte-sample-order : (v w : ℕ) → v ≤ w → w < 256 → T (le (sampleOf Linear l 256 v) (sampleOf Linear l 256 w))
+  byte-sample-order v w h k = sample-order 256 (lit≤ tt) (lit≤ tt) v w h k (sample-256 v (omega arith)) (sample-256 w k)
+
+  pub fine-sample-order : (v w : ℕ) → v ≤ w → w < 4096 → T (le (sampleOf Linear l 4096 v) (sampleOf Linear l 4096 w))
+  fine-sample-order v w h k = sample-order 4096 (lit≤ tt) (lit≤ tt) v w h k (sample-4096 v (omega arith)) (sample-4096 w k)
+
+  -- ---- the byte table never falls
+  pub entry-order : (v w : ℕ) → v ≤ w → w < 256 → entryOf Linear l v ≤ entryOf Linear l w
+  unfolding entryOf
+  entry-order v w h k = byte-le (sampleOf Linear l 256 v) (sampleOf Linear l 256 w) (byte-sample-order v w h k)
