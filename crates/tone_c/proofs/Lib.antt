@@ -1,0 +1,3 @@
+mod Pairs
+mod Copied
+mod Checks
