@@ -1,3 +1,5 @@
 pub mod Tabulate
 pub mod Each
 pub mod Stored
+pub mod Replaced
+pub mod Part

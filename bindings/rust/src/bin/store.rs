@@ -1,0 +1,81 @@
+//! Stores a sample of the Rust original's answers for the program `replay` of the gate.
+//!
+//! `cargo run --release --bin store` writes `crates/replay/stdin`, the questions, and `crates/replay/stdout`, what the original answers.
+//! The port has no part in it.
+//!
+//! A question is a line of 135 bytes in hexadecimal: the kind's number, the tension, the start slope and the end slope (two bytes each, low byte
+//! first), the count of points, and 64 x, y pairs, zeros past the count. The answer is a line: the 256 entries of the byte table in hexadecimal, and
+//! FNV-1a digests (64 bits, over the bit patterns, low byte first) of the table of 256 samples, of that of 4,096 samples, and of 256 lookups in the latter.
+#[cfg(not(original))]
+fn main() {
+    eprintln!("the original's text is not at hand: name its folder by TONE_ORIGINAL");
+    std::process::exit(2);
+}
+
+#[cfg(original)]
+fn main() {
+    beside::main();
+}
+
+#[cfg(original)]
+mod beside {
+    use std::fs;
+    use std::path::Path;
+    use tone::original::{curves, lookup};
+    use tone::trial::{any_list, kind, Question, Random};
+
+    const SEED: u64 = 3;
+    const LISTS_A_KIND: usize = 36;
+
+    pub fn main() {
+        let mut random = Random::new(SEED);
+        let (mut asked, mut answered) = (String::new(), String::new());
+        for _ in 0..LISTS_A_KIND {
+            for number in 0..10 {
+                let question = Question { kind: kind(number, &mut random), points: any_list(&mut random) };
+                asked += &(hex(&bytes_of(&question)) + "\n");
+                answered += &(answer(&question) + "\n");
+            }
+        }
+        let folder = Path::new(env!("CARGO_MANIFEST_DIR")).join("../../crates/replay");
+        fs::write(folder.join("stdin"), asked).expect("stdin written");
+        fs::write(folder.join("stdout"), answered).expect("stdout written");
+        println!("{} questions of seed {SEED}, {LISTS_A_KIND} for each kind, and the original's answers", LISTS_A_KIND * 10);
+    }
+
+    fn bytes_of(question: &Question) -> Vec<u8> {
+        let kind = question.kind;
+        let mut bytes = vec![kind.number, kind.tension];
+        bytes.extend(kind.start_slope.to_le_bytes());
+        bytes.extend(kind.end_slope.to_le_bytes());
+        bytes.push((question.points.len() / 2) as u8);
+        bytes.extend(&question.points);
+        bytes.resize(135, 0);
+        bytes
+    }
+
+    fn answer(question: &Question) -> String {
+        let curve = curves::curve(&question.points);
+        let coarse = curves::fine_table(&curve, question.kind, 256);
+        let fine = curves::fine_table(&curve, question.kind, 4096);
+        let looked: Vec<f32> = values().map(|v| lookup::lookup(&fine, v)).collect();
+        let bytes = hex(&curves::byte_table(&curve, question.kind));
+        format!("{bytes} {:016x} {:016x} {:016x}", digest(&coarse), digest(&fine), digest(&looked))
+    }
+
+    /// From below 0 to above 1.
+    fn values() -> impl Iterator<Item = f32> {
+        (0..256).map(|k| (k as f32 - 16.0) / 224.0)
+    }
+
+    fn hex(bytes: &[u8]) -> String {
+        bytes.iter().map(|b| format!("{b:02x}")).collect()
+    }
+
+    /// FNV-1a. All NaN count as one.
+    fn digest(floats: &[f32]) -> u64 {
+        let bits = floats.iter().map(|v| if v.is_nan() { 0x7FC0_0000 } else { v.to_bits() });
+        let bytes = bits.flat_map(u32::to_le_bytes);
+        bytes.fold(0xCBF2_9CE4_8422_2325, |h, b| (h ^ u64::from(b)).wrapping_mul(0x0000_0100_0000_01B3))
+    }
+}

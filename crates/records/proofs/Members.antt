@@ -1,0 +1,71 @@
+-- A set with one member replaced goes on passing the check; so does the empty set.
+use mathlib.Core.Path.{_≡_, ap}
+use mathlib.Core.Option.{none}
+use Prim.Native.Nat.{ℕ}
+use native.Mathlib.Omega.{arith}
+use lib.ListN.{length}
+use Rattle.answers.specs.declared.Answer.the-variants.{Done}
+use Rattle.single.specs.RuleLaws.{by-test}
+use Rattle.points.specs.declared.Curve.{Curve}
+use Rattle.tables.specs.declared.CurveInterpolation.{CurveInterpolation}
+use Rattle.points.specs.Points.{limit}
+use Rattle.sets.specs.declared.Channel.{Channel}
+use Rattle.sets.specs.declared.Colour.{Colour}
+use Rattle.sets.specs.declared.Colour.the-variants.{Red, Green, Blue}
+use Rattle.sets.specs.declared.Curves.{Curves}
+use Rattle.sets.specs.Legal.{Passed, passed-set}
+use Rattle.sets.specs.Sets.{
+  View,
+  viewOf,
+  channelOf,
+  emptyView,
+  replaceMaster,
+  replaceColour,
+  replaceKind,
+  curveAnswer,
+  channelAnswer,
+  setAnswer,
+}
+use Rattle.records.proofs.Lists.{empty-passes}
+
+set-passes : (s : Curves) → Passed s → setAnswer s ≡ Done
+unfolding setAnswer
+set-passes s p = rw (p .master, p .red, p .green) (p .blue)
+
+-- ---- one member replaced
+pub master-passes : (c : Curve) (s : Curves) → curveAnswer c ≡ Done → setAnswer s ≡ Done → setAnswer (replaceMaster c s) ≡ Done
+master-passes c s new e =
+    let p = passed-set s e in
+    set-passes (replaceMaster c s) (record { master = new; red = p .red; green = p .green; blue = p .blue })
+
+pub channel-passes : (c : Channel) → curveAnswer (c .curve) ≡ Done → channelAnswer c ≡ Done
+unfolding channelAnswer
+channel-passes c e = by-test (c .present) (λ t. rw t e) (λ t. rw t)
+
+colour-passed : (colour : Colour) (c : Channel) (s : Curves) → channelAnswer c ≡ Done → Passed s → Passed (replaceColour colour c s)
+colour-passed Red c s new p = record { master = p .master; red = new; green = p .green; blue = p .blue }
+colour-passed Green c s new p = record { master = p .master; red = p .red; green = new; blue = p .blue }
+colour-passed Blue c s new p = record { master = p .master; red = p .red; green = p .green; blue = new }
+
+pub colour-passes : (colour : Colour) (c : Channel) (s : Curves) → channelAnswer c ≡ Done → setAnswer s ≡ Done
+    → setAnswer (replaceColour colour c s) ≡ Done
+colour-passes colour c s new e = set-passes (replaceColour colour c s) (colour-passed colour c s new (passed-set s e))
+
+pub kind-passes : (k : CurveInterpolation) (s : Curves) → setAnswer s ≡ Done → setAnswer (replaceKind k s) ≡ Done
+unfolding setAnswer
+kind-passes k s e = e
+
+-- ---- the empty set
+absent-passes : (c : Channel) → channelOf c ≡ none → channelAnswer c ≡ Done
+unfolding channelAnswer
+absent-passes c e = by-test (c .present) (λ t. let z : _≡_ {A = ℕ} 0 1 = cc (rw t at e) in absurd (omega arith)) (λ t. rw t)
+
+pub empty-set-passes : (s : Curves) → length (s .master .points) ≡ limit → viewOf s ≡ emptyView → setAnswer s ≡ Done
+empty-set-passes s long e =
+    set-passes s
+    (record {
+      master = empty-passes (s .master) long (ap (λ (v : View). v .master) e);
+      red = absent-passes (s .red) (ap (λ (v : View). v .red) e);
+      green = absent-passes (s .green) (ap (λ (v : View). v .green) e);
+      blue = absent-passes (s .blue) (ap (λ (v : View). v .blue) e);
+    })

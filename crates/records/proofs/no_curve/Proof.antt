@@ -1,0 +1,16 @@
+-- `no_curve` meets its contract: an empty list passes the check.
+use mathlib.Core.Path.{_≡_, refl}
+use borrow.Author.Needs.{needs}
+use lib.ListN.{length}
+use Rattle.points.specs.Owned.{length-told}
+use Rattle.records.proofs.Lists.{empty-passes}
+use Rattle.records.proofs.no_curve.Statement.{statement}
+use Rattle.records.proofs.no_curve.Tie as tie
+
+returns : tie.Need-returns
+returns c =
+    let long : length (c .empty .result .points) ≡ 64 = search (needs, length-told) in
+    (refl, empty-passes (c .empty .result) long (c .empty .ensures))
+
+pub no-curve-spec : {M : Type 1} → statement M
+no-curve-spec = tie.close (tie.spec (λ c κs. search needs) returns)

@@ -1,0 +1,19 @@
+-- `read_field` meets its contract.
+use mathlib.Core.Path.{_≡_}
+use borrow.Author.Needs.{needs}
+use lib.ListN.{length}
+use Rattle.points.specs.Owned.{length-told}
+use Rattle.records.proofs.Lists.{empty-passes}
+use Rattle.records.proofs.read_field.Statement.{statement}
+use Rattle.records.proofs.read_field.Tie as tie
+
+returns : tie.Need-returns
+returns c = rw (c .before .if1 .taken) (c .read-curve .ensures)
+
+returns-2 : tie.Need-returns-2
+returns-2 c =
+    let long : length (c .empty .result .points) ≡ 64 = search (needs, length-told) in
+    record { list = rw (c .before .if1 .left, c .empty .ensures); legal = empty-passes (c .empty .result) long (c .empty .ensures) }
+
+pub read-field-spec : {M : Type 1} → statement M
+read-field-spec = tie.close (tie.spec (λ c κs. search needs) (λ c κs. search needs) returns returns-2)

@@ -1,0 +1,14 @@
+-- `read_point` meets its contract.
+use native.Mathlib.Nat.{add-zero}
+use borrow.Author.Needs.{needs}
+use lib.Seq.{getD-drop}
+use Rattle.records.proofs.read_point.Statement.{statement}
+use Rattle.records.proofs.read_point.Tie as tie
+
+returns : tie.Need-returns
+returns c =
+    let a = c .before .before .args in
+    rw (getD-drop (a .at) (a .s .now) 0 0, getD-drop (a .at) (a .s .now) 1 0, add-zero (a .at))
+
+pub read-point-spec : {M : Type 1} → statement M
+read-point-spec = tie.close (tie.spec (λ c. search needs) (λ c. search needs) (λ c. search needs) returns)

@@ -1,0 +1,50 @@
+-- `read_slopes` meets its contract.
+use mathlib.Core.Path.{_≡_, sym}
+use native.Mathlib.Omega.{arith}
+use borrow.Author.Needs.{needs}
+use mir.Syntax.{w16}
+use mir.Val.{toZ, ofZ}
+use Rattle.records.proofs.Kind.{slopes-short, slopes-at}
+use Rattle.records.proofs.read_slopes.Statement.{statement}
+use Rattle.records.proofs.read_slopes.Tie as tie
+
+returns : tie.Need-returns
+returns c =
+    let a = c .before .before .before .args in
+    rw (c .no-kind .ensures) (sym (slopes-short (a .at) (a .s .now) (omega arith)))
+
+returns-2 : tie.Need-returns-2
+returns-2 c =
+    let a = c .before .before .before .before .args in
+    rw (c .no-kind2 .ensures) (sym (slopes-short (a .at) (a .s .now) (omega arith)))
+
+returns-3 : tie.Need-returns-3
+returns-3 c =
+    let b = c .before .before .before in
+    let a = b .before .before .before .before .before .before .args in
+    let x = b .slope in
+    let y = c .slope2 in
+    let start : toZ w16 (ofZ w16 (x .result)) ≡ x .result = search needs in
+    let end : toZ w16 (ofZ w16 (y .result)) ≡ y .result = search needs in
+    rw (start, end, x .ensures, y .ensures) (sym (slopes-at (a .at) (a .s .now) (omega arith)))
+
+pub read-slopes-spec : {M : Type 1} → statement M
+read-slopes-spec =
+    tie.close
+    (tie.spec
+    (λ c κs. search needs)
+    returns
+    (λ c. search needs)
+    (λ c κs. search needs)
+    returns-2
+    (λ c. search needs)
+    (λ c. search needs)
+    (λ c. search needs)
+    (λ c. search needs)
+    (λ c κs. search needs)
+    (λ c. search needs)
+    (λ c. search needs)
+    (λ c. search needs)
+    (λ c. search needs)
+    (λ c κs. search needs)
+    returns-3)

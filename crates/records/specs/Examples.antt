@@ -1,0 +1,116 @@
+-- P10 and P11 of document 01; for each refusal a record that has it; and the order of the refusals within a field.
+use Prim.Native.Nat.{ℕ}
+use mathlib.Core.Path.{_≡_, refl}
+use mathlib.Core.List.{[], _∷_}
+use mathlib.Core.Option.{some}
+use lib.IntN.{pos, negsuc}
+use Rattle.answers.specs.declared.Answer.the-variants.{
+  Done,
+  ReservedBit,
+  RecordTruncated,
+  PointCount,
+  PointsNotRising,
+  UnknownKind,
+  FieldMismatch,
+  TrailingBytes,
+}
+use Rattle.points.specs.Points.{straight, risesFrom}
+use Rattle.tables.specs.declared.CurveInterpolation.the-variants.{Linear, Cardinal, ClampedCubic}
+use Rattle.sets.specs.declared.Colour.the-variants.{Red}
+use Rattle.sets.specs.Sets.{emptyView, masterOnly, withColour, withKind}
+use Rattle.records.specs.Format.{
+  pairs,
+  readPoints,
+  readList,
+  readNumber,
+  readTension,
+  readSlopes,
+  readCarried,
+  readKind,
+  readFields,
+  readRecord,
+  result,
+  refused,
+}
+
+pub P10 : readRecord (0x11 ∷ 2 ∷ 0 ∷ 0 ∷ 0xff ∷ 0xff ∷ 0 ∷ []) ≡ record { answer = Done; set = withKind Linear (masterOnly straight) }
+unfolding readRecord readFields readList readPoints pairs readKind readNumber readCarried risesFrom
+P10 = refl
+
+-- "with one byte more, 7"
+pub P10-longer : (b : ℕ) → readRecord (0x11 ∷ 2 ∷ 0 ∷ 0 ∷ 0xff ∷ 0xff ∷ 0 ∷ b ∷ []) ≡ result (refused TrailingBytes)
+unfolding readRecord readFields readList readPoints pairs readKind readNumber readCarried risesFrom
+P10-longer b = refl
+
+pub P11 : readRecord (0x80 ∷ []) ≡ result (refused ReservedBit)
+unfolding readRecord
+P11 = refl
+
+-- ---- accepted
+-- "a count of 0 being an empty one"
+pub red-empty : readRecord (2 ∷ 0 ∷ []) ≡ record { answer = Done; set = withColour Red (some []) emptyView }
+unfolding readRecord readFields readList readPoints pairs readKind readNumber readCarried risesFrom
+red-empty = refl
+
+pub cardinal : readRecord (0x30 ∷ 7 ∷ 128 ∷ []) ≡ record { answer = Done; set = withKind (Cardinal 128) emptyView }
+unfolding readRecord readFields readKind readNumber readCarried readTension
+cardinal = refl
+
+pub clamped : readRecord (0x50 ∷ 8 ∷ 0x00 ∷ 0x80 ∷ 0xff ∷ 0x7f ∷ [])
+    ≡ record { answer = Done; set = withKind (ClampedCubic (negsuc 32767) (pos 32767)) emptyView }
+unfolding readRecord readFields readKind readNumber readCarried readSlopes
+clamped = refl
+
+-- ---- 2, 3 and 4 of a list
+pub no-map : readRecord [] ≡ result (refused RecordTruncated)
+unfolding readRecord
+no-map = refl
+
+pub no-count : readRecord (1 ∷ []) ≡ result (refused RecordTruncated)
+unfolding readRecord readFields readList
+no-count = refl
+
+pub master-none : readRecord (1 ∷ 0 ∷ []) ≡ result (refused PointCount)
+unfolding readRecord readFields readList readPoints
+master-none = refl
+
+-- 3 comes before missing points
+pub too-many : readRecord (1 ∷ 65 ∷ []) ≡ result (refused PointCount)
+unfolding readRecord readFields readList readPoints
+too-many = refl
+
+-- missing points come before 4
+pub one-missing : readRecord (1 ∷ 3 ∷ 9 ∷ 0 ∷ 9 ∷ 0 ∷ []) ≡ result (refused RecordTruncated)
+unfolding readRecord readFields readList readPoints pairs risesFrom
+one-missing = refl
+
+pub not-rising : readRecord (1 ∷ 2 ∷ 9 ∷ 0 ∷ 9 ∷ 0 ∷ []) ≡ result (refused PointsNotRising)
+unfolding readRecord readFields readList readPoints pairs risesFrom
+not-rising = refl
+
+-- ---- 2, 5 and 6 of a kind
+pub no-kind-byte : readRecord (0x10 ∷ []) ≡ result (refused RecordTruncated)
+unfolding readRecord readFields readKind readNumber
+no-kind-byte = refl
+
+-- 5 comes before 6
+pub unknown-kind : readRecord (0x30 ∷ 10 ∷ []) ≡ result (refused UnknownKind)
+unfolding readRecord readFields readKind readNumber
+unknown-kind = refl
+
+-- 6 comes before missing slopes: bit 6 stands with Cardinal
+pub bits-disagree : readRecord (0x50 ∷ 7 ∷ []) ≡ result (refused FieldMismatch)
+unfolding readRecord readFields readKind readNumber
+bits-disagree = refl
+
+pub bit-without-kind : readRecord (0x20 ∷ []) ≡ result (refused FieldMismatch)
+unfolding readRecord readFields readKind readNumber
+bit-without-kind = refl
+
+pub no-tension : readRecord (0x30 ∷ 7 ∷ []) ≡ result (refused RecordTruncated)
+unfolding readRecord readFields readKind readNumber readCarried readTension
+no-tension = refl
+
+pub slope-cut : readRecord (0x50 ∷ 8 ∷ 0 ∷ 0 ∷ 0 ∷ []) ≡ result (refused RecordTruncated)
+unfolding readRecord readFields readKind readNumber readCarried readSlopes
+slope-cut = refl

@@ -1,0 +1,50 @@
+-- How the structs of the code stand for what `Format` speaks of. s is the whole input.
+use Prim.Native.Nat.{ℕ}
+use mathlib.Core.Path.{_≡_}
+use mathlib.Core.List.{List}
+use mathlib.Core.Bool.{cond}
+use lib.ListN.{drop}
+use Rattle.answers.specs.declared.Answer.{Answer}
+use Rattle.answers.specs.declared.Answer.the-variants.{Done}
+use Rattle.answers.specs.Numbers.{isDone}
+use Rattle.points.specs.declared.Point.{Point}
+use Rattle.points.specs.Points.{listOf}
+use Rattle.tables.specs.declared.CurveInterpolation.{CurveInterpolation}
+use Rattle.sets.specs.Sets.{View, viewOf, curveAnswer, setAnswer}
+use Rattle.sets.specs.SameLaws.{Full}
+use Rattle.records.specs.declared.CurveRead.{CurveRead}
+use Rattle.records.specs.declared.NumberRead.{NumberRead}
+use Rattle.records.specs.declared.KindRead.{KindRead}
+use Rattle.records.specs.declared.Reading.{Reading}
+use Rattle.records.specs.declared.RecordRead.{RecordRead}
+use Rattle.records.specs.Format.{Parse, good, refused, _▷_, Read}
+
+-- a value and what follows it from a position on, where the answer is Done
+abbrev pub parsed : {A : Type 0} → Answer → A → List ℕ → ℕ → Parse A
+parsed a v s next = cond (isDone a) (good v (drop next s)) (refused a)
+
+abbrev pub numberParsed : List ℕ → NumberRead → Parse ℕ
+numberParsed s r = parsed (r .answer) (r .number) s (r .next)
+
+abbrev pub kindParsed : List ℕ → KindRead → Parse CurveInterpolation
+kindParsed s r = parsed (r .answer) (r .kind) s (r .next)
+
+abbrev pub setParsed : List ℕ → Reading → Parse View
+setParsed s r = parsed (r .answer) (viewOf (r .set)) s (r .next)
+
+-- a list is read as p says, and passes the check of a set's list, refused or not
+pub record ListRead (s : List ℕ) (p : Parse (List Point)) (r : CurveRead) : Type 0 where
+  pub list : parsed (r .answer) (listOf (r .curve)) s (r .next) ≡ p
+  pub legal : curveAnswer (r .curve) ≡ Done
+
+-- one field more is read, and a set that passes the check goes on passing it
+pub record ReadOn (s : List ℕ) (step : View → List ℕ → Parse View) (before after : Reading) : Type 0 where
+  pub field : setParsed s after ≡ (setParsed s before ▷ step)
+  pub legal : setAnswer (before .set) ≡ Done → setAnswer (after .set) ≡ Done
+
+-- what a reader hands back: answer and set, and, on a refusal too, that the set passes the check and is stored as the types have it
+pub record HandedBack (r : Read) (handed : RecordRead) : Type 0 where
+  pub answer : handed .answer ≡ r .answer
+  pub set : viewOf (handed .set) ≡ r .set
+  pub legal : setAnswer (handed .set) ≡ Done
+  pub full : Full (handed .set)

@@ -1,0 +1,87 @@
+-- `rows::tone_block_into` meets its contract: the copy is the original, and then it is toned.
+use native.Mathlib.Omega.{arith}
+use borrow.Author.Needs.{needs}
+use mathlib.Core.Path.{_∙_}
+use native.Mathlib.Nat.{mod-one}
+use Rattle.rows.specs.Bytes.{three, rowByte, plainByte}
+use Rattle.rows.specs.Rows.{alphaOf}
+use Rattle.rows.proofs.Walk.{plain-row, copied-each, four}
+use Rattle.rows.proofs.tone_block_into.Statement.{statement}
+use Rattle.rows.proofs.tone_block_into.Tie as tie
+
+copy-bytes-requires : tie.Need-copy-bytes-requires
+copy-bytes-requires c κs = search needs
+
+tone-bytes-requires : tie.Need-tone-bytes-requires
+tone-bytes-requires c κs = search needs
+
+same-length : tie.Need-same-length
+same-length c = search needs
+
+returns : tie.Need-returns
+unfolding alphaOf
+returns c =
+    let k = c .before .before in
+    let test = k .before .before in
+    let copy = test .before .before .before in
+    let given = copy .before .before .before .before .args in
+    let tables = three (given .red .now) (given .green .now) (given .blue .now) in
+    rw (test .if1 .taken)
+    (copied-each (plainByte (given .red .now)) (given .src .now) (given .dst .now) (omega arith) (copy .copy-bytes .ensures) (k .tone-bytes .ensures)
+    ∙ plain-row 1 1 tables (given .red .now) (given .src .now) (omega arith) (omega arith) (λ x. rw (mod-one x)))
+
+tone-colours-requires : tie.Need-tone-colours-requires
+tone-colours-requires c κs =
+    let start = c .before .before .before .before .before .before .before .before .before in
+    let size = rw (c .before .if2 .taken) at (start .pre .2) in
+    omega arith
+
+tone-colours-alpha-requires : tie.Need-tone-colours-alpha-requires
+tone-colours-alpha-requires c κs =
+    let start = c .before .before .before .before .before .before .before .before .before in
+    let size = rw (four (start .pre .0) (c .before .before .if1 .left) (c .before .if2 .left)) at (start .pre .2) in
+    omega arith
+
+same-length-2 : tie.Need-same-length-2
+same-length-2 c = search needs
+
+returns-2 : tie.Need-returns-2
+unfolding alphaOf
+returns-2 c =
+    let k = c .before .before in
+    let test = k .before .before in
+    let copy = test .before .before .before .before in
+    let given = copy .before .before .before .before .args in
+    let tables = three (given .red .now) (given .green .now) (given .blue .now) in
+    rw (test .if2 .taken)
+    (copied-each (rowByte 3 3 tables) (given .src .now) (given .dst .now) (omega arith) (copy .copy-bytes .ensures) (k .tone-colours .ensures))
+
+same-length-3 : tie.Need-same-length-3
+same-length-3 c = search needs
+
+returns-3 : tie.Need-returns-3
+unfolding alphaOf
+returns-3 c =
+    let k = c .before .before in
+    let test = k .before .before in
+    let copy = test .before .before .before .before in
+    let start = copy .before .before .before .before in
+    let given = start .args in
+    let tables = three (given .red .now) (given .green .now) (given .blue .now) in
+    rw (four (start .pre .0) (test .before .if1 .left) (test .if2 .left))
+    (copied-each (rowByte 4 3 tables) (given .src .now) (given .dst .now) (omega arith) (copy .copy-bytes .ensures) (k .tone-colours-alpha .ensures))
+
+pub tone-block-into-spec : {M : Type 1} → statement M
+tone-block-into-spec =
+    tie.close
+    (tie.spec
+    copy-bytes-requires
+    tone-bytes-requires
+    same-length
+    returns
+    tone-colours-requires
+    tone-colours-alpha-requires
+    same-length-2
+    returns-2
+    same-length-3
+    returns-3)

@@ -1,0 +1,62 @@
+-- `rows::tone_grey_alpha` meets its contract: pixel after pixel, one byte toned and one kept.
+use native.Mathlib.Omega.{arith}
+use borrow.Author.Needs.{needs}
+use mathlib.Core.Path.{refl}
+use Prim.Native.Nat.{_≤_, _-_, _*_}
+use Rattle.lists.specs.Replaced.{Replaced, replaced-none, replaced-end, replaced-each}
+use Rattle.rows.specs.Bytes.{same, rowByte, plainByte}
+use Rattle.rows.proofs.Walk.{pixel-next}
+use Rattle.rows.proofs.tone_grey_alpha.Statement.{statement}
+use Rattle.rows.proofs.tone_grey_alpha.Tie as tie
+
+abbrev Inv-loop : tie.InvT-loop
+Inv-loop s₀ w table x₀ s x = (x ≤ w) × Replaced 0 (rowByte 2 1 (same table)) 0 (x * 2) s₀ s
+
+abbrev μ-loop : tie.MeasureT-loop
+μ-loop s₀ w table x₀ s x = w - x
+
+loop-holds : tie.Need-loop-holds Inv-loop μ-loop
+loop-holds c = (search needs, replaced-none)
+
+mul-tone-one : tie.Need-mul-tone-one Inv-loop μ-loop
+mul-tone-one c = search needs
+
+tone-one-requires : tie.Need-tone-one-requires Inv-loop μ-loop
+tone-one-requires c κs = search needs
+
+add-x : tie.Need-add-x Inv-loop μ-loop
+add-x c = search needs
+
+loop-less : tie.Need-loop-less Inv-loop μ-loop
+loop-less c = search needs
+
+loop-again : tie.Need-loop-again Inv-loop μ-loop
+unfolding plainByte
+loop-again c =
+    let k = c .before .before in
+    let start = k .before .before .before in
+    let r =
+    pixel-next 2 1 (same (start .before .before .args .table .now)) (start .loop .x) refl (start .loop .inv .1) (k .tone-one .ensures)
+    (omega arith) (omega arith) (λ j low high. omega arith) (λ j lt b. refl) in
+    (search needs, replaced-end r (omega arith))
+
+same-length : tie.Need-same-length Inv-loop μ-loop
+same-length c = search needs
+
+returns : tie.Need-returns Inv-loop μ-loop
+returns c = replaced-each (c .before .loop .inv .1) (omega arith)
+
+pub tone-grey-alpha-spec : {M : Type 1} → statement M
+tone-grey-alpha-spec =
+    tie.close
+    (tie.spec
+    Inv-loop
+    μ-loop
+    loop-holds
+    mul-tone-one
+    tone-one-requires
+    add-x
+    loop-less
+    loop-again
+    same-length
+    returns)

@@ -1,0 +1,69 @@
+-- `rows::tone_pairs` meets its contract: two pixels a turn; at most one is left.
+use native.Mathlib.Omega.{arith}
+use borrow.Author.Needs.{needs}
+use mathlib.Core.Path.{_≡_}
+use Prim.Native.Nat.{_≤_, _-_, _+_, _*_, _%_}
+use Rattle.lists.specs.Replaced.{Replaced, replaced-none, replaced-end}
+use Rattle.rows.specs.Bytes.{three, rowByte}
+use Rattle.rows.proofs.Walk.{colours-next}
+use Rattle.rows.proofs.tone_pairs.Statement.{statement}
+use Rattle.rows.proofs.tone_pairs.Tie as tie
+
+abbrev Inv-loop : tie.InvT-loop
+Inv-loop s₀ w red green blue i₀ left₀ s i left =
+    (left ≤ w) × (i ≡ (w - left) * 4) × ((w - left) % 2 ≡ 0) × Replaced 0 (rowByte 4 3 (three red green blue)) 0 i s₀ s
+
+abbrev μ-loop : tie.MeasureT-loop
+μ-loop s₀ w red green blue i₀ left₀ s i left = left
+
+loop-holds : tie.Need-loop-holds Inv-loop μ-loop
+loop-holds c = (search needs, omega arith, omega arith, replaced-none)
+
+tone-pixel-requires : tie.Need-tone-pixel-requires Inv-loop μ-loop
+tone-pixel-requires c κs = search needs
+
+add-tone-pixel : tie.Need-add-tone-pixel Inv-loop μ-loop
+add-tone-pixel c = search needs
+
+tone-pixel-requires-2 : tie.Need-tone-pixel-requires-2 Inv-loop μ-loop
+tone-pixel-requires-2 c κs = search needs
+
+add-i : tie.Need-add-i Inv-loop μ-loop
+add-i c = search needs
+
+loop-less : tie.Need-loop-less Inv-loop μ-loop
+loop-less c = search needs
+
+loop-again : tie.Need-loop-again Inv-loop μ-loop
+loop-again c =
+    let second = c .before .before in
+    let first = second .before .before .before .before in
+    let start = first .before .before .before in
+    let given = start .before .before .args in
+    let x = given .w - start .loop .left in
+    let tables = three (given .red .now) (given .green .now) (given .blue .now) in
+    let one = colours-next 4 tables x (omega arith) (omega arith) (start .loop .inv .1) (start .loop .inv .3) (first .tone-pixel .ensures) in
+    let two = colours-next 4 tables (x + 1) (omega arith) (omega arith) (omega arith) one (second .tone-pixel2 .ensures) in
+    (omega arith, omega arith, omega arith, replaced-end two (omega arith))
+
+same-length : tie.Need-same-length Inv-loop μ-loop
+same-length c = search needs
+
+returns : tie.Need-returns Inv-loop μ-loop
+returns c = replaced-end (c .before .loop .inv .3) (omega arith)
+
+pub tone-pairs-spec : {M : Type 1} → statement M
+tone-pairs-spec =
+    tie.close
+    (tie.spec
+    Inv-loop
+    μ-loop
+    loop-holds
+    tone-pixel-requires
+    add-tone-pixel
+    tone-pixel-requires-2
+    add-i
+    loop-less
+    loop-again
+    same-length
+    returns)

@@ -1,0 +1,105 @@
+-- `rows::tone_rows` meets its contract: row after row, each with the padding behind it.
+use native.Mathlib.Omega.{arith}
+use borrow.Author.Needs.{needs}
+use mathlib.Core.Path.{_≡_}
+use Prim.Native.Nat.{_≤_, _-_, _*_}
+use native.Mathlib.Nat.{zero-mul}
+use Rattle.lists.specs.Replaced.{Replaced, replaced-none, replaced-end}
+use Rattle.rows.specs.Bytes.{same, rowByte}
+use Rattle.rows.specs.Rows.{planeByte}
+use Rattle.rows.specs.Places.{mul-last}
+use Rattle.rows.specs.Laws.{rows-inside}
+use Rattle.rows.proofs.Walk.{plane-next, plane-done, plane-narrow, step-some, some-bytes}
+use Rattle.rows.proofs.tone_rows.Statement.{statement}
+use Rattle.rows.proofs.tone_rows.Tie as tie
+
+abbrev Inv-loop : tie.InvT-loop
+Inv-loop plane₀ step w h p kept table row y₀ plane y =
+    (y ≤ h) × (row ≡ w * p) × Replaced 0 (planeByte (w * p) h step (rowByte p kept (same table))) 0 (y * step) plane₀ plane
+
+abbrev μ-loop : tie.MeasureT-loop
+μ-loop plane₀ step w h p kept table row y₀ plane y = h - y
+
+returns : tie.Need-returns Inv-loop μ-loop
+returns c =
+    let given = c .before .before .args in
+    plane-narrow (given .w * given .p) (given .h) (given .step) (rowByte (given .p) (given .kept) (same (given .table .now))) (given .plane .now)
+    (rw (c .if1 .taken) (zero-mul _))
+
+mul-row : tie.Need-mul-row Inv-loop μ-loop
+mul-row c = search needs
+
+loop-holds : tie.Need-loop-holds Inv-loop μ-loop
+loop-holds c = (search needs, search needs, replaced-end replaced-none (omega arith))
+
+-- the row lies in the plane, so its bounds fit too
+part-tone-row-end : tie.Need-part-tone-row-end Inv-loop μ-loop
+part-tone-row-end c =
+    omega (arith, rows-inside (c .before .loop .y) (c .before .before .before .before .pre .1) (c .before .before .if1 .left) (c .loop-test .taken))
+
+mul-at : tie.Need-mul-at Inv-loop μ-loop
+mul-at c = omega (arith, part-tone-row-end c)
+
+add-end : tie.Need-add-end Inv-loop μ-loop
+add-end c = omega (arith, part-tone-row-end c)
+
+sub-tone-row : tie.Need-sub-tone-row Inv-loop μ-loop
+sub-tone-row c = search needs
+
+part-tone-row-start : tie.Need-part-tone-row-start Inv-loop μ-loop
+part-tone-row-start c = search needs
+
+tone-row-requires : tie.Need-tone-row-requires Inv-loop μ-loop
+tone-row-requires c κs = search needs
+
+add-y : tie.Need-add-y Inv-loop μ-loop
+add-y c = search needs
+
+loop-less : tie.Need-loop-less Inv-loop μ-loop
+loop-less c = search needs
+
+loop-again : tie.Need-loop-again Inv-loop μ-loop
+loop-again c =
+    let k = c .before .before in
+    let here = k .before .before in
+    let start = here .before .before .before .before in
+    let given = start .args in
+    let rule = rowByte (given .p) (given .kept) (same (given .table .now)) in (
+      search needs,
+      search needs,
+      plane-next (given .w * given .p) (given .h) (given .step) rule (here .before .loop .y) (start .pre .1 .stepped) (here .loop-test .taken)
+          (part-tone-row-end here) (here .before .loop .inv .2) (k .tone-row .ensures),
+    )
+
+same-length : tie.Need-same-length Inv-loop μ-loop
+same-length c = search needs
+
+returns-2 : tie.Need-returns-2 Inv-loop μ-loop
+returns-2 c =
+    let start = c .before .before .before .before in
+    let given = start .args in
+    let some = step-some (c .before .before .if1 .left) (some-bytes (start .pre .0)) (start .pre .1 .stepped) in
+    let rule = rowByte (given .p) (given .kept) (same (given .table .now)) in
+    plane-done (given .w * given .p) (given .h) (given .step) rule some
+    (replaced-end (c .before .loop .inv .2) (mul-last (c .before .loop .y) (given .h) (given .step) (omega arith) (omega arith)))
+
+pub tone-rows-spec : {M : Type 1} → statement M
+tone-rows-spec =
+    tie.close
+    (tie.spec
+    Inv-loop
+    μ-loop
+    returns
+    mul-row
+    loop-holds
+    mul-at
+    add-end
+    sub-tone-row
+    part-tone-row-start
+    part-tone-row-end
+    tone-row-requires
+    add-y
+    loop-less
+    loop-again
+    same-length
+    returns-2)

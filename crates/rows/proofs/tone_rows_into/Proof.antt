@@ -1,0 +1,127 @@
+-- `rows::tone_rows_into` meets its contract: row after row, at the step out of the plane and tight into the destination.
+use native.Mathlib.Omega.{arith}
+use borrow.Author.Needs.{needs}
+use mathlib.Core.Path.{_≡_}
+use Prim.Native.Nat.{_≤_, _-_, _*_}
+use native.Mathlib.Nat.{zero-mul, mul-zero}
+use Rattle.lists.specs.Stored.{Stored, stored-none, stored-end, stored-front}
+use Rattle.rows.specs.Bytes.{three, rowByte}
+use Rattle.rows.specs.Rows.{tightByte, alphaOf}
+use Rattle.rows.specs.Places.{mul-room, mul-last}
+use Rattle.rows.specs.Laws.{rows-inside}
+use Rattle.rows.proofs.Walk.{tight-next, filled-none}
+use Rattle.rows.proofs.tone_rows_into.Statement.{statement}
+use Rattle.rows.proofs.tone_rows_into.Tie as tie
+
+abbrev Inv-loop : tie.InvT-loop
+Inv-loop plane step w h p red green blue dst₀ row y₀ dst y =
+    (y ≤ h) × (row ≡ w * p)
+    × Stored (tightByte (w * p) step (rowByte p (alphaOf p) (three red green blue)) plane) 0 (y * (w * p)) dst₀ dst
+
+abbrev μ-loop : tie.MeasureT-loop
+μ-loop plane step w h p red green blue dst₀ row y₀ dst y = h - y
+
+returns : tie.Need-returns Inv-loop μ-loop
+returns c =
+    let given = c .before .before .before .args in
+    let rule = rowByte (given .p) (alphaOf (given .p)) (three (given .red .now) (given .green .now) (given .blue .now)) in
+    filled-none (given .h * (given .w * given .p)) (tightByte (given .w * given .p) (given .step) rule (given .plane .now)) (given .dst .now)
+    (rw (c .if1 .taken, zero-mul) (mul-zero _))
+
+mul-row : tie.Need-mul-row Inv-loop μ-loop
+mul-row c = search needs
+
+loop-holds : tie.Need-loop-holds Inv-loop μ-loop
+loop-holds c = (search needs, search needs, stored-end stored-none (omega arith))
+
+-- the row lies in the plane, so its bounds fit too
+part-tone-row-into-end : tie.Need-part-tone-row-into-end Inv-loop μ-loop
+part-tone-row-into-end c =
+    omega (arith, rows-inside (c .before .loop .y) (c .before .before .before .before .before .pre .1) (c .before .before .if1 .left) (c .loop-test .taken))
+
+mul-from : tie.Need-mul-from Inv-loop μ-loop
+mul-from c = omega (arith, part-tone-row-into-end c)
+
+add-from-end : tie.Need-add-from-end Inv-loop μ-loop
+add-from-end c = omega (arith, part-tone-row-into-end c)
+
+add-to-end : tie.Need-add-to-end Inv-loop μ-loop
+add-to-end c =
+    let given = c .before .before .before .before .before .args in
+    omega (arith, mul-room (c .before .loop .y) (given .h) (given .w * given .p) (c .loop-test .taken))
+
+mul-to : tie.Need-mul-to Inv-loop μ-loop
+mul-to c = omega (arith, add-to-end c)
+
+sub-tone-row-into : tie.Need-sub-tone-row-into Inv-loop μ-loop
+sub-tone-row-into c = search needs
+
+part-tone-row-into-start : tie.Need-part-tone-row-into-start Inv-loop μ-loop
+part-tone-row-into-start c = search needs
+
+sub-tone-row-into-2 : tie.Need-sub-tone-row-into-2 Inv-loop μ-loop
+sub-tone-row-into-2 c = search needs
+
+part-tone-row-into-start-2 : tie.Need-part-tone-row-into-start-2 Inv-loop μ-loop
+part-tone-row-into-start-2 c = search needs
+
+part-tone-row-into-end-2 : tie.Need-part-tone-row-into-end-2 Inv-loop μ-loop
+part-tone-row-into-end-2 c =
+    let given = c .before .before .before .before .before .before .args in
+    omega (arith, mul-room (c .before .before .loop .y) (given .h) (given .w * given .p) (c .before .loop-test .taken))
+
+tone-row-into-requires : tie.Need-tone-row-into-requires Inv-loop μ-loop
+tone-row-into-requires c κs = search needs
+
+add-y : tie.Need-add-y Inv-loop μ-loop
+add-y c = search needs
+
+loop-less : tie.Need-loop-less Inv-loop μ-loop
+loop-less c = search needs
+
+loop-again : tie.Need-loop-again Inv-loop μ-loop
+loop-again c =
+    let k = c .before .before in
+    let here = k .before .before .before in
+    let given = here .before .before .before .before .before .args in
+    let rule = rowByte (given .p) (alphaOf (given .p)) (three (given .red .now) (given .green .now) (given .blue .now)) in (
+      search needs,
+      search needs,
+      tight-next (given .w * given .p) (given .step) rule (given .plane .now) (here .before .loop .y) (part-tone-row-into-end here)
+          (part-tone-row-into-end-2 (k .before .before)) (here .before .loop .inv .2) (k .tone-row-into .ensures),
+    )
+
+same-length : tie.Need-same-length Inv-loop μ-loop
+same-length c = search needs
+
+returns-2 : tie.Need-returns-2 Inv-loop μ-loop
+returns-2 c =
+    let given = c .before .before .before .before .before .args in
+    stored-front (c .before .loop .inv .2)
+    (mul-last (c .before .loop .y) (given .h) (given .w * given .p) (omega arith) (omega arith)) (omega arith)
+
+pub tone-rows-into-spec : {M : Type 1} → statement M
+tone-rows-into-spec =
+    tie.close
+    (tie.spec
+    Inv-loop
+    μ-loop
+    returns
+    mul-row
+    loop-holds
+    mul-from
+    add-from-end
+    mul-to
+    add-to-end
+    sub-tone-row-into
+    part-tone-row-into-start
+    part-tone-row-into-end
+    sub-tone-row-into-2
+    part-tone-row-into-start-2
+    part-tone-row-into-end-2
+    tone-row-into-requires
+    add-y
+    loop-less
+    loop-again
+    same-length
+    returns-2)

@@ -1,0 +1,5 @@
+pub mod Bytes
+pub mod Rows
+pub mod Places
+pub mod Laws
+pub mod Examples

@@ -1,0 +1,16 @@
+-- `Channel::check`: of a present list only.
+use borrow.Author.Needs.{needs}
+use Rattle.sets.specs.Sets.{channelAnswer}
+use Rattle.sets.proofs.Channel.check.Statement.{statement}
+use Rattle.sets.proofs.Channel.check.Tie as tie
+
+returns : tie.Need-returns
+unfolding channelAnswer
+returns c = rw (c .before .if1 .taken) (c .check-curve .ensures)
+
+returns-2 : tie.Need-returns-2
+unfolding channelAnswer
+returns-2 c = rw (c .if1 .left)
+
+pub check-spec : {M : Type 1} → statement M
+check-spec = tie.close (tie.spec (search needs) returns returns-2)

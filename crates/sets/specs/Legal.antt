@@ -1,0 +1,86 @@
+-- What a set is that passes the check: each present list has at most 64 points, and strictly rises in x.
+use Prim.Native.Nat.{ℕ, _≤_}
+use native.Mathlib.Omega.{arith}
+use mathlib.Core.Path.{_≡_}
+use mathlib.Core.List.{List}
+use mathlib.Core.Bool.{true}
+use mathlib.Core.Option.{Option, none, some}
+use lib.ListN.{length, length-take}
+use borrow.Author.Tests.{ltb-false, eqb-true, eqb-false}
+use Rattle.answers.specs.declared.Answer.{Answer}
+use Rattle.answers.specs.declared.Answer.the-variants.{Done}
+use Rattle.answers.specs.Numbers.{numberOf, isDone, number-unique}
+use Rattle.single.specs.RuleLaws.{by-test}
+use Rattle.points.specs.declared.Point.{Point}
+use Rattle.points.specs.declared.Curve.{Curve}
+use Rattle.points.specs.Points.{listOf, rises, tooMany}
+use Rattle.sets.specs.declared.Channel.{Channel}
+use Rattle.sets.specs.declared.Curves.{Curves}
+use Rattle.sets.specs.Sets.{View, viewOf, channelOf, firstOf, curveAnswer, channelAnswer, setAnswer}
+
+pub record LegalList (l : List Point) : Type 0 where
+  pub few : length l ≤ 64
+  pub rising : rises l ≡ true
+
+abbrev pub LegalColour : Option (List Point) → Type 0
+LegalColour none = Unit {0}
+LegalColour (some l) = LegalList l
+
+pub record Legal (v : View) : Type 0 where
+  pub master : LegalList (v .master)
+  pub red : LegalColour (v .red)
+  pub green : LegalColour (v .green)
+  pub blue : LegalColour (v .blue)
+
+-- ---- from the check
+-- where the first refusal of two is none, neither is a refusal
+both-done : (a b : Answer) → firstOf a b ≡ Done → (a ≡ Done) × (b ≡ Done)
+both-done a b e =
+    by-test (isDone a) (λ t. (number-unique a Done (eqb-true (numberOf a) 0 t), rw t at e))
+    (λ t. let d : a ≡ Done = rw t at e in absurd (eqb-false (numberOf a) 0 t (rw d)))
+
+-- a set passes where each of its lists does
+pub record Passed (s : Curves) : Type 0 where
+  pub master : curveAnswer (s .master) ≡ Done
+  pub red : channelAnswer (s .red) ≡ Done
+  pub green : channelAnswer (s .green) ≡ Done
+  pub blue : channelAnswer (s .blue) ≡ Done
+
+pub passed-set : (s : Curves) → setAnswer s ≡ Done → Passed s
+unfolding setAnswer
+passed-set s e =
+    let m = both-done (curveAnswer (s .master)) _ e in
+    let r = both-done (channelAnswer (s .red)) _ (m .1) in
+    let g = both-done (channelAnswer (s .green)) _ (r .1) in
+    record { master = m .0; red = r .0; green = g .0; blue = g .1 }
+
+-- a list that passes claims no more points than it may have, and rises
+passed-list : (c : Curve) → curveAnswer c ≡ Done → (c .count ≤ 64) × (rises (listOf c) ≡ true)
+unfolding curveAnswer
+passed-list c e =
+    by-test (tooMany c) (λ t. let z : _≡_ {A = ℕ} 0 1 = cc (rw t at e) in absurd (omega arith))
+    (λ t.
+    by-test (rises (listOf c)) (λ u. (ltb-false 64 (c .count) t, u))
+    (λ u. let z : _≡_ {A = ℕ} 0 1 = cc (rw (t, u) at e) in absurd (omega arith)))
+
+pub passed-count : (c : Curve) → curveAnswer c ≡ Done → c .count ≤ 64
+passed-count c e = passed-list c e .0
+
+legal-list : (c : Curve) → curveAnswer c ≡ Done → LegalList (listOf c)
+legal-list c e =
+    let p = passed-list c e in
+    record { few = omega (arith, p .0, length-take (c .count) (c .points)); rising = p .1 }
+
+legal-colour : (c : Channel) → channelAnswer c ≡ Done → LegalColour (channelOf c)
+unfolding channelAnswer
+legal-colour c e = by-test (c .present) (λ t. rw t (legal-list (c .curve) (rw t at e))) (λ t. rw t tt)
+
+pub legal-view : (s : Curves) → setAnswer s ≡ Done → Legal (viewOf s)
+legal-view s e =
+    let p = passed-set s e in
+    record {
+      master = legal-list (s .master) (p .master);
+      red = legal-colour (s .red) (p .red);
+      green = legal-colour (s .green) (p .green);
+      blue = legal-colour (s .blue) (p .blue);
+    }

@@ -1,0 +1,6 @@
+pub mod Sets
+pub mod Replaced
+pub mod Carried
+pub mod Legal
+pub mod Same
+pub mod SameLaws

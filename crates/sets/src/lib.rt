@@ -1,0 +1,342 @@
+// A set of curves: a master, three optional colours and a kind. Its members replaced, its lists checked, whether two are the same, and the table of a
+// channel. Every open function answers for any set, whatever its lists claim.
+ghost use mathlib.Core.Path.{_≡_};
+ghost use Prim.Native.Nat.{_≤_};
+ghost use lib.ListN.{take};
+ghost use mathlib.Core.Bool.{false};
+ghost use mathlib.Core.Option.{none};
+ghost use Rattle.sets.specs.declared.Colour.the-variants.{Red, Green, Blue};
+ghost use Rattle.sets.specs.Carried.{carriedOf, LegalKind};
+ghost use Rattle.sets.specs.Same.{Same, SameCurve, SameChannel, Decides};
+ghost use Rattle.sets.specs.Sets.{
+  viewOf,
+  channelOf,
+  emptyView,
+  presentChannel,
+  MasterOnly,
+  replaceMaster,
+  replaceColour,
+  replaceKind,
+  firstOf,
+  curveAnswer,
+  channelAnswer,
+  setAnswer,
+  chosen,
+};
+use answers::Answer;
+use points::Curve;
+use points::Point;
+use tables::CurveInterpolation;
+
+// A colour's list, where it is present.
+pub struct Channel {
+    pub present: bool,
+    pub curve: Curve,
+}
+
+pub enum Colour {
+    Red,
+    Green,
+    Blue,
+}
+
+pub struct Curves {
+    pub master: Curve,
+    pub red: Channel,
+    pub green: Channel,
+    pub blue: Channel,
+    pub interpolation: CurveInterpolation,
+}
+
+// The refusals of one list: its count, then its order.
+pub fn check_curve(curve: Curve) -> Answer
+    ensures { λ r. ⌜ r ≡ curveAnswer curve ⌝ }
+{
+    let n = curve.count;
+    if Curve::LIMIT < n {
+        return Answer::PointCount;
+    }
+    if curve.is_rising() {
+        Answer::Done
+    } else {
+        Answer::PointsNotRising
+    }
+}
+
+// The first refusal of two.
+fn first_of(a: Answer, b: Answer) -> Answer
+    ensures { λ r. ⌜ r ≡ firstOf a b ⌝ }
+{
+    if a.is_done() { b } else { a }
+}
+
+impl Channel {
+    pub fn absent() -> Channel
+        ensures { λ r. ⌜ (channelOf r ≡ none) × (r .present ≡ false) ⌝ }
+    {
+        Channel {
+            present: false,
+            curve: Curve::empty(),
+        }
+    }
+
+    pub fn of(curve: Curve) -> Channel
+        ensures { λ r. ⌜ r ≡ presentChannel curve ⌝ }
+    {
+        Channel {
+            present: true,
+            curve,
+        }
+    }
+
+    pub fn check(self) -> Answer
+        ensures { λ r. ⌜ r ≡ channelAnswer self ⌝ }
+    {
+        if self.present {
+            check_curve(self.curve)
+        } else {
+            Answer::Done
+        }
+    }
+}
+
+impl Curves {
+    // The kind of a set that names none.
+    pub const DEFAULT_INTERPOLATION: CurveInterpolation = CurveInterpolation::MonotoneCubic;
+
+    // The set of this master alone, of the default kind.
+    pub fn new(master: Curve) -> Curves
+        ensures { λ r. ⌜ MasterOnly master r ⌝ }
+    {
+        Curves {
+            master,
+            red: Channel::absent(),
+            green: Channel::absent(),
+            blue: Channel::absent(),
+            interpolation: Curves::DEFAULT_INTERPOLATION,
+        }
+    }
+
+    // The empty set of the default kind, without colours.
+    pub fn empty() -> Curves
+        ensures { λ r. ⌜ viewOf r ≡ emptyView ⌝ }
+    {
+        Curves::new(Curve::empty())
+    }
+
+    pub fn with_master(mut self, master: Curve) -> Curves
+        ensures { λ r. ⌜ r ≡ replaceMaster master self ⌝ }
+    {
+        self.master = master;
+        self
+    }
+
+    pub fn with_red(mut self, c: Curve) -> Curves
+        ensures { λ r. ⌜ r ≡ replaceColour Red (presentChannel c) self ⌝ }
+    {
+        let red = Channel {
+            present: true,
+            curve: c,
+        };
+        self.red = red;
+        self
+    }
+
+    pub fn with_green(mut self, c: Curve) -> Curves
+        ensures { λ r. ⌜ r ≡ replaceColour Green (presentChannel c) self ⌝ }
+    {
+        let green = Channel {
+            present: true,
+            curve: c,
+        };
+        self.green = green;
+        self
+    }
+
+    pub fn with_blue(mut self, c: Curve) -> Curves
+        ensures { λ r. ⌜ r ≡ replaceColour Blue (presentChannel c) self ⌝ }
+    {
+        let blue = Channel {
+            present: true,
+            curve: c,
+        };
+        self.blue = blue;
+        self
+    }
+
+    // A colour made present or absent, whichever colour it is.
+    pub fn with_channel(mut self, colour: Colour, channel: Channel) -> Curves
+        ensures { λ r. ⌜ r ≡ replaceColour colour channel self ⌝ }
+    {
+        match colour {
+            Colour::Red => {
+                self.red = channel;
+                self
+            }
+            Colour::Green => {
+                self.green = channel;
+                self
+            }
+            Colour::Blue => {
+                self.blue = channel;
+                self
+            }
+        }
+    }
+
+    // The set is made anew: a store to a field that is an enum is not covered.
+    pub fn with_interpolation(mut self, i: CurveInterpolation) -> Curves
+        ensures { λ r. ⌜ r ≡ replaceKind i self ⌝ }
+    {
+        let master = self.master;
+        let red = self.red;
+        let green = self.green;
+        let blue = self.blue;
+        Curves {
+            master,
+            red,
+            green,
+            blue,
+            interpolation: i,
+        }
+    }
+
+    // The present lists in their order: master, red, green, blue.
+    pub fn check(self) -> Answer
+        ensures { λ r. ⌜ r ≡ setAnswer self ⌝ }
+    {
+        let master = check_curve(self.master);
+        let red = self.red.check();
+        let green = self.green.check();
+        let blue = self.blue.check();
+        first_of(master, first_of(red, first_of(green, blue)))
+    }
+}
+
+// What a kind carries beside its number.
+pub struct Carried {
+    pub tension: u8,
+    pub start: i16,
+    pub end: i16,
+}
+
+impl Carried {
+    const NOTHING: Carried = Carried {
+        tension: 0,
+        start: 0,
+        end: 0,
+    };
+}
+
+// What a kind carries; zeros where it carries nothing.
+pub fn carried_by(kind: CurveInterpolation) -> Carried
+    ensures { λ r. ⌜ (r ≡ carriedOf kind) × LegalKind kind ⌝ }
+{
+    match kind {
+        CurveInterpolation::Linear => Carried::NOTHING,
+        CurveInterpolation::CatmullRom => Carried::NOTHING,
+        CurveInterpolation::MonotoneCubic => Carried::NOTHING,
+        CurveInterpolation::MonotoneCubicBox => Carried::NOTHING,
+        CurveInterpolation::NaturalCubic => Carried::NOTHING,
+        CurveInterpolation::CentripetalCatmullRom => Carried::NOTHING,
+        CurveInterpolation::ChordalCatmullRom => Carried::NOTHING,
+        CurveInterpolation::Cardinal { tension_q8 } => Carried {
+            tension: tension_q8,
+            start: 0,
+            end: 0,
+        },
+        CurveInterpolation::ClampedCubic {
+            start_slope_q8,
+            end_slope_q8,
+        } => Carried {
+            tension: 0,
+            start: start_slope_q8,
+            end: end_slope_q8,
+        },
+        CurveInterpolation::NotAKnotCubic => Carried::NOTHING,
+    }
+}
+
+// ---- whether two are the same
+// Points.
+fn same_point(p: Point, q: Point) -> bool
+    ensures { λ r. ⌜ Decides (p ≡ q) r ⌝ }
+{
+    (p.x == q.x) & (p.y == q.y)
+}
+
+// The first n points of lists.
+fn same_points(a: Curve, b: Curve, n: usize) -> bool
+    requires { ⌜ n ≤ 64 ⌝ }
+    ensures { λ r. ⌜ Decides (take n (a .points) ≡ take n (b .points)) r ⌝ }
+{
+    let mut i: usize = 0;
+    while i < n {
+        if !same_point(a.points[i], b.points[i]) {
+            return false;
+        }
+        i += 1;
+    }
+    true
+}
+
+// Lists, as far as their counts claim; one that claims more than 64 points has 64.
+fn same_curve(a: Curve, b: Curve) -> bool
+    ensures { λ r. ⌜ Decides (SameCurve a b) r ⌝ }
+{
+    let n = a.count;
+    let m = b.count;
+    if n != m {
+        return false;
+    }
+    if n < Curve::LIMIT {
+        same_points(a, b, n)
+    } else {
+        same_points(a, b, Curve::LIMIT)
+    }
+}
+
+// Colours; what stands behind an absent mark is ignored.
+fn same_channel(a: Channel, b: Channel) -> bool
+    ensures { λ r. ⌜ Decides (SameChannel a b) r ⌝ }
+{
+    if a.present {
+        b.present & same_curve(a.curve, b.curve)
+    } else {
+        !b.present
+    }
+}
+
+// What kinds carry.
+fn same_carried(p: Carried, q: Carried) -> bool
+    ensures { λ r. ⌜ Decides (p ≡ q) r ⌝ }
+{
+    (p.tension == q.tension) & (p.start == q.start) & (p.end == q.end)
+}
+
+// Kinds, with what they carry.
+fn same_kind(a: CurveInterpolation, b: CurveInterpolation) -> bool
+    ensures { λ r. ⌜ Decides (a ≡ b) r ⌝ }
+{
+    (a.number() == b.number()) & same_carried(carried_by(a), carried_by(b))
+}
+
+// Sets: lists, colours present, and the kind with its tension or slopes.
+pub fn same(a: Curves, b: Curves) -> bool
+    ensures { λ r. ⌜ Decides (Same a b) r ⌝ }
+{
+    let master = same_curve(a.master, b.master);
+    let red = same_channel(a.red, b.red);
+    let green = same_channel(a.green, b.green);
+    let blue = same_channel(a.blue, b.blue);
+    let i = a.interpolation;
+    let j = b.interpolation;
+    master & red & green & blue & same_kind(i, j)
+}
+
+// The colour's own table or else the master's, lent on without copying.
+pub fn chosen_table<'a>(present: bool, own: &'a [u8; 256], master: &'a [u8; 256]) -> &'a [u8; 256]
+    ensures { λ r. ⌜ now r ≡ chosen present (now (own .entry)) (now (master .entry)) ⌝ }
+{
+    if present { own } else { master }
+}

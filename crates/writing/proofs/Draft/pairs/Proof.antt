@@ -1,0 +1,72 @@
+-- `Draft::pairs`: after i turns the pairs of the first i points are behind the draft.
+use Prim.Native.Nat.{_≤_, _-_, _+_, _*_}
+use mathlib.Core.Path.{_≡_, _∙_}
+use native.Mathlib.Omega.{arith}
+use borrow.Author.Needs.{needs}
+use lib.ListN.{length, take, length-set}
+use lib.Seq.{take-length, length-take-le, getD-take}
+use Rattle.points.specs.Points.{listOf, pt}
+use Rattle.points.specs.Owned.{length-told}
+use Rattle.writing.specs.Encode.{pairBytes}
+use Rattle.writing.specs.Contracts.{Appended}
+use Rattle.records.specs.Format.{longest}
+use Rattle.writing.specs.Lengths.{pairs-length}
+use Rattle.writing.proofs.Laws.{draft, appended-none, appended-then, appended-as, stored-two, pairs-next}
+use Rattle.writing.proofs.Draft.pairs.Statement.{statement}
+use Rattle.writing.proofs.Draft.pairs.Tie as tie
+
+abbrev Inv-loop : tie.InvT-loop
+Inv-loop curve n bytes₀ at₀ i₀ bytes at i =
+    (i ≤ n) × (at ≡ at₀ + i * 2) × (at₀ + n * 2 ≤ longest) × (length bytes ≡ longest)
+    × Appended (pairBytes (take i (listOf curve))) (draft bytes₀ at₀) (draft bytes at)
+
+abbrev μ-loop : tie.MeasureT-loop
+μ-loop curve n bytes₀ at₀ i₀ bytes at i = n - i
+
+loop-holds : tie.Need-loop-holds Inv-loop μ-loop
+unfolding pairBytes
+loop-holds c =
+    let a = c .before .args .t2 in
+    let long : length (a .points) ≡ 64 = search (needs, length-told) in
+    let n : length (listOf a) ≡ a .count = length-take-le (a .count) (a .points) (omega arith) in
+    (search needs, search needs, omega (arith, pairs-length (listOf a)), search needs, appended-none)
+
+loop-again : tie.Need-loop-again Inv-loop μ-loop
+loop-again c =
+    let b = c .before .before in
+    let a = b .before .before .args .t2 in
+    let long : length (a .points) ≡ 64 = search (needs, length-told) in
+    let n : length (listOf a) ≡ a .count = length-take-le (a .count) (a .points) (omega arith) in
+    let next = rw (getD-take (a .count) (a .points) (b .loop .i) (pt 0 0) (omega arith)) at (pairs-next (listOf a) (b .loop .i) (omega arith)) in (
+      search needs,
+      omega arith,
+      search needs,
+      simp length-set (b .loop .inv .3),
+      appended-as (appended-then (b .loop .inv .4) (stored-two (b .loop .bytes) (b .loop .at) _ _ (omega arith))) next,
+    )
+
+returns : tie.Need-returns Inv-loop μ-loop
+returns c =
+    let b = c .before in
+    let a = b .before .before .args .t2 in
+    let long : length (a .points) ≡ 64 = search (needs, length-told) in
+    let all : length (listOf a) ≡ b .loop .i = length-take-le (a .count) (a .points) (omega arith) ∙ omega arith in
+    rw (← all, take-length) at (b .loop .inv .4)
+
+pub pairs-spec : {M : Type 1} → statement M
+pairs-spec =
+    tie.close
+    (tie.spec
+    Inv-loop
+    μ-loop
+    loop-holds
+    (λ c. search needs)
+    (λ c. search needs)
+    (λ c. search needs)
+    (λ c. search needs)
+    (λ c. search needs)
+    (λ c. search needs)
+    (λ c. search needs)
+    (λ c. search needs)
+    loop-again
+    returns)

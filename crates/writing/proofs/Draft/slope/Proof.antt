@@ -1,0 +1,16 @@
+-- `Draft::slope`: two bytes behind, low byte first.
+use mir.Facts.{toZ-ofZ}
+use Rattle.writing.proofs.Laws.{appended-then, appended-as}
+use borrow.Author.Needs.{needs}
+use Rattle.writing.proofs.Draft.slope.Statement.{statement}
+use Rattle.writing.proofs.Draft.slope.Tie as tie
+
+returns : tie.Need-returns
+returns c =
+    appended-as (appended-then (c .before .push .ensures) (c .push2 .ensures))
+    (rw (c .before .before .unsigned .ensures, toZ-ofZ (c .before .before .before .fits .v)))
+
+pub slope-spec : {M : Type 1} → statement M
+slope-spec =
+    tie.close
+    (tie.spec (λ c κs. search needs) (λ c. search needs) (λ c κs. search needs) (λ c. search needs) (λ c κs. search needs) returns)

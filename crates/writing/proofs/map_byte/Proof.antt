@@ -1,0 +1,66 @@
+-- `map_byte`: a sum of marks of the weights 1 to 16, and twice 32 at most.
+use Prim.Native.Nat.{_≤_}
+use native.Mathlib.Omega.{arith}
+use Rattle.writing.specs.Map.{carried-small}
+use Rattle.writing.proofs.Laws.{there-channel, map-sum}
+use borrow.Author.Needs.{needs}
+use Rattle.writing.proofs.map_byte.Statement.{statement}
+use Rattle.writing.proofs.map_byte.Tie as tie
+
+mul-result : tie.Need-mul-result
+mul-result c =
+    let few : c .kind-bits .result ≤ 2 = rw (c .kind-bits .ensures) (carried-small (c .before .number .result)) in
+    search needs
+
+add-result-5 : tie.Need-add-result-5
+add-result-5 c =
+    let few : c .kind-bits .result ≤ 2 = rw (c .kind-bits .ensures) (carried-small (c .before .number .result)) in
+    let m = c .before .before in
+    omega (
+      arith,
+      m .mark5 .ensures .1,
+      m .before .before .mark4 .ensures .1,
+      m .before .before .before .mark3 .ensures .1,
+      m .before .before .before .before .mark2 .ensures .1,
+      m .before .before .before .before .before .mark .ensures .1,
+    )
+
+returns : tie.Need-returns
+returns c =
+    let m = c .before .before in
+    let a = m .before .before .before .before .before .before .args in
+    rw (
+      m .mark5 .ensures .0,
+      m .before .before .mark4 .ensures .0,
+      m .before .before .before .mark3 .ensures .0,
+      m .before .before .before .before .mark2 .ensures .0,
+      m .before .before .before .before .before .mark .ensures .0,
+      m .before .names-kind .ensures,
+      c .kind-bits .ensures,
+      c .before .number .ensures,
+      ← there-channel (a .master),
+      ← there-channel (a .set .red),
+      ← there-channel (a .set .green),
+      ← there-channel (a .set .blue),
+    )
+    (map-sum (a .master .present) (a .set .red .present) (a .set .green .present) (a .set .blue .present) _ _)
+
+pub map-byte-spec : {M : Type 1} → statement M
+map-byte-spec =
+    tie.close
+    (tie.spec
+    (λ c κs. search needs)
+    (λ c κs. search needs)
+    (λ c. search needs)
+    (λ c κs. search needs)
+    (λ c. search needs)
+    (λ c κs. search needs)
+    (λ c. search needs)
+    (λ c κs. search needs)
+    (λ c κs. search needs)
+    (λ c. search needs)
+    (λ c κs. search needs)
+    (λ c κs. search needs)
+    mul-result
+    add-result-5
+    returns)

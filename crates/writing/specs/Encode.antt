@@ -1,0 +1,127 @@
+-- The record of a set, edition 1, byte by byte, and what the writer leaves in a lent buffer, as document 01's sections "Stored record" and
+-- "When a call says no" have them. Definitions only.
+use Prim.Native.Nat.{ℕ, _+_, _-_, _*_, _/_, _%_}
+use mathlib.Core.List.{List, [], _∷_, _++_}
+use mathlib.Core.Bool.{Bool, true, false, cond, not}
+use mathlib.Core.Option.{Option, none, some}
+use lib.ListN as ListN
+use lib.ListN.{length, drop}
+use lib.Dec.{ltb, eqb}
+use lib.IntN.{ℤ, pos, negsuc}
+use Rattle.answers.specs.declared.Answer.{Answer}
+use Rattle.answers.specs.declared.Answer.the-variants.{Done, OutputTooSmall}
+use Rattle.answers.specs.Numbers.{isDone}
+use Rattle.points.specs.declared.Point.{Point}
+use Rattle.tables.specs.declared.CurveInterpolation.{CurveInterpolation}
+use Rattle.tables.specs.declared.CurveInterpolation.the-variants.{
+  Linear,
+  CatmullRom,
+  MonotoneCubic,
+  MonotoneCubicBox,
+  NaturalCubic,
+  CentripetalCatmullRom,
+  ChordalCatmullRom,
+  Cardinal,
+  ClampedCubic,
+  NotAKnotCubic,
+}
+use Rattle.tables.specs.Kinds.{kindNumber}
+use Rattle.sets.specs.declared.Curves.{Curves}
+use Rattle.sets.specs.Sets.{View, viewOf, default, firstOf, setAnswer}
+use Rattle.records.specs.Format.{kindBits}
+
+-- ---- the lists
+-- "x, y pairs"
+unfoldable pub pairBytes : List Point → List ℕ
+pairBytes [] = []
+pairBytes (p ∷ ps) = p .x ∷ p .y ∷ pairBytes ps
+
+-- "each a count byte, then x, y pairs"; what is absent has no field
+abbrev pub fieldBytes : Option (List Point) → List ℕ
+fieldBytes none = []
+fieldBytes (some l) = length l ∷ pairBytes l
+
+-- "Bit 0 off: empty master"
+abbrev pub masterField : List Point → Option (List Point)
+masterField [] = none
+masterField (p ∷ ps) = some (p ∷ ps)
+
+-- ---- the kind
+-- "The writer leaves the kind out when it is the default"
+abbrev pub namesKind : CurveInterpolation → Bool
+namesKind k = not (eqb (kindNumber k) (kindNumber default))
+
+abbrev pub kindBytes : CurveInterpolation → List ℕ
+kindBytes k = cond (namesKind k) (kindNumber k ∷ []) []
+
+-- "two's complement", of 16 bits
+abbrev pub unsigned16 : ℤ → ℕ
+unsigned16 (pos n) = n
+unsigned16 (negsuc n) = 65535 - n
+
+-- "low byte first"
+abbrev pub lowFirst : ℕ → List ℕ
+lowFirst n = n % 256 ∷ n / 256 ∷ []
+
+abbrev pub slopeBytes : ℤ → List ℕ
+slopeBytes v = lowFirst (unsigned16 v)
+
+-- "5 tension byte, 6 start and end slope"
+abbrev pub carriedBytes : CurveInterpolation → List ℕ
+carriedBytes Linear = []
+carriedBytes CatmullRom = []
+carriedBytes MonotoneCubic = []
+carriedBytes MonotoneCubicBox = []
+carriedBytes NaturalCubic = []
+carriedBytes CentripetalCatmullRom = []
+carriedBytes ChordalCatmullRom = []
+carriedBytes (Cardinal q) = q ∷ []
+carriedBytes (ClampedCubic start end) = slopeBytes start ++ slopeBytes end
+carriedBytes NotAKnotCubic = []
+
+-- ---- the bit map
+abbrev pub oneIf : Bool → ℕ
+oneIf stands = cond stands 1 0
+
+-- a bit for each mark, the first in bit 0, with the number `above` from the next bit on
+unfoldable pub bitsUnder : ℕ → List Bool → ℕ
+bitsUnder above [] = above
+bitsUnder above (b ∷ bs) = oneIf b + 2 * bitsUnder above bs
+
+abbrev pub there : {A : Type 0} → Option A → Bool
+there none = false
+there (some a) = true
+
+-- bits 0 to 4, and above them what the kind says of bits 5 and 6
+abbrev pub mapOf : Option (List Point) → Option (List Point) → Option (List Point) → Option (List Point) → CurveInterpolation → ℕ
+mapOf master red green blue k =
+    bitsUnder (kindBits (kindNumber k)) (there master ∷ there red ∷ there green ∷ there blue ∷ namesKind k ∷ [])
+
+-- ---- the record
+-- "First a bit map byte, then only the fields whose bit stands, from bit 0"
+unfoldable pub encode : View → List ℕ
+encode v =
+    (mapOf (masterField (v .master)) (v .red) (v .green) (v .blue) (v .kind) ∷ []) ++ fieldBytes (masterField (v .master))
+    ++ fieldBytes (v .red) ++ fieldBytes (v .green) ++ fieldBytes (v .blue) ++ kindBytes (v .kind) ++ carriedBytes (v .kind)
+
+-- ---- the call
+-- the answer, the length written, and the buffer afterwards
+pub record Write : Type 0 where
+  pub answer : Answer
+  pub length : ℕ
+  pub buffer : List ℕ
+
+-- on a refusal "lent memory is unchanged"; else the writer "gives the length written and changes no byte past it"
+abbrev pub outcome : Answer → List ℕ → List ℕ → Write
+outcome a bytes buffer =
+    cond (isDone a)
+    (record { answer = Done; length = ListN.length bytes; buffer = bytes ++ drop (ListN.length bytes) buffer })
+    (record { answer = a; length = 0; buffer = buffer })
+
+-- 13: "An output holds less than what would be written"
+abbrev pub roomAnswer : List ℕ → List ℕ → Answer
+roomAnswer bytes buffer = cond (ltb (length buffer) (length bytes)) OutputTooSmall Done
+
+-- 3 and 4 of the set's lists, then 13
+unfoldable pub writeRecord : Curves → List ℕ → Write
+writeRecord s buffer = outcome (firstOf (setAnswer s) (roomAnswer (encode (viewOf s)) buffer)) (encode (viewOf s)) buffer

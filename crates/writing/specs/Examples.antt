@@ -1,0 +1,33 @@
+-- Records by example: P10 of document 01 from the writer's side, what is left out, and what a kind carries.
+use mathlib.Core.Path.{_≡_, refl}
+use mathlib.Core.List.{[], _∷_}
+use mathlib.Core.Option.{some}
+use lib.IntN.{pos, negsuc}
+use Rattle.points.specs.Points.{straight}
+use Rattle.tables.specs.declared.CurveInterpolation.the-variants.{Linear, Cardinal, ClampedCubic}
+use Rattle.sets.specs.declared.Colour.the-variants.{Green}
+use Rattle.sets.specs.Sets.{emptyView, masterOnly, withColour, withKind}
+use Rattle.writing.specs.Encode.{pairBytes, bitsUnder, encode}
+
+pub P10-written : encode (withKind Linear (masterOnly straight)) ≡ 0x11 ∷ 2 ∷ 0 ∷ 0 ∷ 0xff ∷ 0xff ∷ 0 ∷ []
+unfolding encode bitsUnder pairBytes
+P10-written = refl
+
+-- an empty master and the default kind have no byte but the map
+pub empty-written : encode emptyView ≡ 0 ∷ []
+unfolding encode bitsUnder
+empty-written = refl
+
+-- a colour that is present and empty has its count
+pub empty-colour-written : encode (withColour Green (some []) emptyView) ≡ 4 ∷ 0 ∷ []
+unfolding encode bitsUnder pairBytes
+empty-colour-written = refl
+
+pub tension-written : encode (withKind (Cardinal 255) emptyView) ≡ 0x30 ∷ 7 ∷ 255 ∷ []
+unfolding encode bitsUnder
+tension-written = refl
+
+-- slopes 256 and −32,768, low byte first
+pub slopes-written : encode (withKind (ClampedCubic (pos 256) (negsuc 32767)) emptyView) ≡ 0x50 ∷ 8 ∷ 0 ∷ 1 ∷ 0 ∷ 0x80 ∷ []
+unfolding encode bitsUnder
+slopes-written = refl

@@ -1,0 +1,186 @@
+-- Reading what the writer wrote gives the same set back, for every set that the writer takes and every buffer with room.
+use Prim.Native.Nat.{ℕ, _+_, _-_, _*_, _/_, _%_, _≤_, _<_}
+use native.Mathlib.Omega.{arith}
+use mathlib.Core.Path.{_≡_, refl, ap}
+use mathlib.Core.List.{List, [], _∷_, _++_, append-assoc}
+use mathlib.Core.Option.{Option, none, some}
+use lib.ListN.{length, take, drop, length-append}
+use lib.Seq.{drop-at, take-append-seam}
+use lib.IntN.{ℤ, pos, negsuc}
+use lib.Signed.{mag}
+use borrow.Author.Tests.{le-ltb, lt-ltb}
+use Rattle.points.specs.declared.Point.{Point}
+use Rattle.tables.specs.declared.CurveInterpolation.{CurveInterpolation}
+use Rattle.tables.specs.declared.CurveInterpolation.the-variants.{
+  Linear,
+  CatmullRom,
+  MonotoneCubic,
+  MonotoneCubicBox,
+  NaturalCubic,
+  CentripetalCatmullRom,
+  ChordalCatmullRom,
+  Cardinal,
+  ClampedCubic,
+  NotAKnotCubic,
+}
+use Rattle.tables.specs.Kinds.{kindNumber}
+use Rattle.answers.specs.declared.Answer.the-variants.{Done}
+use Rattle.sets.specs.declared.Curves.{Curves}
+use Rattle.sets.specs.Carried.{LegalKind}
+use Rattle.sets.specs.Legal.{LegalList, LegalColour, Legal, legal-view}
+use Rattle.sets.specs.Sets.{View, viewOf, default}
+use Rattle.points.specs.Points.{limit}
+use Rattle.records.specs.Format.{
+  good,
+  bit,
+  carriedBits,
+  kindBits,
+  pointBytes,
+  pairs,
+  readPoints,
+  readList,
+  readField,
+  storedSlope,
+  readNumber,
+  readTension,
+  readSlopes,
+  readCarried,
+  readKind,
+  colourList,
+  readFields,
+  readRecord,
+}
+use Rattle.records.specs.Legal.{AllBytes, read-legal}
+use Rattle.writing.specs.Encode.{
+  pairBytes,
+  fieldBytes,
+  masterField,
+  namesKind,
+  kindBytes,
+  unsigned16,
+  carriedBytes,
+  there,
+  mapOf,
+  encode,
+  writeRecord,
+}
+use Rattle.writing.specs.Cases.{write-done, done-case}
+use Rattle.writing.specs.Lengths.{pairs-length, master-legal}
+use Rattle.writing.specs.Map.{map-back}
+
+-- ---- a list
+pairs-back : (l : List Point) (t : List ℕ) → pairs (length l) (pairBytes l ++ t) ≡ l
+unfolding pairs pairBytes
+pairs-back [] t = refl
+pairs-back (p ∷ l) t = ap (λ (m : List Point). p ∷ m) (pairs-back l t)
+
+list-back : (least : ℕ) (l : List Point) (t : List ℕ) → LegalList l → least ≤ length l → readList least (length l ∷ (pairBytes l ++ t)) ≡ good l t
+unfolding readList readPoints
+list-back least l t h enough =
+    let room : length l * pointBytes ≤ length (pairBytes l ++ t) = simp (length-append, pairs-length) (omega arith) in
+    rw (
+      le-ltb limit (length l) (h .few),
+      le-ltb (length l) least enough,
+      le-ltb (length (pairBytes l ++ t)) (length l * pointBytes) room,
+      pairs-back l t,
+      h .rising,
+      drop-at (pairBytes l) t (length l * pointBytes) (pairs-length l),
+    )
+
+-- ---- a field
+-- the list of a field, empty where there is none
+abbrev listOr : Option (List Point) → List Point
+listOr none = []
+listOr (some l) = l
+
+-- a list that is there has so many points
+abbrev AtLeast : ℕ → Option (List Point) → Type 0
+AtLeast least none = Unit {0}
+AtLeast least (some l) = least ≤ length l
+
+field-back : (least : ℕ) (o : Option (List Point)) (t : List ℕ) → LegalColour o → AtLeast least o
+    → readField (there o) least (fieldBytes o ++ t) ≡ good (listOr o) t
+field-back least none t h enough = refl
+field-back least (some l) t h enough = list-back least l t h enough
+
+colour-back : (o : Option (List Point)) → colourList (there o) (listOr o) ≡ o
+colour-back none = refl
+colour-back (some l) = refl
+
+any-points : (o : Option (List Point)) → AtLeast 0 o
+any-points none = tt
+any-points (some l) = omega arith
+
+master-back : (l : List Point) → listOr (masterField l) ≡ l
+master-back [] = refl
+master-back (p ∷ l) = refl
+
+master-points : (l : List Point) → AtLeast 1 (masterField l)
+master-points [] = tt
+master-points (p ∷ l) = omega arith
+
+-- ---- the kind
+sixteen : (n : ℕ) → n % 256 + n / 256 * 256 ≡ n
+sixteen n = omega arith
+
+slope-back : (z : ℤ) → mag z < 32768 → storedSlope (unsigned16 z % 256) (unsigned16 z / 256) ≡ z
+slope-back (pos n) h = rw (sixteen n, lt-ltb n 32768 h)
+slope-back (negsuc n) h =
+    let back : 65535 - (65535 - n) ≡ n = omega arith in
+    rw (sixteen (65535 - n), le-ltb (65535 - n) 32768 (omega arith), back)
+
+-- the kind, with what it carries, at the end of a record
+kind-back : (k : CurveInterpolation) (m : ℕ) → LegalKind k → bit 16 m ≡ namesKind k → carriedBits m ≡ kindBits (kindNumber k)
+    → readKind default m (kindBytes k ++ carriedBytes k) ≡ good k []
+unfolding readKind readNumber readCarried readTension readSlopes
+kind-back Linear m h named carried = rw (named, carried)
+kind-back CatmullRom m h named carried = rw (named, carried)
+kind-back MonotoneCubic m h named carried = rw (named, carried)
+kind-back MonotoneCubicBox m h named carried = rw (named, carried)
+kind-back NaturalCubic m h named carried = rw (named, carried)
+kind-back CentripetalCatmullRom m h named carried = rw (named, carried)
+kind-back ChordalCatmullRom m h named carried = rw (named, carried)
+kind-back (Cardinal q) m h named carried = rw (named, carried)
+kind-back (ClampedCubic start end) m h named carried = rw (named, carried, slope-back start (h .start), slope-back end (h .end))
+kind-back NotAKnotCubic m h named carried = rw (named, carried)
+
+-- ---- the record
+regroup : (a b c d e f : List ℕ) → a ++ b ++ c ++ d ++ e ++ f ≡ a ++ (b ++ (c ++ (d ++ (e ++ f))))
+regroup a b c d e f = simp append-assoc
+
+-- for every set whose lists and kind are legal
+pub round-trip : (v : View) → Legal v → LegalKind (v .kind) → readRecord (encode v) ≡ record { answer = Done; set = v }
+unfolding readRecord encode readFields
+round-trip v h legal =
+    let m = masterField (v .master) in
+    let k = kindBytes (v .kind) ++ carriedBytes (v .kind) in
+    let map = map-back m (v .red) (v .green) (v .blue) (v .kind) in
+    rw (
+      map .reserved,
+      regroup (fieldBytes m) (fieldBytes (v .red)) (fieldBytes (v .green)) (fieldBytes (v .blue)) (kindBytes (v .kind)) (carriedBytes (v .kind)),
+      map .master,
+      field-back 1 m (fieldBytes (v .red) ++ (fieldBytes (v .green) ++ (fieldBytes (v .blue) ++ k))) (master-legal (v .master) (h .master)) (master-points (v .master)),
+      map .red,
+      field-back 0 (v .red) (fieldBytes (v .green) ++ (fieldBytes (v .blue) ++ k)) (h .red) (any-points (v .red)),
+      map .green,
+      field-back 0 (v .green) (fieldBytes (v .blue) ++ k) (h .green) (any-points (v .green)),
+      map .blue,
+      field-back 0 (v .blue) k (h .blue) (any-points (v .blue)),
+      kind-back (v .kind) (mapOf m (v .red) (v .green) (v .blue) (v .kind)) legal (map .kind) (map .carried),
+      master-back (v .master),
+      colour-back (v .red),
+      colour-back (v .green),
+      colour-back (v .blue),
+    )
+
+-- the set of any record, accepted or not, is one that the writer takes: its record is read as that set again
+pub read-again : (s : List ℕ) → AllBytes s → readRecord (encode (readRecord s .set)) ≡ record { answer = Done; set = readRecord s .set }
+read-again s bytes = let l = read-legal s bytes in round-trip (readRecord s .set) (l .lists) (l .kind)
+
+-- what the writer leaves in the buffer, read up to the length written
+pub written-back : (s : Curves) (buffer : List ℕ) → LegalKind (s .interpolation) → writeRecord s buffer .answer ≡ Done
+    → readRecord (take (writeRecord s buffer .length) (writeRecord s buffer .buffer)) ≡ record { answer = Done; set = viewOf s }
+written-back s buffer legal done =
+    let d = done-case s buffer done in
+    let e = encode (viewOf s) in
+    rw (write-done s buffer (d .0) (d .1), take-append-seam e (drop (length e) buffer)) (round-trip (viewOf s) (legal-view s (d .0)) legal)
