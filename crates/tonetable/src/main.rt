@@ -4,5 +4,7 @@ fn main() {
     let mut input = [0u8; 523];
     let n = io::read_full(0, &mut input);
     let text = text::text_of(&input[..n]);
-    io::write_all(1, &text.bytes[..text.length]);
+    let bytes = text.bytes;
+    let length = text.length;
+    io::write_all(1, &bytes[..length]);
 }
