@@ -34,7 +34,7 @@ pub record Legal (v : View) : Type 0 where
 
 -- ---- from the check
 -- where the first refusal of two is none, neither is a refusal
-both-done : (a b : Answer) → firstOf a b ≡ Done → (a ≡ Done) × (b ≡ Done)
+pub both-done : (a b : Answer) → firstOf a b ≡ Done → (a ≡ Done) × (b ≡ Done)
 both-done a b e =
     by-test (isDone a) (λ t. (number-unique a Done (eqb-true (numberOf a) 0 t), rw t at e))
     (λ t. let d : a ≡ Done = rw t at e in absurd (eqb-false (numberOf a) 0 t (rw d)))

@@ -64,7 +64,7 @@ pub fn check_curve(curve: Curve) -> Answer
 }
 
 // The first refusal of two.
-fn first_of(a: Answer, b: Answer) -> Answer
+pub fn first_of(a: Answer, b: Answer) -> Answer
     ensures { λ r. ⌜ r ≡ firstOf a b ⌝ }
 {
     if a.is_done() { b } else { a }

@@ -23,7 +23,7 @@ use Rattle.sampling.specs.Pieces.{heightOf, heightAt, sampled}
 use Rattle.tables.specs.Tables.{unclampedAt, sampleOf, entryOf, byteTable}
 
 -- an entry, with all that its computation opens named in this one place: a theorem that unfolds `computed` unfolds them too
-computed : CurveInterpolation → List Point → ℕ → ℕ
+unfoldable pub computed : CurveInterpolation → List Point → ℕ → ℕ
 unfolding entryOf sampleOf sampled unclampedAt heightAt heightOf kept keptBelow firstAt knots rest xRow yRow xAt yAt filled tabulate
     step sampleAt seek segment Piece.part Piece.straight Piece.hermite looseness looseSlope cardinalAt between segmentAt splinePiece slopeOf secondAt framed
     unknown rowAt solution substituted backward sweptRow swept sweep scaled guardedQuotient absolute clamped byteOf add sub neg mul div lt ofInt ofBits

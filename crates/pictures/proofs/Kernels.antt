@@ -1,0 +1,118 @@
+-- Each format is one that the kernels take, and the tables chosen by the code are those of the definition.
+use mathlib.Core.Path.{_≡_, refl, sym, _∙_}
+use mathlib.Core.Logic.{inl, inr}
+use mathlib.Core.Bool.{Bool, true, false, cond, _&&_, true≢false}
+use mathlib.Core.List.{List}
+use mathlib.Core.Option.{none, some}
+use Prim.Native.Nat.{ℕ, _*_, _≤_}
+use native.Mathlib.Omega.{arith}
+use Rattle.answers.specs.declared.Answer.the-variants.{Done}
+use Rattle.lists.specs.Tabulate.{filled}
+use Rattle.points.specs.declared.Point.{Point}
+use Rattle.points.specs.Points.{listOf}
+use Rattle.tables.specs.declared.CurveInterpolation.{CurveInterpolation}
+use Rattle.tables.specs.Tables.{byteTable}
+use Rattle.sets.specs.declared.Channel.{Channel}
+use Rattle.sets.specs.declared.Colour.{Colour}
+use Rattle.sets.specs.declared.Colour.the-variants.{Red, Green, Blue}
+use Rattle.sets.specs.Sets.{View, colourOf, channelOf, channelAnswer, chosen, ownOrMaster}
+use Rattle.sets.specs.Legal.{passed-count}
+use Rattle.rows.specs.Bytes.{three, rowByte}
+use Rattle.rows.specs.Places.{mul-bound}
+use Rattle.rows.specs.Rows.{tightByte, InPlace, Tight, alphaOf}
+use Rattle.pictures.specs.declared.PixelFormat.{PixelFormat}
+use Rattle.pictures.specs.declared.PixelFormat.the-variants.{
+  Gray8,
+  Ya8,
+  Rgb24,
+  Rgba,
+  Cmyk,
+  CmykInverted,
+  Yuv420P,
+  Yuv422P,
+  Yuv444P,
+  YuvJ420P,
+  YuvJ422P,
+  YuvJ444P,
+}
+use Rattle.pictures.specs.Formats.{bytesAPixel, keptOf, byColour}
+use Rattle.pictures.specs.Checks.{Supported}
+use Rattle.pictures.specs.Runs.{tablesOf, tightRows}
+
+few-bytes : (f : PixelFormat) → bytesAPixel f ≤ 4
+few-bytes Gray8 = omega arith
+few-bytes Ya8 = omega arith
+few-bytes Rgb24 = omega arith
+few-bytes Rgba = omega arith
+few-bytes Cmyk = omega arith
+few-bytes CmykInverted = omega arith
+few-bytes Yuv420P = omega arith
+few-bytes Yuv422P = omega arith
+few-bytes Yuv444P = omega arith
+few-bytes YuvJ420P = omega arith
+few-bytes YuvJ422P = omega arith
+few-bytes YuvJ444P = omega arith
+
+-- no row is so long that a number overflows
+pub row-small : (f : PixelFormat) (w : ℕ) → w ≤ 4096 → w * bytesAPixel f ≤ 4096 * 4
+row-small f w wide = mul-bound w (bytesAPixel f) 4096 4 wide (few-bytes f)
+
+pub in-place : (f : PixelFormat) → InPlace (bytesAPixel f) (keptOf f)
+in-place Gray8 = inl (omega arith, omega arith)
+in-place Ya8 = inr (inl (refl, refl))
+in-place Rgb24 = inl (omega arith, omega arith)
+in-place Rgba = inr (inr (refl, refl))
+in-place Cmyk = inl (omega arith, omega arith)
+in-place CmykInverted = inl (omega arith, omega arith)
+in-place Yuv420P = inl (omega arith, omega arith)
+in-place Yuv422P = inl (omega arith, omega arith)
+in-place Yuv444P = inl (omega arith, omega arith)
+in-place YuvJ420P = inl (omega arith, omega arith)
+in-place YuvJ422P = inl (omega arith, omega arith)
+in-place YuvJ444P = inl (omega arith, omega arith)
+
+pub tight : (f : PixelFormat) → Supported f → Tight (bytesAPixel f) × (alphaOf (bytesAPixel f) ≡ keptOf f)
+unfolding alphaOf
+tight Gray8 s = (inl refl, refl)
+tight Ya8 s = absurd (s refl)
+tight Rgb24 s = (inr (inl refl), refl)
+tight Rgba s = (inr (inr refl), refl)
+tight Cmyk s = absurd (s refl)
+tight CmykInverted s = absurd (s refl)
+tight Yuv420P s = (inl refl, refl)
+tight Yuv422P s = (inl refl, refl)
+tight Yuv444P s = (inl refl, refl)
+tight YuvJ420P s = (inl refl, refl)
+tight YuvJ422P s = (inl refl, refl)
+tight YuvJ444P s = (inl refl, refl)
+
+-- the chosen table of a channel is that of its list
+module _ (kind : CurveInterpolation) (c : Channel) (master : List Point) {own m : List ℕ} (m-is : m ≡ byteTable kind master) where
+  own-or-master : (present : Bool) → (present ≡ true → own ≡ byteTable kind (listOf (c .curve)))
+      → chosen present own m ≡ byteTable kind (ownOrMaster (cond present (some (listOf (c .curve))) none) master)
+  own-or-master true built = built refl
+  own-or-master false built = m-is
+
+  pub chosen-is : {table : List ℕ} (by : Bool) → (by && c .present ≡ true → own ≡ byteTable kind (listOf (c .curve))) → table ≡ chosen (by && c .present) own m
+      → table ≡ byteTable kind (cond by (ownOrMaster (channelOf c) master) master)
+  chosen-is false built e = e ∙ m-is
+  chosen-is true built e = e ∙ own-or-master (c .present) built
+
+-- a channel's table, where `by` says whether colours count
+abbrev channelTable : Bool → View → Colour → List ℕ
+channelTable by v c = byteTable (v .kind) (cond by (ownOrMaster (colourOf c v) (v .master)) (v .master))
+
+-- the kernel's tight rows are the format's
+pub tight-rows-by : (f : PixelFormat) (v : View) (w h step : ℕ) (plane out : List ℕ) {by : Bool} {p : ℕ} {red green blue new : List ℕ}
+    → Supported f → by ≡ byColour f → p ≡ bytesAPixel f
+    → red ≡ channelTable by v Red → green ≡ channelTable by v Green → blue ≡ channelTable by v Blue
+    → new ≡ filled (h * (w * p)) (tightByte (w * p) step (rowByte p (alphaOf p) (three red green blue)) plane) out
+    → new ≡ tightRows f w h step (tablesOf f v) plane out
+tight-rows-by f v w h step plane out s by-is p-is red-is green-is blue-is e =
+    rw (red-is, green-is, blue-is, by-is, p-is, tight f s .1) at e
+
+-- a list that is used has passed
+pub used-count : (by : Bool) (c : Channel) → channelAnswer c ≡ Done → by && c .present ≡ true → c .curve .count ≤ 64
+unfolding channelAnswer
+used-count false c e present = absurd (true≢false (sym present))
+used-count true c e present = passed-count (c .curve) (rw present at e)

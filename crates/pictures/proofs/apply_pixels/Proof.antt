@@ -1,0 +1,100 @@
+-- `apply_pixels`: an accepted run is toned and its chroma copied; a refused one touches nothing.
+use mathlib.Core.Path.{_≡_, sym, _∙_}
+use mathlib.Core.Bool.{false, not}
+use native.Mathlib.Omega.{arith}
+use borrow.Author.Needs.{needs}
+use borrow.Author.Tests.{eq-eqb, ne-eqb, not-true, not-false}
+use Rattle.pictures.specs.Runs.{Run, given, answer}
+use Rattle.pictures.specs.RunLaws.{done, Accepted, accepted-run}
+use Rattle.pictures.proofs.Ends as Ends
+use Rattle.pictures.proofs.apply_pixels.Statement.{statement}
+use Rattle.pictures.proofs.apply_pixels.Tie as tie
+
+-- the run, and its answer
+abbrev run : tie.After-first-of → Run
+run c =
+    let A = c .before .before .before .before .before .before .before .before .before .args in
+    given (A .set) (A .format) (A .width) (A .height) (A .planes) (A .plane .now) (A .step) (A .cb .now) (A .cb-step) (A .cr .now) (A .cr-step)
+    (A .out .now) (A .out-cb .now) (A .out-cr .now)
+
+answered : (c : tie.After-first-of) → c .first-of .result ≡ answer (run c)
+unfolding answer
+answered c = rw (← c .before .before .check .ensures, ← c .before .picture-answer .ensures) (c .first-of .ensures)
+
+-- what is known where it is not refused
+accepted : (c : tie.After-is-done) → not (c .is-done .result) ≡ false → Accepted (run (c .before))
+accepted c e = accepted-run (run (c .before)) (sym (answered (c .before)) ∙ done _ (sym (c .is-done .ensures) ∙ not-false _ e))
+
+returns : tie.Need-returns
+returns c =
+    let k = c .before in
+    rw (c .refused .ensures) (Ends.refused _ (answered (k .before .before)) (sym (k .before .is-done .ensures) ∙ not-true _ (k .if1 .taken)))
+
+tone-first-requires : tie.Need-tone-first-requires
+tone-first-requires c κs =
+    let known = accepted (c .before .before) (c .before .if1 .left) in
+    ((known .lists, known .supported), (known .plane .rows, known .room))
+
+mul-row : tie.Need-mul-row
+mul-row c =
+    let k = c .before .before .before .before .before in
+    let plane = accepted (k .before) (k .if1 .left) .plane in
+    omega (arith, rw (← c .bytes-a-pixel .ensures) at (plane .rows .stepped), plane .stepped)
+
+copy-bytes-requires : tie.Need-copy-bytes-requires
+copy-bytes-requires c κs =
+    let yuv = c .before in
+    let k = yuv .before .before .before .before .before .before .before in
+    accepted (k .before) (k .if1 .left) .chroma-room (eq-eqb _ 3 (sym (yuv .before .planes-read .ensures) ∙ yuv .if2 .taken)) .0
+
+copy-bytes-requires-2 : tie.Need-copy-bytes-requires-2
+copy-bytes-requires-2 c κs =
+    let yuv = c .before .before .before .before .before in
+    let k = yuv .before .before .before .before .before .before .before in
+    accepted (k .before) (k .if1 .left) .chroma-room (eq-eqb _ 3 (sym (yuv .before .planes-read .ensures) ∙ yuv .if2 .taken)) .1
+
+returns-2 : tie.Need-returns-2
+returns-2 c =
+    let cr = c .before .before in
+    let cb = cr .before .before .before .before in
+    let yuv = cb .before .before in
+    let row = yuv .before .before in
+    let k = row .before .before .before .before .before in
+    Ends.done-chroma _ (answered (k .before .before)) (sym (k .before .is-done .ensures) ∙ not-false _ (k .if1 .left))
+    (rw (row .bytes-a-pixel .ensures))
+    (row .before .before .before .tone-first .ensures)
+    (eq-eqb _ 3 (sym (yuv .before .planes-read .ensures) ∙ yuv .if2 .taken))
+    (cb .copy-bytes .ensures)
+    (cr .copy-bytes2 .ensures)
+
+returns-3 : tie.Need-returns-3
+returns-3 c =
+    let row = c .before .before in
+    let k = row .before .before .before .before .before in
+    Ends.done _ (answered (k .before .before)) (sym (k .before .is-done .ensures) ∙ not-false _ (k .if1 .left))
+    (rw (row .bytes-a-pixel .ensures))
+    (row .before .before .before .tone-first .ensures)
+    (ne-eqb _ 3 (λ e. c .if2 .left (c .before .planes-read .ensures ∙ e)))
+
+pub apply-pixels-spec : {M : Type 1} → statement M
+apply-pixels-spec =
+    tie.close
+    (tie.spec
+    (search needs)
+    (search needs)
+    (search needs)
+    (search needs)
+    (search needs)
+    returns
+    tone-first-requires
+    (search needs)
+    mul-row
+    (search needs)
+    copy-bytes-requires
+    copy-bytes-requires-2
+    (search needs)
+    (search needs)
+    (search needs)
+    returns-2
+    (search needs)
+    returns-3)

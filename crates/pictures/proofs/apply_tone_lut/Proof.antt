@@ -1,0 +1,37 @@
+-- `apply_tone_lut`: a plane that passes has its rows, which the kernel tones.
+use mathlib.Core.Path.{sym, _∙_}
+use borrow.Author.Needs.{needs}
+use Rattle.pictures.specs.RunLaws.{done, lut-done}
+use Rattle.pictures.proofs.Kernels.{in-place}
+use Rattle.pictures.proofs.apply_tone_lut.Statement.{statement}
+use Rattle.pictures.proofs.apply_tone_lut.Tie as tie
+
+tone-rows-requires : tie.Need-tone-rows-requires
+tone-rows-requires c κs =
+    let p-is = c .before .before .bytes-a-pixel .ensures in
+    let k = c .before .before .before .before in
+    let f = k .before .before .before .before .args .format in
+    let accepted = done _ (sym (k .before .is-done .ensures) ∙ k .if1 .taken) in
+    let good = lut-done f _ _ _ _ (sym (k .before .before .lut-answer .ensures) ∙ accepted) in
+    (rw (p-is, c .before .kept .ensures) (in-place f), rw p-is (good .rows))
+
+returns : tie.Need-returns
+returns c =
+    let toned = c .before .before in
+    let kept = toned .before .before in
+    let k = kept .before .before .before in
+    record {
+      answer-is = k .before .before .lut-answer .ensures;
+      plane-is = rw (sym (k .before .is-done .ensures) ∙ k .if1 .taken, ← kept .before .bytes-a-pixel .ensures, ← kept .kept .ensures) (toned .tone-rows .ensures);
+    }
+
+returns-2 : tie.Need-returns-2
+returns-2 c = record {
+  answer-is = c .before .before .lut-answer .ensures;
+  plane-is = rw (sym (c .before .is-done .ensures) ∙ c .if1 .left);
+}
+
+pub apply-tone-lut-spec : {M : Type 1} → statement M
+apply-tone-lut-spec =
+    tie.close
+    (tie.spec (search needs) (search needs) (search needs) (search needs) tone-rows-requires (search needs) returns returns-2)

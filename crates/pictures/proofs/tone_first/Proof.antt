@@ -1,0 +1,64 @@
+-- `tone_first`: the kernel is given the table of each channel.
+use borrow.Author.Needs.{needs}
+use Rattle.points.specs.Points.{listOf}
+use Rattle.sets.specs.Sets.{viewOf}
+use Rattle.sets.specs.Legal.{passed-set, passed-count}
+use Rattle.pictures.proofs.Kernels.{tight, used-count, chosen-is, tight-rows-by}
+use Rattle.pictures.proofs.tone_first.Statement.{statement}
+use Rattle.pictures.proofs.tone_first.Tie as tie
+
+byte-table-requires : tie.Need-byte-table-requires
+byte-table-requires c κs = passed-count _ (passed-set _ (c .before .before .before .before .before .before .pre .0 .0) .master)
+
+own-table-requires : tie.Need-own-table-requires
+own-table-requires c κs = let start = c .before .before .before .before .before .before .before in used-count (c .before .before .before .before .by-colour .result) (start .args .set .red) (passed-set _ (start .pre .0 .0) .red)
+
+own-table-requires-2 : tie.Need-own-table-requires-2
+own-table-requires-2 c κs = let start = c .before .before .before .before .before .before .before .before in used-count (c .before .before .before .before .before .by-colour .result) (start .args .set .green) (passed-set _ (start .pre .0 .0) .green)
+
+own-table-requires-3 : tie.Need-own-table-requires-3
+own-table-requires-3 c κs = let start = c .before .before .before .before .before .before .before .before .before in used-count (c .before .before .before .before .before .before .by-colour .result) (start .args .set .blue) (passed-set _ (start .pre .0 .0) .blue)
+
+tone-rows-into-requires : tie.Need-tone-rows-into-requires
+tone-rows-into-requires c κs =
+    let k = c .before .before .before .before .before .before .before .before .before .before in
+    let start = k .before .before .before .before .before .before .before .before .before .before .before in
+    rw (k .bytes-a-pixel .ensures) (tight (start .args .format) (start .pre .0 .1) .0, start .pre .1 .0, start .pre .1 .1)
+
+returns : tie.Need-returns
+returns c =
+    let tight-rows = c .before .before in
+    let blue = tight-rows .before .before in
+    let green = blue .before .before .before in
+    let red = green .before .before .before in
+    let k = red .before .before .before in
+    let own-blue = k .before in
+    let own-green = own-blue .before in
+    let own-red = own-green .before in
+    let master = own-red .before in
+    let by = master .before .before .before .before in
+    let start = by .before .before .before in
+    let set = start .args .set in
+    let built = master .byte-table .ensures in
+    tight-rows-by (start .args .format) (viewOf set) _ _ _ _ _ (start .pre .0 .1) (by .by-colour .ensures) (k .bytes-a-pixel .ensures)
+    (chosen-is (set .interpolation) (set .red) (listOf (set .master)) built (by .by-colour .result) (own-red .own-table .ensures) (red .chosen-table .ensures))
+    (chosen-is (set .interpolation) (set .green) (listOf (set .master)) built (by .by-colour .result) (own-green .own-table2 .ensures) (green .chosen-table2 .ensures))
+    (chosen-is (set .interpolation) (set .blue) (listOf (set .master)) built (by .by-colour .result) (own-blue .own-table3 .ensures) (blue .chosen-table3 .ensures))
+    (tight-rows .tone-rows-into .ensures)
+
+pub tone-first-spec : {M : Type 1} → statement M
+tone-first-spec =
+    tie.close
+    (tie.spec
+    (search needs)
+    byte-table-requires
+    own-table-requires
+    own-table-requires-2
+    own-table-requires-3
+    (search needs)
+    (search needs)
+    (search needs)
+    (search needs)
+    tone-rows-into-requires
+    (search needs)
+    returns)

@@ -1,0 +1,154 @@
+-- Calls where a slip would show, computed from the definitions: document 01's P12, P2 in a picture, and the order of the refusals.
+use mathlib.Core.Path.{_≡_, refl, _∙_}
+use mathlib.Core.Bool.{false}
+use mathlib.Core.List.{List, [], _∷_, _++_}
+use Prim.Native.Nat.{ℕ, _<_}
+use native.Mathlib.Omega.{arith}
+use lib.ListN.{replicate}
+use Rattle.answers.specs.declared.Answer.{Answer}
+use Rattle.answers.specs.declared.Answer.the-variants.{
+  Done,
+  PointCount,
+  PointsNotRising,
+  UnsupportedFormat,
+  PictureTooLarge,
+  MissingPlane,
+  RowStep,
+  PlaneTooShort,
+  OutputTooSmall,
+}
+use Rattle.lists.specs.Tabulate.{tabulate, tabulate-agree, filled}
+use Rattle.points.specs.declared.Point.{Point}
+use Rattle.points.specs.declared.Curve.{Curve}
+use Rattle.points.specs.Points.{pt, straight, risesFrom}
+use Rattle.tables.specs.declared.CurveInterpolation.the-variants.{Linear}
+use Rattle.tables.specs.Tables.{entryOf}
+use Rattle.tables.specs.Examples.{P2}
+use Rattle.sets.specs.declared.Curves.{Curves}
+use Rattle.sets.specs.declared.Channel.{Channel}
+use Rattle.sets.specs.Sets.{curveAnswer, channelAnswer, setAnswer}
+use Rattle.rows.specs.Bytes.{toned, rowByte}
+use Rattle.rows.specs.Rows.{needed, tightByte, byteAt}
+use Rattle.pictures.specs.declared.PixelFormat.{PixelFormat}
+use Rattle.pictures.specs.declared.PixelFormat.the-variants.{Gray8, Cmyk, Yuv420P}
+use Rattle.pictures.specs.Checks.{planeAnswer, lutAnswer, pictureAnswer}
+use Rattle.pictures.specs.Runs.{Run, given, answer, first, chroma}
+
+-- a list as it is stored, zeros behind it, and the set of this master alone
+abbrev stored : List Point → ℕ → Curve
+stored l n = record { points = l ++ replicate 64 (pt 0 0); count = n }
+
+abbrev absent : Channel
+absent = record { present = false; curve = stored [] 0 }
+
+abbrev alone : Curve → Curves
+alone c = record { master = c; red = absent; green = absent; blue = absent; interpolation = Linear }
+
+abbrev line : Curve
+line = stored straight 2
+
+-- a run of w columns and h rows, out of a plane of len bytes, with chroma of 3 bytes each
+abbrev run : Curve → PixelFormat → ℕ → ℕ → ℕ → ℕ → ℕ → ℕ → ℕ → Run
+run master f w h planes step len out outCr =
+    given (alone master) f w h planes (replicate len 5) step (1 ∷ 2 ∷ 3 ∷ []) 7 (4 ∷ 5 ∷ 6 ∷ []) 9 (replicate out 0) (replicate 3 0) (replicate outCr 0)
+
+-- what an answer opens, named in this one place: a theorem that unfolds `answered` unfolds them too
+answered : Run → Answer
+unfolding answer setAnswer curveAnswer channelAnswer risesFrom pictureAnswer planeAnswer needed
+answered = answer
+
+lutAnswered : PixelFormat → ℕ → ℕ → ℕ → ℕ → Answer
+unfolding lutAnswer planeAnswer needed
+lutAnswered = lutAnswer
+
+-- ---- P12, in both calls
+pub P12-lut : lutAnswer Gray8 4 1 3 4 ≡ RowStep
+unfolding lutAnswered
+P12-lut = refl
+
+pub P12-lut-passes : lutAnswer Gray8 4 1 4 4 ≡ Done
+unfolding lutAnswered
+P12-lut-passes = refl
+
+pub P12-set : answer (run line Gray8 4 1 1 3 4 4 0) ≡ RowStep
+unfolding answered
+P12-set = refl
+
+pub P12-set-passes : answer (run line Gray8 4 1 1 4 4 4 0) ≡ Done
+unfolding answered
+P12-set-passes = refl
+
+-- "also at height 0"; and without columns no byte is needed
+pub no-rows : lutAnswer Gray8 4 0 3 0 ≡ RowStep
+unfolding lutAnswered
+no-rows = refl
+
+pub no-columns : lutAnswer Gray8 0 2 3 0 ≡ Done
+unfolding lutAnswered
+no-columns = refl
+
+-- ---- the order of the refusals: each line mends the first fault of the line before it, and has all the later ones still
+abbrev many : Curve
+many = stored straight 65
+
+abbrev falling : Curve
+falling = stored (pt 9 0 ∷ pt 8 0 ∷ []) 2
+
+pub refused-3 : answer (run many Cmyk 5000 2 2 3 7 7 2) ≡ PointCount
+unfolding answered
+refused-3 = refl
+
+pub refused-4 : answer (run falling Cmyk 5000 2 2 3 7 7 2) ≡ PointsNotRising
+unfolding answered
+refused-4 = refl
+
+pub refused-8 : answer (run line Cmyk 5000 2 2 3 7 7 2) ≡ UnsupportedFormat
+unfolding answered
+refused-8 = refl
+
+pub refused-9 : answer (run line Yuv420P 5000 2 2 3 7 7 2) ≡ PictureTooLarge
+unfolding answered
+refused-9 = refl
+
+pub refused-10 : answer (run line Yuv420P 4 2 2 3 7 7 2) ≡ MissingPlane
+unfolding answered
+refused-10 = refl
+
+pub refused-11 : answer (run line Yuv420P 4 2 3 3 7 7 2) ≡ RowStep
+unfolding answered
+refused-11 = refl
+
+pub refused-12 : answer (run line Yuv420P 4 2 3 4 7 7 2) ≡ PlaneTooShort
+unfolding answered
+refused-12 = refl
+
+pub refused-13 : answer (run line Yuv420P 4 2 3 4 8 7 2) ≡ OutputTooSmall
+unfolding answered
+refused-13 = refl
+
+pub refused-13-chroma : answer (run line Yuv420P 4 2 3 4 8 8 2) ≡ OutputTooSmall
+unfolding answered
+refused-13-chroma = refl
+
+pub accepted : answer (run line Yuv420P 4 2 3 4 8 8 3) ≡ Done
+unfolding answered
+accepted = refl
+
+-- ---- P2 in a picture: rows of 2 bytes and padding; chroma goes over, the byte after the tight rows stays
+abbrev flat : Run
+flat = run (stored (pt 128 200 ∷ []) 1) Yuv420P 2 2 3 3 5 5 4
+
+P2-rule : replicate {A = ℕ} 256 200 ≡ tabulate 256 (λ (v : ℕ). 200)
+unfolding tabulate
+P2-rule = refl
+
+P2-entry : (v : ℕ) → v < 256 → entryOf Linear (pt 128 200 ∷ []) v ≡ 200
+P2-entry v lt = tabulate-agree (entryOf Linear (pt 128 200 ∷ [])) (λ w. 200) (P2 ∙ P2-rule) v lt
+
+pub P2-first : first flat ≡ 200 ∷ 200 ∷ 200 ∷ 200 ∷ 0 ∷ []
+unfolding answered first filled tabulate tightByte rowByte toned
+P2-first = rw (P2-entry 5 (omega arith))
+
+pub P2-chroma : chroma flat (flat .cr) (flat .outCr) ≡ 4 ∷ 5 ∷ 6 ∷ 0 ∷ []
+unfolding answered chroma filled tabulate byteAt
+P2-chroma = refl

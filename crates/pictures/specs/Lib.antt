@@ -1,0 +1,6 @@
+pub mod Formats
+pub mod Checks
+pub mod OneTable
+pub mod Runs
+pub mod RunLaws
+pub mod Examples

@@ -1,0 +1,288 @@
+// Tones pictures: by one table within the plane, or by a set of curves into tight rows.
+ghost use mathlib.Core.Path.{_≡_};
+ghost use mathlib.Core.Bool.{true};
+ghost use Prim.Native.Nat.{_*_, _≤_};
+ghost use lib.ListN.{length};
+ghost use Rattle.answers.specs.declared.Answer.the-variants.{Done};
+ghost use Rattle.points.specs.Points.{listOf};
+ghost use Rattle.tables.specs.Tables.{byteTable};
+ghost use Rattle.sets.specs.Sets.{viewOf, setAnswer};
+ghost use Rattle.rows.specs.Rows.{Rows};
+ghost use Rattle.pictures.specs.Formats.{bytesAPixel, keptOf, planesRead, byColour};
+ghost use Rattle.pictures.specs.Checks.{Supported};
+ghost use Rattle.pictures.specs.OneTable.{LutCall};
+ghost use Rattle.pictures.specs.Runs.{given, tablesOf, tightRows, tonedOf, SetCall};
+use answers::Answer;
+use points::Curve;
+use rows::copy_bytes;
+use rows::tone_rows;
+use rows::tone_rows_into;
+use sets::Curves;
+use sets::chosen_table;
+use sets::first_of;
+use tables::CurveInterpolation;
+use tables::byte_table;
+
+mod checks;
+
+pub enum PixelFormat {
+    Gray8,
+    Ya8,
+    Rgb24,
+    Rgba,
+    Cmyk,
+    CmykInverted,
+    Yuv420P,
+    Yuv422P,
+    Yuv444P,
+    YuvJ420P,
+    YuvJ422P,
+    YuvJ444P,
+}
+
+// What the kernels and the checks are told of a format.
+impl PixelFormat {
+    pub fn bytes_a_pixel(self) -> usize
+        ensures { λ r. ⌜ r ≡ bytesAPixel self ⌝ }
+    {
+        match self {
+            PixelFormat::Gray8 => 1,
+            PixelFormat::Ya8 => 2,
+            PixelFormat::Rgb24 => 3,
+            PixelFormat::Rgba => 4,
+            PixelFormat::Cmyk => 4,
+            PixelFormat::CmykInverted => 4,
+            PixelFormat::Yuv420P => 1,
+            PixelFormat::Yuv422P => 1,
+            PixelFormat::Yuv444P => 1,
+            PixelFormat::YuvJ420P => 1,
+            PixelFormat::YuvJ422P => 1,
+            PixelFormat::YuvJ444P => 1,
+        }
+    }
+
+    // The channel that no table tones, alpha; the number of channels where there is none.
+    pub fn kept(self) -> usize
+        ensures { λ r. ⌜ r ≡ keptOf self ⌝ }
+    {
+        match self {
+            PixelFormat::Gray8 => 1,
+            PixelFormat::Ya8 => 1,
+            PixelFormat::Rgb24 => 3,
+            PixelFormat::Rgba => 3,
+            PixelFormat::Cmyk => 4,
+            PixelFormat::CmykInverted => 4,
+            PixelFormat::Yuv420P => 1,
+            PixelFormat::Yuv422P => 1,
+            PixelFormat::Yuv444P => 1,
+            PixelFormat::YuvJ420P => 1,
+            PixelFormat::YuvJ422P => 1,
+            PixelFormat::YuvJ444P => 1,
+        }
+    }
+
+    // How many planes the set call reads; 0 where it refuses the format.
+    pub fn planes_read(self) -> usize
+        ensures { λ r. ⌜ r ≡ planesRead self ⌝ }
+    {
+        match self {
+            PixelFormat::Gray8 => 1,
+            PixelFormat::Ya8 => 0,
+            PixelFormat::Rgb24 => 1,
+            PixelFormat::Rgba => 1,
+            PixelFormat::Cmyk => 0,
+            PixelFormat::CmykInverted => 0,
+            PixelFormat::Yuv420P => 3,
+            PixelFormat::Yuv422P => 3,
+            PixelFormat::Yuv444P => 3,
+            PixelFormat::YuvJ420P => 3,
+            PixelFormat::YuvJ422P => 3,
+            PixelFormat::YuvJ444P => 3,
+        }
+    }
+
+    // Whether the set call tones each colour by its own table.
+    pub fn by_colour(self) -> bool
+        ensures { λ r. ⌜ r ≡ byColour self ⌝ }
+    {
+        match self {
+            PixelFormat::Gray8 => false,
+            PixelFormat::Ya8 => false,
+            PixelFormat::Rgb24 => true,
+            PixelFormat::Rgba => true,
+            PixelFormat::Cmyk => false,
+            PixelFormat::CmykInverted => false,
+            PixelFormat::Yuv420P => false,
+            PixelFormat::Yuv422P => false,
+            PixelFormat::Yuv444P => false,
+            PixelFormat::YuvJ420P => false,
+            PixelFormat::YuvJ422P => false,
+            PixelFormat::YuvJ444P => false,
+        }
+    }
+}
+
+// How many bytes the planes and the outputs of the set call hold.
+pub struct Lengths {
+    pub plane: usize,
+    pub cb: usize,
+    pub cr: usize,
+    pub out: usize,
+    pub out_cb: usize,
+    pub out_cr: usize,
+}
+
+// What the set call answers, and the row steps of its outputs.
+pub struct Toned {
+    pub answer: Answer,
+    pub step: usize,
+    pub cb_step: usize,
+    pub cr_step: usize,
+}
+
+impl Toned {
+    // A refusal, with zeros for the steps.
+    fn refused(answer: Answer) -> Toned
+        ensures { λ r. ⌜ r ≡ tonedOf answer 0 0 0 ⌝ }
+    {
+        Toned {
+            answer,
+            step: 0,
+            cb_step: 0,
+            cr_step: 0,
+        }
+    }
+}
+
+// Tones a plane in place by one table, all twelve formats. Alpha, chroma and padding stay as they are.
+pub fn apply_tone_lut(
+    plane: &mut [u8],
+    step: usize,
+    table: [u8; 256],
+    format: PixelFormat,
+    width: u32,
+    height: u32,
+) -> Answer
+    ensures { λ r. ⌜ LutCall format width height step table (now (plane .entry)) r (now (plane .exit)) ⌝ }
+{
+    let w = width as usize;
+    let h = height as usize;
+    let answer = checks::lut_answer(format, w, h, step, plane.len());
+    if answer.is_done() {
+        tone_rows(
+            plane,
+            step,
+            w,
+            h,
+            format.bytes_a_pixel(),
+            format.kept(),
+            &table,
+        );
+    }
+    answer
+}
+
+// The table of a list, where it is present. Else nothing is built, and nothing reads the zeros.
+fn own_table(present: bool, curve: Curve, kind: CurveInterpolation) -> [u8; 256]
+    requires { ⌜ (present ≡ true → curve .count ≤ 64) ⌝ }
+    ensures { λ r. ⌜ (present ≡ true → r ≡ byteTable kind (listOf curve)) ⌝ }
+{
+    if present {
+        byte_table(curve, kind)
+    } else {
+        [0; 256]
+    }
+}
+
+// Tones the first plane of an accepted run: by colour, each by its own table or else the master's; or all by the master.
+fn tone_first(
+    set: Curves,
+    format: PixelFormat,
+    plane: &[u8],
+    step: usize,
+    w: usize,
+    h: usize,
+    out: &mut [u8],
+)
+    requires { ⌜ (setAnswer set ≡ Done) × Supported format ⌝ }
+    requires { ⌜ Rows w h (w * bytesAPixel format) step (length (now plane)) ⌝ }
+    requires { ⌜ h * (w * bytesAPixel format) ≤ length (now out) ⌝ }
+    ensures { λ _. ⌜ now (out .exit) ≡ tightRows format w h step (tablesOf format (viewOf set)) (now (plane .entry)) (now (out .entry)) ⌝ }
+{
+    let kind = set.interpolation;
+    let by_colour = format.by_colour();
+    let red = by_colour & set.red.present;
+    let green = by_colour & set.green.present;
+    let blue = by_colour & set.blue.present;
+    let master_table = byte_table(set.master, kind);
+    let red_table = own_table(red, set.red.curve, kind);
+    let green_table = own_table(green, set.green.curve, kind);
+    let blue_table = own_table(blue, set.blue.curve, kind);
+    tone_rows_into(
+        plane,
+        step,
+        w,
+        h,
+        format.bytes_a_pixel(),
+        chosen_table(red, &red_table, &master_table),
+        chosen_table(green, &green_table, &master_table),
+        chosen_table(blue, &blue_table, &master_table),
+        out,
+    );
+}
+
+// Tones a picture by a set of curves into tight rows; chroma is copied. On a refusal no output changes.
+pub fn apply_pixels<'a, 'x, 'y, 'z>(
+    set: Curves,
+    format: PixelFormat,
+    width: u32,
+    height: u32,
+    planes: usize,
+    plane: &'a [u8],
+    step: usize,
+    cb: &'a [u8],
+    cb_step: usize,
+    cr: &'a [u8],
+    cr_step: usize,
+    out: &'x mut [u8],
+    out_cb: &'y mut [u8],
+    out_cr: &'z mut [u8],
+) -> Toned
+    ensures { λ r. ⌜ SetCall (given set format width height planes (now (plane .entry)) step (now (cb .entry)) «cb_step» (now (cr .entry)) «cr_step» (now (out .entry)) (now («out_cb» .entry)) (now («out_cr» .entry))) r (now (out .exit)) (now («out_cb» .exit)) (now («out_cr» .exit)) ⌝ }
+{
+    let w = width as usize;
+    let h = height as usize;
+    let held = Lengths {
+        plane: plane.len(),
+        cb: cb.len(),
+        cr: cr.len(),
+        out: out.len(),
+        out_cb: out_cb.len(),
+        out_cr: out_cr.len(),
+    };
+    let answer = first_of(
+        set.check(),
+        checks::picture_answer(format, w, h, planes, step, held),
+    );
+    if !answer.is_done() {
+        return Toned::refused(answer);
+    }
+    tone_first(set, format, plane, step, w, h, out);
+    let row = w * format.bytes_a_pixel();
+    if format.planes_read() == 3 {
+        copy_bytes(cb, out_cb);
+        copy_bytes(cr, out_cr);
+        return Toned {
+            answer,
+            step: row,
+            cb_step,
+            cr_step,
+        };
+    }
+    Toned {
+        answer,
+        step: row,
+        cb_step: 0,
+        cr_step: 0,
+    }
+}

@@ -1,0 +1,305 @@
+-- Controls of the third demand. What it asks of kinds, lists, rows and chroma is needed: without it the clause is refuted, by runs of one pixel that are
+-- computed from the definitions. And two of the programs that document 01 says must not pass, one flat table and a copy, do not keep the demand.
+use Prim.Native.Nat.{ℕ, zero, suc, _*_, _+_, _≤_, _<_}
+use native.Mathlib.Decide.{ℕ-discrete}
+use native.Mathlib.Omega.{arith}
+use mathlib.Core.Path.{_≡_, refl, sym, ap, _∙_}
+use mathlib.Core.List.{List, [], _∷_, List·Memᴰ, List·Memᴰ·head, List·Memᴰ·tail}
+use lib.Dec.{lit<, lit≤}
+use lib.ListN.{getD}
+use lib.Seq.{getD-take}
+use Rattle.answers.specs.declared.Answer.{Answer}
+use Rattle.points.specs.declared.Point.{Point}
+use Rattle.points.specs.Points.{pt, straight, risesFrom}
+use Rattle.points.specs.Knots.{rest, knots, OnLine}
+use Rattle.hermite.specs.CatmullRom.{slope}
+use Rattle.hermite.specs.Monotone.{secantAt, meanAt, boxed, adjusted, reached, monotoneAt}
+use Rattle.spline.specs.Second.{recovered, endsRecovered, notAKnotAt}
+use Rattle.tables.specs.declared.CurveInterpolation.{CurveInterpolation}
+use Rattle.tables.specs.declared.CurveInterpolation.the-variants.{Linear, MonotoneCubicBox, NotAKnotCubic}
+use Rattle.tables.specs.Tables.{entryOf}
+use Rattle.tables.specs.Examples as Tables
+use Rattle.sets.specs.Sets.{curveAnswer, channelAnswer, setAnswer}
+use Rattle.rows.specs.Rows.{inRow, needed}
+use Rattle.pictures.specs.declared.PixelFormat.the-variants.{Gray8, Rgba, Yuv420P}
+use Rattle.pictures.specs.Checks.{planeAnswer, pictureAnswer}
+use Rattle.pictures.specs.Runs.{Run, answer}
+use Rattle.promises.specs.Words.{
+  Call,
+  Accepted,
+  Share,
+  Place,
+  Within,
+  TonedAt,
+  input,
+  output,
+  listThatTones,
+  IsPadding,
+  IsLinear,
+  IsSpline,
+  NoListFalls,
+  Nearest,
+  AlikeInRows,
+  AlikeInChroma,
+  WriteTheSame,
+}
+use Rattle.promises.specs.Demand3.{through-points, passed-through}
+use Rattle.promises.specs.Pixels.{Toning, Strip, AreBytes, runOf, ran, shared, here, grey, ranGrey, grey-toned, grey-input, grey-output}
+
+-- what the computation of an entry opens, and that of an answer
+computed : CurveInterpolation → List Point → ℕ → ℕ
+unfolding Tables.computed slope secantAt meanAt boxed adjusted reached monotoneAt recovered endsRecovered notAKnotAt
+computed = entryOf
+
+checked : Run → Answer
+unfolding answer setAnswer curveAnswer channelAnswer risesFrom pictureAnswer planeAnswer needed
+checked = answer
+
+-- ---- "order", with P for its premise on kind and lists
+abbrev OrderUnder : (Run → Type 0) → Type 0
+OrderUnder P =
+    (a b : Call) → Share a b → Accepted a → Accepted b → P (a .given) → ((p : Place) → TonedAt (a .given) p → input a p ≤ input b p)
+    → (p : Place) → TonedAt (a .given) p → output a p ≤ output b p
+
+-- an entry lower than one before it refutes it
+order-refuted : (P : Run → Type 0) (s : Toning) (v w : ℕ) (v-byte : v < 256) (w-byte : w < 256) → v ≤ w
+    → entryOf (s .kind) (s .list) w < entryOf (s .kind) (s .list) v
+    → Accepted (ranGrey s v v-byte) → Accepted (ranGrey s w w-byte) → P (runOf (grey s v)) → OrderUnder P → ⊥
+order-refuted P s v w v-byte w-byte le lower v-ok w-ok holds order =
+    let a = ranGrey s v v-byte in
+    let b = ranGrey s w w-byte in
+    let below : (p : Place) → TonedAt (a .given) p → input a p ≤ input b p = λ p t.
+    let i = t .within in
+    rw (grey-input s v v-byte p (i .row) (i .column) (i .channel), grey-input s w w-byte p (i .row) (i .column) (i .channel)) le in
+    omega (
+      arith,
+      order a b (shared (grey s v) (grey s w) (v-byte, tt) (w-byte, tt) refl refl refl) v-ok w-ok holds below here (grey-toned s v),
+      grey-output s v v-byte v-ok,
+      grey-output s w w-byte w-ok,
+    )
+
+-- a list that falls breaks it under Linear ..
+abbrev falling : Toning
+falling = record { list = pt 0 9 ∷ pt 255 0 ∷ []; kind = Linear; bytes = ((lit< tt, lit< tt), ((lit< tt, lit< tt), tt)); tension = lit< tt }
+
+pub falling-at-0 : entryOf Linear (falling .list) 0 ≡ 9
+unfolding computed
+falling-at-0 = refl
+
+pub falling-at-255 : entryOf Linear (falling .list) 255 ≡ 0
+unfolding computed
+falling-at-255 = refl
+
+pub order-wants-no-list-to-fall : OrderUnder IsLinear → ⊥
+unfolding checked
+order-wants-no-list-to-fall =
+    order-refuted IsLinear falling 0 255 (lit< tt) (lit< tt) (lit≤ tt) (omega (arith, falling-at-0, falling-at-255)) refl refl refl
+
+-- .. and a list that never falls breaks it under another kind
+abbrev steep : Toning
+steep = record {
+  list = pt 0 0 ∷ pt 1 50 ∷ pt 66 51 ∷ pt 255 255 ∷ [];
+  kind = MonotoneCubicBox;
+  bytes = ((lit< tt, lit< tt), ((lit< tt, lit< tt), ((lit< tt, lit< tt), ((lit< tt, lit< tt), tt))));
+  tension = lit< tt;
+}
+
+pub steep-at-33 : entryOf MonotoneCubicBox (steep .list) 33 ≡ 51
+unfolding computed
+steep-at-33 = refl
+
+pub steep-at-34 : entryOf MonotoneCubicBox (steep .list) 34 ≡ 50
+unfolding computed
+steep-at-34 = refl
+
+pub order-wants-linear : OrderUnder NoListFalls → ⊥
+unfolding checked
+order-wants-linear =
+    order-refuted NoListFalls steep 33 34 (lit< tt) (lit< tt) (lit≤ tt) (omega (arith, steep-at-33, steep-at-34)) refl refl
+    (record { master = (lit≤ tt, (lit≤ tt, (lit≤ tt, tt))); red = tt; green = tt; blue = tt })
+
+-- ---- "near", with P for its premise on the kind, and IsNear for what it says of an output byte and the line n / d
+abbrev NearUnder : (Run → Type 0) → (ℕ → ℕ → ℕ → Type 0) → Type 0
+NearUnder P IsNear =
+    (a : Call) → Accepted a → P (a .given) → (p : Place) → TonedAt (a .given) p
+    → (n d : ℕ) → OnLine (listThatTones (a .given) p) (input a p) n d → IsNear n d (output a p)
+
+-- the line of the steep list is 3,283 / 65 at 34, to which 51 is nearest, and not 50
+pub steep-line-at-34 : OnLine (steep .list) 34 3283 65
+unfolding knots rest
+steep-line-at-34 = record { i = 1; inside = lit< tt; left = lit≤ tt; right = lit≤ tt; width = refl; height = refl }
+
+pub near-wants-linear : NearUnder (λ r. Unit {0}) Nearest → ⊥
+unfolding checked
+near-wants-linear near =
+    let byte : 34 < 256 = lit< tt in
+    let claim = near (ranGrey steep 34 byte) refl tt here (grey-toned steep 34) 3283 65 steep-line-at-34 in
+    omega (arith, claim .0, claim .1, grey-output steep 34 byte refl, steep-at-34)
+
+-- 31 and 32 are both nearest to 378 / 12 = 31.5, 30 and 33 are not ..
+pub nearest-half : Nearest 378 12 31 × Nearest 378 12 32 × (Nearest 378 12 30 → ⊥) × (Nearest 378 12 33 → ⊥)
+nearest-half = ((lit≤ tt, lit≤ tt), (lit≤ tt, lit≤ tt), λ h. omega (arith, h .0, h .1), λ h. omega (arith, h .0, h .1))
+
+-- .. which is the line of (0,0),(12,54) at 7. This half goes down: not every half goes up
+abbrev ramp : Toning
+ramp = record { list = pt 0 0 ∷ pt 12 54 ∷ []; kind = Linear; bytes = ((lit< tt, lit< tt), ((lit< tt, lit< tt), tt)); tension = lit< tt }
+
+pub ramp-line-at-7 : OnLine (ramp .list) 7 378 12
+unfolding knots rest
+ramp-line-at-7 = record { i = 0; inside = lit< tt; left = lit≤ tt; right = lit≤ tt; width = refl; height = refl }
+
+pub ramp-at-7 : entryOf Linear (ramp .list) 7 ≡ 31
+unfolding computed
+ramp-at-7 = refl
+
+pub near-goes-either-way : NearUnder IsLinear (λ n d b. 2 * n < 2 * (b * d) + d) → ⊥
+unfolding checked
+near-goes-either-way up =
+    let byte : 7 < 256 = lit< tt in
+    omega (arith, up (ranGrey ramp 7 byte) refl refl here (grey-toned ramp 7) 378 12 ramp-line-at-7, grey-output ramp 7 byte refl, ramp-at-7)
+
+-- ---- "through points": NotAKnotCubic misses (163,230) by 1
+abbrev narrow : Toning
+narrow = record {
+  list = pt 163 230 ∷ pt 164 84 ∷ pt 165 185 ∷ [];
+  kind = NotAKnotCubic;
+  bytes = ((lit< tt, lit< tt), ((lit< tt, lit< tt), ((lit< tt, lit< tt), tt)));
+  tension = lit< tt;
+}
+
+pub narrow-at-163 : entryOf NotAKnotCubic (narrow .list) 163 ≡ 231
+unfolding computed
+narrow-at-163 = refl
+
+pub through-points-wants-no-spline :
+    ((a : Call) → Accepted a → (p : Place) → TonedAt (a .given) p
+    → (q : Point) → List·Memᴰ q (listThatTones (a .given) p) → input a p ≡ q .x → output a p ≡ q .y)
+    → ⊥
+unfolding checked
+through-points-wants-no-spline through =
+    let byte : 163 < 256 = lit< tt in
+    omega (
+      arith,
+      through (ranGrey narrow 163 byte) refl here (grey-toned narrow 163) (pt 163 230) (List·Memᴰ·head refl) refl,
+      grey-output narrow 163 byte refl,
+      narrow-at-163,
+    )
+
+-- ---- "rows alone": alpha and chroma are written too, so it is not enough that runs are alike in their toned bytes, or in their rows
+abbrev straightLine : Toning
+straightLine = record { list = straight; kind = Linear; bytes = ((lit< tt, lit< tt), ((lit< tt, lit< tt), tt)); tension = lit< tt }
+
+abbrev colours : ℕ → List ℕ
+colours alpha = 5 ∷ 6 ∷ 7 ∷ alpha ∷ []
+
+colours-alike : (x y i : ℕ) → i < 3 → getD (colours x) i 0 ≡ getD (colours y) i 0
+colours-alike x y zero h = refl
+colours-alike x y (suc zero) h = refl
+colours-alike x y (suc (suc zero)) h = refl
+colours-alike x y (suc (suc (suc i))) h = absurd (omega arith)
+
+abbrev coloured : ℕ → Strip
+coloured alpha = record { by = straightLine; format = Rgba; height = 1; plane = colours alpha; step = 4; chroma = [] }
+
+abbrev alphaHere : Place
+alphaHere = record { row = 0; column = 0; channel = 3 }
+
+alpha-within : (alpha : ℕ) → Within (runOf (coloured alpha)) alphaHere
+alpha-within alpha = record { row = lit< tt; column = lit< tt; channel = lit< tt }
+
+pub rows-alone-wants-alpha :
+    ((a b : Call) → Share a b → Accepted a → Accepted b → ((p : Place) → TonedAt (a .given) p → input a p ≡ input b p) → AlikeInChroma a b
+    → WriteTheSame a b)
+    → ⊥
+unfolding checked
+rows-alone-wants-alpha claim =
+    let bytes : (x : ℕ) → x < 256 → AreBytes (colours x) = λ x h. (lit< tt, (lit< tt, (lit< tt, (h, tt)))) in
+    let a-bytes = bytes 1 (lit< tt) in
+    let b-bytes = bytes 2 (lit< tt) in
+    let a = ran (coloured 1) a-bytes in
+    let b = ran (coloured 2) b-bytes in
+    let alike : (p : Place) → TonedAt (a .given) p → input a p ≡ input b p = λ p t.
+    colours-alike 1 2 (p .row * 4 + (p .column * 4 + p .channel))
+    (let other : p .channel ≡ 3 → ⊥ = t .not-alpha in omega (arith, t .within .row, t .within .column, t .within .channel)) in
+    let same = claim a b (shared (coloured 1) (coloured 2) a-bytes b-bytes refl refl refl) refl refl alike
+    (record { cb = λ yuv. refl; cr = λ yuv. refl }) .out in
+    omega (
+      arith,
+      passed-through a refl .alpha alphaHere (alpha-within 1) (λ t. t .not-alpha refl),
+      passed-through b refl .alpha alphaHere (alpha-within 2) (λ t. t .not-alpha refl),
+      ap (λ (l : List ℕ). getD l 3 0) same,
+      getD-take 4 (a .out) 3 0 (lit< tt),
+      getD-take 4 (b .out) 3 0 (lit< tt),
+    )
+
+abbrev tinted : ℕ → Strip
+tinted cb = record { by = straightLine; format = Yuv420P; height = 1; plane = 5 ∷ []; step = 1; chroma = cb ∷ [] }
+
+pub rows-alone-wants-chroma : ((a b : Call) → Share a b → Accepted a → Accepted b → AlikeInRows a b → WriteTheSame a b) → ⊥
+unfolding checked
+rows-alone-wants-chroma claim =
+    let a = ran (tinted 1) (lit< tt, tt) in
+    let b = ran (tinted 2) (lit< tt, tt) in
+    let same = claim a b (shared (tinted 1) (tinted 2) (lit< tt, tt) (lit< tt, tt) refl refl refl) refl refl (λ p w. refl) .cb in
+    let alike : _≡_ {A = List ℕ} (1 ∷ []) (2 ∷ []) = sym (passed-through a refl .cb refl) ∙ same ∙ passed-through b refl .cb refl in
+    omega (arith, ap (λ (l : List ℕ). getD l 0 0) alike)
+
+-- it speaks of runs whose padding and row steps differ: rows 5 and 6, one after the other, and with two bytes of padding between
+abbrev unpadded : Strip
+unpadded = record { by = straightLine; format = Gray8; height = 2; plane = 5 ∷ 6 ∷ []; step = 1; chroma = [] }
+
+abbrev padded : Strip
+padded = record { by = straightLine; format = Gray8; height = 2; plane = 5 ∷ 99 ∷ 98 ∷ 6 ∷ []; step = 3; chroma = [] }
+
+pub rows-alone-with-padding :
+    (a b : Call) × Share a b × Accepted a × Accepted b × AlikeInRows a b × (a .given .plane .step < b .given .plane .step) × IsPadding (b .given) 1
+unfolding checked inRow
+rows-alone-with-padding =
+    let a-bytes : AreBytes (unpadded .plane) = (lit< tt, (lit< tt, tt)) in
+    let b-bytes : AreBytes (padded .plane) = (lit< tt, (lit< tt, (lit< tt, (lit< tt, tt)))) in
+    let a = ran unpadded a-bytes in
+    let b = ran padded b-bytes in
+    let alike : AlikeInRows a b = λ p w. elim (ℕ-discrete (p .row) 0) [
+      | yes top ↦
+          let i : p .row * 1 + (p .column * 1 + p .channel) ≡ 0 = omega (arith, w .column, w .channel) in
+          let j : p .row * 3 + (p .column * 1 + p .channel) ≡ 0 = omega (arith, w .column, w .channel) in
+          rw (i, j)
+      | no below ↦
+          let i : p .row * 1 + (p .column * 1 + p .channel) ≡ 1 = omega (arith, w .row, w .column, w .channel) in
+          let j : p .row * 3 + (p .column * 1 + p .channel) ≡ 3 = omega (arith, w .row, w .column, w .channel) in
+          rw (i, j)
+    ] in
+    (a, b, shared unpadded padded a-bytes b-bytes refl refl refl, refl, refl, alike, lit< tt, refl)
+
+-- ---- programs that must not pass: one flat table for every set, and a copy of the picture. Each misses a point's y
+linear-is-no-spline : IsSpline Linear → ⊥
+linear-is-no-spline e = let z : _≡_ {A = ℕ} 0 1 = cc in omega arith
+
+pub no-flat-table : (t : ℕ) → ((a : Call) → Accepted a → (p : Place) → TonedAt (a .given) p → output a p ≡ t) → ⊥
+unfolding checked
+no-flat-table t flat =
+    let a = ranGrey straightLine 0 (lit< tt) in
+    let b = ranGrey straightLine 255 (lit< tt) in
+    let a-here = grey-toned straightLine 0 in
+    let b-here = grey-toned straightLine 255 in
+    omega (
+      arith,
+      flat a refl here a-here,
+      flat b refl here b-here,
+      through-points a refl linear-is-no-spline here a-here (pt 0 0) (List·Memᴰ·head refl) refl,
+      through-points b refl linear-is-no-spline here b-here (pt 255 255) (List·Memᴰ·tail (List·Memᴰ·head refl)) refl,
+    )
+
+abbrev lifted : Toning
+lifted = record { list = pt 128 200 ∷ []; kind = Linear; bytes = ((lit< tt, lit< tt), tt); tension = lit< tt }
+
+pub no-copy : ((a : Call) → Accepted a → (p : Place) → TonedAt (a .given) p → output a p ≡ input a p) → ⊥
+unfolding checked
+no-copy copied =
+    let a = ranGrey lifted 128 (lit< tt) in
+    let a-here = grey-toned lifted 128 in
+    omega (
+      arith,
+      copied a refl here a-here,
+      through-points a refl linear-is-no-spline here a-here (pt 128 200) (List·Memᴰ·head refl) refl,
+    )

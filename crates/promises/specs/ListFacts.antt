@@ -1,0 +1,84 @@
+-- The list that tones a byte: what holds of every list in a set holds of it, and its table is the one that tones the byte.
+use Prim.Native.Nat.{ℕ, zero, suc, _<_}
+use mathlib.Core.Path.{_≡_, refl}
+use mathlib.Core.List.{List}
+use mathlib.Core.Option.{Option, none, some}
+use Rattle.lists.specs.Tabulate.{getD-tabulate}
+use Rattle.single.specs.RuleLaws.{by-test}
+use Rattle.points.specs.declared.Point.{Point}
+use Rattle.tables.specs.declared.CurveInterpolation.{CurveInterpolation}
+use Rattle.tables.specs.declared.CurveInterpolation.the-variants.{
+  Linear,
+  CatmullRom,
+  MonotoneCubic,
+  MonotoneCubicBox,
+  NaturalCubic,
+  CentripetalCatmullRom,
+  ChordalCatmullRom,
+  Cardinal,
+  ClampedCubic,
+  NotAKnotCubic,
+}
+use Rattle.tables.specs.Tables.{entryOf}
+use Rattle.table_facts.specs.Through.{NoSpline}
+use Rattle.sets.specs.declared.Colour.{Colour}
+use Rattle.sets.specs.declared.Colour.the-variants.{Red, Green, Blue}
+use Rattle.sets.specs.Carried.{carriedOf}
+use Rattle.sets.specs.Sets.{View, colourOf, ownOrMaster}
+use Rattle.sets.specs.Legal.{LegalList, LegalColour, Legal}
+use Rattle.rows.specs.Bytes.{through}
+use Rattle.pictures.specs.declared.PixelFormat.{PixelFormat}
+use Rattle.pictures.specs.Formats.{byColour}
+use Rattle.pictures.specs.Runs.{listFor, tablesOf, tonedBy}
+use Rattle.pictures.specs.RunLaws.{tables-of}
+use Rattle.promises.specs.Words.{OfColour, EveryList, IsSpline}
+
+-- what holds of every list
+module _ (P : List Point → Type 0) where
+  own-or-master : (o : Option (List Point)) (m : List Point) → OfColour P o → P m → P (ownOrMaster o m)
+  own-or-master none m own master = master
+  own-or-master (some l) m own master = own
+
+  of-colour : (v : View) → EveryList P v → (c : Colour) → OfColour P (colourOf c v)
+  of-colour v every Red = every .red
+  of-colour v every Green = every .green
+  of-colour v every Blue = every .blue
+
+  of-list : (f : PixelFormat) (v : View) → EveryList P v → (c : Colour) → P (listFor f v c)
+  of-list f v every c =
+      by-test (byColour f) (λ t. rw t (own-or-master (colourOf c v) (v .master) (of-colour v every c) (every .master))) (λ t. rw t (every .master))
+
+  pub of-toning-list : (f : PixelFormat) (v : View) → EveryList P v → (j : ℕ) → P (tonedBy f v j)
+  of-toning-list f v every zero = of-list f v every Red
+  of-toning-list f v every (suc zero) = of-list f v every Green
+  of-toning-list f v every (suc (suc j)) = of-list f v every Blue
+
+-- every list of a set that passed its check is legal
+legal-colour : (o : Option (List Point)) → LegalColour o → OfColour LegalList o
+legal-colour none h = tt
+legal-colour (some l) h = h
+
+pub legal-lists : (v : View) → Legal v → EveryList LegalList v
+legal-lists v h = record {
+  master = h .master;
+  red = legal-colour (v .red) (h .red);
+  green = legal-colour (v .green) (h .green);
+  blue = legal-colour (v .blue) (h .blue);
+}
+
+-- the table that tones a channel is that of its list
+pub toning-table : (f : PixelFormat) (v : View) (j x : ℕ) → x < 256 → through (tablesOf f v j) x ≡ entryOf (v .kind) (tonedBy f v j) x
+toning-table f v j x h = rw (tables-of f v j) (getD-tabulate 256 (entryOf (v .kind) (tonedBy f v j)) x 0 h)
+
+-- a kind that is no spline, in the words of the table facts
+pub no-spline : (k : CurveInterpolation) → (IsSpline k → ⊥) → carriedOf k .tension < 256 → NoSpline k
+no-spline Linear other byte = tt
+no-spline CatmullRom other byte = tt
+no-spline MonotoneCubic other byte = tt
+no-spline MonotoneCubicBox other byte = tt
+no-spline NaturalCubic other byte = other refl
+no-spline CentripetalCatmullRom other byte = tt
+no-spline ChordalCatmullRom other byte = tt
+no-spline (Cardinal q) other byte = byte
+no-spline (ClampedCubic start end) other byte = other refl
+no-spline NotAKnotCubic other byte = other refl

@@ -1,0 +1,346 @@
+-- What stands at each place of the outputs of a run that is not refused, and the clauses of the third demand that follow.
+use Prim.Native.Nat.{ℕ, _/_, _%_, _≤_, _<_}
+use native.Mathlib.Nat.{mod-lt, div-lt-iff-lt-mul, eq-zero-or-pos, mul-zero, div-add-mod'}
+use native.Mathlib.Decide.{ℕ-discrete}
+use native.Mathlib.Omega.{arith}
+use mathlib.Core.Path.{_≡_, refl, sym, ap, _∙_}
+use mathlib.Core.Logic.{⊎-elim}
+use mathlib.Core.Bool.{true, false, false≢true}
+use mathlib.Core.List.{List, List·Memᴰ}
+use lib.ListN.{length, getD, take, drop}
+use lib.Seq.{take-append-seam, length-take-le, getD-take, ext-getD}
+use borrow.Author.Tests.{lt-ltb}
+use Rattle.lists.specs.Tabulate.{tabulate, filled, length-tabulate, is-tabulate, length-filled, getD-filled-rest}
+use Rattle.floats.specs.Frac.{frac}
+use Rattle.floats.specs.Nearest as Whole
+use Rattle.single.specs.RuleLaws.{by-test}
+use Rattle.points.specs.declared.Point.{Point}
+use Rattle.points.specs.Points.{kept}
+use Rattle.points.specs.Knots.{OnLine}
+use Rattle.points.specs.Order.{All, Bytes, NeverFalls}
+use Rattle.points.specs.Kept.{kept-rising, rising-is-kept}
+use Rattle.points.specs.Line.{on-line, line-width, one-value}
+use Rattle.tables.specs.declared.CurveInterpolation.the-variants.{Linear}
+use Rattle.tables.specs.Tables.{entryOf}
+use Rattle.table_facts.specs.Near.{entry-near}
+use Rattle.table_facts.specs.Ordered.{entry-order}
+use Rattle.table_facts.specs.Through as Table
+use Rattle.sets.specs.Sets.{View, viewOf}
+use Rattle.sets.specs.Legal.{LegalList}
+use Rattle.sets.specs.SameLaws.{same-view}
+use Rattle.rows.specs.Bytes.{toned, rowByte}
+use Rattle.rows.specs.Rows.{inRow, tightByte, byteAt}
+use Rattle.rows.specs.Places.{mul-room, place-row, place-in}
+use Rattle.rows.specs.Laws.{toned-through, toned-kept, rows-inside, tight-pixel}
+use Rattle.pictures.specs.declared.PixelFormat.{PixelFormat}
+use Rattle.pictures.specs.Formats.{bytesAPixel, keptOf}
+use Rattle.pictures.specs.Runs.{Run, PlaneOf, rowBytes, size, hasChroma, accepted, tablesOf, first, chroma, stepOf}
+use Rattle.pictures.specs.RunLaws as Checked
+use Rattle.promises.specs.Words.{
+  Call,
+  Accepted,
+  Share,
+  Place,
+  Within,
+  along,
+  inPlane,
+  inOutput,
+  input,
+  output,
+  IsAlpha,
+  TonedAt,
+  IsPadding,
+  listThatTones,
+  kindIn,
+  IsLinear,
+  IsSpline,
+  NoListFalls,
+  Nearest,
+  HasLine,
+  IsYuv,
+  Copied,
+  ExactPicture,
+  PassedThrough,
+  AlikeInRows,
+  AlikeInChroma,
+  written,
+  writtenChroma,
+  WriteTheSame,
+}
+use Rattle.promises.specs.ListFacts.{of-toning-list, legal-lists, toning-table, no-spline}
+
+-- the tables of a run by channel
+abbrev tablesIn : Run → ℕ → List ℕ
+tablesIn r = tablesOf (r .format) (viewOf (r .set))
+
+-- ---- lists and places
+take-filled : (n : ℕ) (f : ℕ → ℕ) (l : List ℕ) → take n (filled n f l) ≡ tabulate n f
+unfolding filled
+take-filled n f l = rw (length-tabulate n f) at (take-append-seam (tabulate n f) (drop n l))
+
+tabulate-bytes : (l : List ℕ) → tabulate (length l) (byteAt l) ≡ l
+unfolding byteAt
+tabulate-bytes l = sym (is-tabulate 0 refl (λ k h. refl))
+
+-- every byte of the tight rows has a place
+place-of : (r : Run) (k : ℕ) → k < size r → (p : Place) × Within r p × (inOutput r p ≡ k)
+place-of r k h =
+    let n = bytesAPixel (r .format) in
+    let row = rowBytes r in
+    let wide : 0 < row = ⊎-elim (λ e. absurd (omega (arith, rw (e, mul-zero) at h))) (λ s. s) (eq-zero-or-pos row) in
+    let inside : k % row < row = mod-lt k wide in
+    let some : 0 < n = ⊎-elim (λ e. absurd (omega (arith, rw (e, mul-zero) at inside))) (λ s. s) (eq-zero-or-pos n) in (
+      record { row = k / row; column = k % row / n; channel = k % row % n },
+      record {
+        row = div-lt-iff-lt-mul {x = k} {y = r .height} wide .1 h;
+        column = div-lt-iff-lt-mul {x = k % row} {y = r .width} some .1 inside;
+        channel = mod-lt (k % row) some;
+      },
+      rw (div-add-mod' (k % row) n) (div-add-mod' k row),
+    )
+
+-- a place lies in its row
+along-row : (r : Run) (p : Place) → Within r p → along r p < rowBytes r
+along-row r p w = omega (arith, mul-room (p .column) (r .width) (bytesAPixel (r .format)) (w .column), w .channel)
+
+-- nearest to n / d, without the fraction
+whole-nearest : (b n d : ℕ) → Whole.Nearest b (frac n 0 d) → Nearest n d b
+whole-nearest b n d h = (omega (arith, h .0), omega (arith, h .1))
+
+-- ---- one run
+module _ (c : Call) (ok : Accepted c) where
+  passed-checks : Checked.Accepted (c .given)
+  passed-checks = Checked.accepted-run (c .given) ok
+
+  not-refused : accepted (c .given) ≡ true
+  not-refused = rw ok
+
+  out-filled : c .out ≡ filled (size (c .given))
+      (tightByte (rowBytes (c .given)) (c .given .plane .step)
+      (rowByte (bytesAPixel (c .given .format)) (keptOf (c .given .format)) (tablesIn (c .given)))
+      (c .given .plane .bytes)) (c .given .out)
+  unfolding first
+  out-filled = c .contract .out-is ∙ rw not-refused
+
+  -- what stands at a place
+  at-place : (p : Place) → Within (c .given) p
+      → output c p ≡ toned (keptOf (c .given .format)) (tablesIn (c .given)) (p .channel) (input c p)
+  at-place p w =
+      let r = c .given in
+      rw out-filled
+      (tight-pixel (r .width) (r .height) (r .plane .step) (bytesAPixel (r .format)) (keptOf (r .format)) (tablesIn r)
+      (r .plane .bytes) (r .out) (p .row) (p .column) (p .channel) (w .row) (w .column) (w .channel))
+
+  -- it lies in the plane and in the output
+  plane-holds : (p : Place) → Within (c .given) p → inPlane (c .given) p < length (c .given .plane .bytes)
+  plane-holds p w =
+      omega (arith, along-row (c .given) p w, rows-inside (p .row) (passed-checks .plane .rows) (λ none. omega (arith, w .column)) (w .row))
+
+  out-long : length (c .out) ≡ length (c .given .out)
+  out-long = rw out-filled (length-filled (size (c .given)) _ (c .given .out) (passed-checks .room))
+
+  output-holds : (p : Place) → Within (c .given) p → inOutput (c .given) p < length (c .out)
+  output-holds p w =
+      omega (arith, along-row (c .given) p w, mul-room (p .row) (c .given .height) (rowBytes (c .given)) (w .row), out-long, passed-checks .room)
+
+  input-byte : (p : Place) → Within (c .given) p → input c p < 256
+  input-byte p w = c .lent .plane (inPlane (c .given) p) (plane-holds p w)
+
+  -- a toned byte is its entry in the table of the list that tones it; alpha is copied
+  toned-entry : (p : Place) → TonedAt (c .given) p → output c p ≡ entryOf (kindIn (c .given)) (listThatTones (c .given) p) (input c p)
+  toned-entry p t =
+      let r = c .given in
+      at-place p (t .within)
+      ∙ toned-through (keptOf (r .format)) (p .channel) (tablesIn r) (input c p) (t .not-alpha)
+      ∙ toning-table (r .format) (viewOf (r .set)) (p .channel) (input c p) (input-byte p (t .within))
+
+  alpha-copied : (p : Place) → Within (c .given) p → IsAlpha (c .given) p → output c p ≡ input c p
+  alpha-copied p w alpha =
+      let r = c .given in
+      at-place p w ∙ toned-kept (keptOf (r .format)) (p .channel) (tablesIn r) (input c p) alpha
+
+  written-long : length (written c) ≡ size (c .given)
+  written-long = length-take-le (size (c .given)) (c .out) (omega (arith, out-long, passed-checks .room))
+
+  chroma-copied : (plane : PlaneOf) (before after : List ℕ) → IsYuv (c .given) → after ≡ chroma (c .given) plane before
+      → length (plane .bytes) ≤ length before → Copied (plane .bytes) before after
+  unfolding chroma
+  chroma-copied plane before after yuv e room =
+      let n = length (plane .bytes) in
+      let is : after ≡ filled n (byteAt (plane .bytes)) before = rw (not-refused, yuv) at e in
+      record {
+        whole = rw is (take-filled n (byteAt (plane .bytes)) before ∙ tabulate-bytes (plane .bytes));
+        past = λ k h. rw is (getD-filled-rest n (byteAt (plane .bytes)) before k 0 h);
+        long = rw is (length-filled n (byteAt (plane .bytes)) before room);
+      }
+
+  chroma-stays : (plane : PlaneOf) (before after : List ℕ) → (IsYuv (c .given) → ⊥) → after ≡ chroma (c .given) plane before → after ≡ before
+  unfolding chroma
+  chroma-stays plane before after other e = by-test (hasChroma (c .given)) (λ t. absurd (other t)) (λ t. rw (not-refused, t) at e)
+
+  chroma-step : (plane : PlaneOf) (step : ℕ) → IsYuv (c .given) → step ≡ stepOf (c .given) plane → step ≡ plane .step
+  chroma-step plane step yuv e = rw (not-refused, yuv) at e
+
+  pub as-defined : ExactPicture c
+  as-defined =
+      let is = c .contract in
+      record {
+        done = is .answer-is ∙ ok;
+        step = rw not-refused at (is .step-is);
+        out-is = is .out-is;
+        cb-is = is .cb-is;
+        cr-is = is .cr-is;
+        in-plane = plane-holds;
+        in-output = output-holds;
+        toned = toned-entry;
+        alpha = alpha-copied;
+        past = λ k h. rw out-filled (getD-filled-rest (size (c .given)) _ (c .given .out) k 0 h);
+        long = out-long;
+        cb = λ yuv. chroma-copied (c .given .cb) (c .given .outCb) (c .cb) yuv (is .cb-is) (passed-checks .chroma-room yuv .0);
+        cr = λ yuv. chroma-copied (c .given .cr) (c .given .outCr) (c .cr) yuv (is .cr-is) (passed-checks .chroma-room yuv .1);
+        other-cb = λ other. chroma-stays (c .given .cb) (c .given .outCb) (c .cb) other (is .cb-is);
+        other-cr = λ other. chroma-stays (c .given .cr) (c .given .outCr) (c .cr) other (is .cr-is);
+      }
+
+  pub alpha-and-chroma : PassedThrough c
+  alpha-and-chroma = record {
+    alpha = λ p w not-toned. elim (ℕ-discrete (p .channel) (keptOf (c .given .format))) [
+      | yes alpha ↦ alpha-copied p w alpha
+      | no other ↦ absurd (not-toned (record { within = w; not-alpha = other }))
+    ];
+    cb = λ yuv. as-defined .cb yuv .whole;
+    cr = λ yuv. as-defined .cr yuv .whole;
+    cb-step = λ yuv. chroma-step (c .given .cb) (c .answered .«cb_step») yuv (c .contract .cb-step-is);
+    cr-step = λ yuv. chroma-step (c .given .cr) (c .answered .«cr_step») yuv (c .contract .cr-step-is);
+  }
+
+  -- ---- the list that tones a byte: of bytes, rising, its own kept list
+  list-bytes : (p : Place) → All Bytes (listThatTones (c .given) p)
+  list-bytes p = of-toning-list (All Bytes) (c .given .format) (viewOf (c .given .set)) (c .lent .points) (p .channel)
+
+  list-legal : (p : Place) → LegalList (listThatTones (c .given) p)
+  list-legal p =
+      of-toning-list LegalList (c .given .format) (viewOf (c .given .set))
+      (legal-lists (viewOf (c .given .set)) (passed-checks .legal)) (p .channel)
+
+  list-kept : (p : Place) → kept (listThatTones (c .given) p) ≡ listThatTones (c .given) p
+  list-kept p = kept-rising (listThatTones (c .given) p) (list-bytes p) (list-legal p .rising)
+
+  -- ---- nearest to the line, and through the points
+  pub toned-nearest : IsLinear (c .given) → (p : Place) → TonedAt (c .given) p
+      → (n d : ℕ) → OnLine (listThatTones (c .given) p) (input c p) n d → Nearest n d (output c p)
+  toned-nearest linear p t n d o =
+      let l = listThatTones (c .given) p in
+      let entry : output c p ≡ entryOf Linear l (input c p) = toned-entry p t ∙ rw linear in
+      rw entry
+      (whole-nearest (entryOf Linear l (input c p)) n d (entry-near l (list-bytes p) (input c p) (input-byte p (t .within)) n d (rw (list-kept p) o)))
+
+  pub line : (p : Place) → TonedAt (c .given) p → HasLine (listThatTones (c .given) p) (input c p)
+  line p t =
+      let l = listThatTones (c .given) p in
+      let is-kept = rising-is-kept l (list-bytes p) (list-legal p .rising) in
+      record {
+        there = on-line l is-kept (input c p) (input-byte p (t .within));
+        wide = line-width l is-kept (input c p);
+        one-height = one-value l is-kept (input c p);
+      }
+
+  pub through-point : (IsSpline (kindIn (c .given)) → ⊥) → (p : Place) → TonedAt (c .given) p
+      → (q : Point) → List·Memᴰ q (listThatTones (c .given) p) → input c p ≡ q .x → output c p ≡ q .y
+  through-point other p t q m e =
+      let l = listThatTones (c .given) p in
+      toned-entry p t ∙ ap (entryOf (kindIn (c .given)) l) e
+      ∙ Table.through-points l (list-bytes p) (kindIn (c .given)) (no-spline (kindIn (c .given)) other (c .lent .tension)) q (rw (list-kept p) m)
+
+-- ---- two runs
+toned-alike : {f g : PixelFormat} {v w : View} {x y : ℕ} (j : ℕ) → f ≡ g → v ≡ w → x ≡ y
+    → toned (keptOf f) (tablesOf f v) j x ≡ toned (keptOf g) (tablesOf g w) j y
+toned-alike {g = g} {v = v} {w = w} {x = x} j format view e =
+    ap (λ (k : PixelFormat). toned (keptOf k) (tablesOf k v) j x) format ∙ ap (λ (u : View). toned (keptOf g) (tablesOf g u) j x) view
+    ∙ ap (toned (keptOf g) (tablesOf g w) j) e
+
+module _ (a b : Call) (share : Share a b) where
+  same-size : size (a .given) ≡ size (b .given)
+  same-size = rw (share .format, share .width, share .height)
+
+  same-place : (p : Place) → Within (a .given) p → Within (b .given) p
+  same-place p w = record { row = rw (← share .height) (w .row); column = rw (← share .width) (w .column); channel = rw (← share .format) (w .channel) }
+
+  same-toned : (p : Place) → TonedAt (a .given) p → TonedAt (b .given) p
+  same-toned p t = record { within = same-place p (t .within); not-alpha = λ alpha. t .not-alpha (rw (share .format) alpha) }
+
+  same-list : (p : Place) → listThatTones (a .given) p ≡ listThatTones (b .given) p
+  same-list p = rw (share .format, same-view (a .given .set) (b .given .set) (share .set))
+
+module _ (a b : Call) (share : Share a b) (a-ok : Accepted a) (b-ok : Accepted b) where
+  pub in-order : IsLinear (a .given) → NoListFalls (a .given) → (p : Place) → TonedAt (a .given) p → input a p ≤ input b p → output a p ≤ output b p
+  in-order linear rising p t below =
+      let l = listThatTones (a .given) p in
+      let never-falls = of-toning-list NeverFalls (a .given .format) (viewOf (a .given .set)) rising (p .channel) in
+      let of-a : output a p ≡ entryOf Linear l (input a p) = toned-entry a a-ok p t ∙ rw linear in
+      let of-b : output b p ≡ entryOf Linear l (input b p) =
+      toned-entry b b-ok p (same-toned a b share p t) ∙ rw (← same-list a b share p, ← share .set .kind, linear) in
+      rw (of-a, of-b) (entry-order l (list-bytes a a-ok p) (rw (list-kept a a-ok p) never-falls) (input a p) (input b p) below
+      (input-byte b b-ok p (same-place a b share p (t .within))))
+
+  -- the same byte in, the same byte out
+  same-byte : (p : Place) → Within (a .given) p → input a p ≡ input b p → output a p ≡ output b p
+  same-byte p w e =
+      at-place a a-ok p w
+      ∙ toned-alike (p .channel) (share .format) (same-view (a .given .set) (b .given .set) (share .set)) e
+      ∙ sym (at-place b b-ok p (same-place a b share p w))
+
+  -- index k of the tight rows is a place's in both
+  same-at : (p : Place) (k : ℕ) → Within (a .given) p → inOutput (a .given) p ≡ k → input a p ≡ input b p
+      → getD (a .out) k 0 ≡ getD (b .out) k 0
+  same-at p k w index e =
+      let b-index : inOutput (b .given) p ≡ k = rw (← share .format, ← share .width) index in
+      rw index at (same-byte p w e) ∙ rw b-index
+
+  same-rows : AlikeInRows a b → written a ≡ written b
+  same-rows alike =
+      let same = same-size a b share in
+      let long = written-long a a-ok in
+      ext-getD 0 (written a) (written b) (long ∙ same ∙ sym (written-long b b-ok))
+      (λ k h.
+      let place = place-of (a .given) k (omega arith) in
+      getD-take (size (a .given)) (a .out) k 0 (omega arith)
+      ∙ same-at (place .0) k (place .1) (place .2) (alike (place .0) (place .1))
+      ∙ sym (getD-take (size (b .given)) (b .out) k 0 (omega arith)))
+
+  same-chroma : (a-plane b-plane a-out b-out : List ℕ)
+      → (IsYuv (a .given) → take (length a-plane) a-out ≡ a-plane) → (IsYuv (b .given) → take (length b-plane) b-out ≡ b-plane)
+      → (IsYuv (a .given) → a-plane ≡ b-plane) → writtenChroma a a-plane a-out ≡ writtenChroma b b-plane b-out
+  same-chroma a-plane b-plane a-out b-out a-whole b-whole alike =
+      let format : hasChroma (a .given) ≡ hasChroma (b .given) = rw (share .format) in
+      by-test (hasChroma (a .given))
+      (λ t. let u : hasChroma (b .given) ≡ true = sym format ∙ t in rw (t, u) (a-whole t ∙ alike t ∙ sym (b-whole u)))
+      (λ t. let u : hasChroma (b .given) ≡ false = sym format ∙ t in rw (t, u))
+
+  pub same-bytes : AlikeInRows a b → AlikeInChroma a b → WriteTheSame a b
+  same-bytes rows alike = record {
+    out = same-rows rows;
+    cb = same-chroma (a .given .cb .bytes) (b .given .cb .bytes) (a .cb) (b .cb) (alpha-and-chroma a a-ok .cb) (alpha-and-chroma b b-ok .cb) (alike .cb);
+    cr = same-chroma (a .given .cr .bytes) (b .given .cr .bytes) (a .cr) (b .cr) (alpha-and-chroma a a-ok .cr) (alpha-and-chroma b b-ok .cr) (alike .cr);
+  }
+
+-- ---- no place is padding
+no-padding : (c : Call) → Accepted c → (p : Place) → Within (c .given) p → IsPadding (c .given) (inPlane (c .given) p) → ⊥
+unfolding inRow
+no-padding c ok p w padding =
+    let r = c .given in
+    let inside = along-row r p w in
+    let below : along r p < r .plane .step = omega (arith, Checked.accepted-run r ok .plane .rows .stepped) in
+    false≢true
+    (sym (rw (
+      place-row (p .row) (r .plane .step) (along r p) below,
+      place-in (p .row) (r .plane .step) (along r p) below,
+      lt-ltb (p .row) (r .height) (w .row),
+      lt-ltb (along r p) (rowBytes r) inside,
+    ) at padding))
+
+pub alike-but-padding : (a b : Call) → Share a b → Accepted a → a .given .plane .step ≡ b .given .plane .step
+    → ((k : ℕ) → (IsPadding (a .given) k → ⊥) → getD (a .given .plane .bytes) k 0 ≡ getD (b .given .plane .bytes) k 0)
+    → AlikeInRows a b
+alike-but-padding a b share ok step alike p w =
+    alike (inPlane (a .given) p) (no-padding a ok p w) ∙ rw (step, share .format)

@@ -1,0 +1,119 @@
+-- Runs of one column, by a master alone, for the controls: made of a list, a kind and bytes, with what the contract says that they answer and write.
+use Prim.Native.Nat.{ℕ, zero, suc, _+_, _*_, _<_}
+use native.Mathlib.Omega.{arith}
+use mathlib.Core.Path.{_≡_, refl, _∙_}
+use mathlib.Core.Bool.{false, cond}
+use mathlib.Core.List.{List, [], _∷_}
+use lib.Dec.{lit<}
+use lib.ListN.{length, getD}
+use lib.Seq.{take-length}
+use Rattle.points.specs.declared.Point.{Point}
+use Rattle.points.specs.Order.{All, Bytes}
+use Rattle.tables.specs.declared.CurveInterpolation.{CurveInterpolation}
+use Rattle.tables.specs.Tables.{entryOf}
+use Rattle.sets.specs.declared.Channel.{Channel}
+use Rattle.sets.specs.Carried.{carriedOf}
+use Rattle.sets.specs.SameLaws.{same-refl}
+use Rattle.pictures.specs.declared.PixelFormat.{PixelFormat}
+use Rattle.pictures.specs.declared.PixelFormat.the-variants.{Gray8}
+use Rattle.pictures.specs.Runs.{Run, PlaneOf, rowBytes, accepted, answer, first, chroma, stepOf}
+use Rattle.promises.specs.Words.{Lent, Call, Accepted, Share, Place, TonedAt, input, output}
+use Rattle.promises.specs.Demand3.{exact}
+
+-- a list of bytes and a kind
+pub record Toning : Type 0 where
+  pub list : List Point
+  pub kind : CurveInterpolation
+  pub bytes : All Bytes list
+  pub tension : carriedOf kind .tension < 256
+
+-- a picture one pixel wide, with one chroma plane
+pub record Strip : Type 0 where
+  pub by : Toning
+  pub format : PixelFormat
+  pub height : ℕ
+  pub plane : List ℕ
+  pub step : ℕ
+  pub chroma : List ℕ
+
+abbrev absent : Channel
+absent = record { present = false; curve = record { points = []; count = 0 } }
+
+abbrev noBytes : PlaneOf
+noBytes = record { bytes = []; step = 0 }
+
+abbrev pub runOf : Strip → Run
+runOf g = record {
+  set = record {
+    master = record { points = g .by .list; count = length (g .by .list) };
+    red = absent;
+    green = absent;
+    blue = absent;
+    interpolation = g .by .kind;
+  };
+  format = g .format;
+  width = 1;
+  height = g .height;
+  planes = 3;
+  plane = record { bytes = g .plane; step = g .step };
+  cb = record { bytes = g .chroma; step = 1 };
+  cr = noBytes;
+  out = 0 ∷ 0 ∷ 0 ∷ 0 ∷ [];
+  outCb = 0 ∷ [];
+  outCr = [];
+}
+
+-- each number is a byte
+abbrev pub AreBytes : List ℕ → Type 0
+AreBytes [] = Unit {0}
+AreBytes (x ∷ l) = (x < 256) × AreBytes l
+
+byte-at : (l : List ℕ) → AreBytes l → (k : ℕ) → k < length l → getD l k 0 < 256
+byte-at [] a k h = absurd (omega arith)
+byte-at (x ∷ l) a zero h = a .0
+byte-at (x ∷ l) a (suc k) h = byte-at l (a .1) k (omega arith)
+
+pub lent-bytes : (g : Strip) → AreBytes (g .plane) → Lent (runOf g)
+lent-bytes g bytes = record {
+  plane = byte-at (g .plane) bytes;
+  points = record { master = rw (take-length (g .by .list)) (g .by .bytes); red = tt; green = tt; blue = tt };
+  tension = g .by .tension;
+}
+
+abbrev pub ran : (g : Strip) → AreBytes (g .plane) → Call
+ran g bytes =
+    let r = runOf g in
+    record {
+      given = r;
+      lent = lent-bytes g bytes;
+      answered = record { answer = answer r; step = cond (accepted r) (rowBytes r) 0; «cb_step» = stepOf r (r .cb); «cr_step» = stepOf r (r .cr) };
+      out = first r;
+      cb = chroma r (r .cb) (r .outCb);
+      cr = chroma r (r .cr) (r .outCr);
+      contract = record { answer-is = refl; step-is = refl; cb-step-is = refl; cr-step-is = refl; out-is = refl; cb-is = refl; cr-is = refl };
+    }
+
+pub shared : (g h : Strip) (g-bytes : AreBytes (g .plane)) (h-bytes : AreBytes (h .plane)) → g .by ≡ h .by → g .format ≡ h .format
+    → g .height ≡ h .height → Share (ran g g-bytes) (ran h h-bytes)
+shared g h g-bytes h-bytes by format height = record { set = rw by (same-refl (runOf h .set)); format = format; width = refl; height = height }
+
+-- the first byte
+abbrev pub here : Place
+here = record { row = 0; column = 0; channel = 0 }
+
+-- ---- a grey pixel
+abbrev pub grey : Toning → ℕ → Strip
+grey s v = record { by = s; format = Gray8; height = 1; plane = v ∷ []; step = 1; chroma = [] }
+
+abbrev pub ranGrey : (s : Toning) (v : ℕ) → v < 256 → Call
+ranGrey s v byte = ran (grey s v) (byte, tt)
+
+pub grey-toned : (s : Toning) (v : ℕ) → TonedAt (runOf (grey s v)) here
+grey-toned s v = record { within = record { row = lit< tt; column = lit< tt; channel = lit< tt }; not-alpha = λ e. omega arith }
+
+module _ (s : Toning) (v : ℕ) (byte : v < 256) where
+  pub grey-input : (p : Place) → p .row < 1 → p .column < 1 → p .channel < 1 → input (ranGrey s v byte) p ≡ v
+  grey-input p row column channel = let only : p .row * 1 + (p .column * 1 + p .channel) ≡ 0 = omega arith in rw only
+
+  pub grey-output : Accepted (ranGrey s v byte) → output (ranGrey s v byte) here ≡ entryOf (s .kind) (s .list) v
+  grey-output ok = exact (ranGrey s v byte) ok .toned here (grey-toned s v) ∙ rw (take-length (s .list))

@@ -1,0 +1,203 @@
+-- The words of the third demand, with document 01's terms. Definitions only.
+use Prim.Native.Nat.{ℕ, _+_, _*_, _≤_, _<_}
+use mathlib.Core.Path.{_≡_}
+use mathlib.Core.Bool.{true, false, cond}
+use mathlib.Core.List.{List, []}
+use mathlib.Core.Option.{Option, none, some}
+use lib.ListN.{length, getD, take}
+use Rattle.answers.specs.declared.Answer.the-variants.{Done}
+use Rattle.points.specs.declared.Point.{Point}
+use Rattle.points.specs.Knots.{OnLine}
+use Rattle.points.specs.Order.{All, Bytes, NeverFalls}
+use Rattle.sampling.specs.declared.Form.the-variants.{Spline}
+use Rattle.tables.specs.declared.CurveInterpolation.{CurveInterpolation}
+use Rattle.tables.specs.declared.CurveInterpolation.the-variants.{Linear}
+use Rattle.tables.specs.Kinds.{formOf}
+use Rattle.tables.specs.Tables.{entryOf}
+use Rattle.sets.specs.Sets.{View, viewOf}
+use Rattle.sets.specs.Same.{Same}
+use Rattle.sets.specs.Carried.{carriedOf}
+use Rattle.rows.specs.Rows.{inRow}
+use Rattle.pictures.specs.declared.Toned.{Toned}
+use Rattle.pictures.specs.Formats.{bytesAPixel, keptOf}
+use Rattle.pictures.specs.Runs.{Run, rowBytes, size, hasChroma, answer, tonedBy, first, chroma, SetCall}
+
+-- ---- the lists of a set
+-- P of the master and of each colour present
+abbrev pub OfColour : (List Point → Type 0) → Option (List Point) → Type 0
+OfColour P none = Unit {0}
+OfColour P (some l) = P l
+
+pub record EveryList (P : List Point → Type 0) (v : View) : Type 0 where
+  pub master : P (v .master)
+  pub red : OfColour P (v .red)
+  pub green : OfColour P (v .green)
+  pub blue : OfColour P (v .blue)
+
+-- ---- runs
+-- what is lent are bytes: the plane, the points and the tension are `u8` in the code, so this holds of every run, although ℕ has larger numbers
+pub record Lent (r : Run) : Type 0 where
+  pub plane : (k : ℕ) → k < length (r .plane .bytes) → getD (r .plane .bytes) k 0 < 256
+  pub points : EveryList (All Bytes) (viewOf (r .set))
+  pub tension : carriedOf (r .set .interpolation) .tension < 256
+
+-- a run of the set call, whole: what it was given, what it answered and the three outputs afterwards, of which its contract holds
+pub record Call : Type 0 where
+  pub given : Run
+  pub lent : Lent given
+  pub answered : Toned
+  pub out : List ℕ
+  pub cb : List ℕ
+  pub cr : List ℕ
+  pub contract : SetCall given answered out cb cr
+
+-- the documents do not refuse the run
+abbrev pub Accepted : Call → Type 0
+Accepted c = answer (c .given) ≡ Done
+
+-- two runs "share one set, format and size". "Two sets are the same if their lists, point by point, the colours present, and the kind with its tension
+-- or slopes agree"
+pub record Share (a b : Call) : Type 0 where
+  pub set : Same (a .given .set) (b .given .set)
+  pub format : a .given .format ≡ b .given .format
+  pub width : a .given .width ≡ b .given .width
+  pub height : a .given .height ≡ b .given .height
+
+-- ---- places
+-- "A byte's place is its row, its column and, in colour, its channel; it is the same in the plane and in the tight output, whatever the row step";
+-- where a pixel has one byte, its channel is 0
+pub record Place : Type 0 where
+  pub row : ℕ
+  pub column : ℕ
+  pub channel : ℕ
+
+-- a place of the picture
+pub record Within (r : Run) (p : Place) : Type 0 where
+  pub row : p .row < r .height
+  pub column : p .column < r .width
+  pub channel : p .channel < bytesAPixel (r .format)
+
+-- how far from its row's start
+abbrev pub along : Run → Place → ℕ
+along r p = p .column * bytesAPixel (r .format) + p .channel
+
+-- the index of its byte in the first plane, and in the tight output
+abbrev pub inPlane : Run → Place → ℕ
+inPlane r p = p .row * r .plane .step + along r p
+
+abbrev pub inOutput : Run → Place → ℕ
+inOutput r p = p .row * rowBytes r + along r p
+
+-- the byte: before the run in the first plane, after it in the first output
+abbrev pub input : Call → Place → ℕ
+input c p = getD (c .given .plane .bytes) (inPlane (c .given) p) 0
+
+abbrev pub output : Call → Place → ℕ
+output c p = getD (c .out) (inOutput (c .given) p) 0
+
+-- the channel "alpha", where the format has one
+abbrev pub IsAlpha : Run → Place → Type 0
+IsAlpha r p = p .channel ≡ keptOf (r .format)
+
+-- "Toned bytes are those sent through a table": at every place of the picture but alpha
+pub record TonedAt (r : Run) (p : Place) : Type 0 where
+  pub within : Within r p
+  pub not-alpha : IsAlpha r p → ⊥
+
+-- "Padding is every byte of a toned plane that lies in no row"
+abbrev pub IsPadding : Run → ℕ → Type 0
+IsPadding r k = inRow (rowBytes r) (r .height) (r .plane .step) k ≡ false
+
+-- ---- the list that tones a byte, its kind and its line
+-- "In Rgb24 and Rgba the list that tones a byte is its colour's where present; in every other case it is the master's"
+abbrev pub listThatTones : Run → Place → List Point
+listThatTones r p = tonedBy (r .format) (viewOf (r .set)) (p .channel)
+
+abbrev pub kindIn : Run → CurveInterpolation
+kindIn r = r .set .interpolation
+
+abbrev pub IsLinear : Run → Type 0
+IsLinear r = kindIn r ≡ Linear
+
+-- one of "the three splines", document 01's "Splines (4, 8, 9)": NaturalCubic, ClampedCubic, NotAKnotCubic
+abbrev pub IsSpline : CurveInterpolation → Type 0
+IsSpline k = formOf k ≡ Spline
+
+-- "no list in the set has a point lower than the one before it"
+abbrev pub NoListFalls : Run → Type 0
+NoListFalls r = EveryList NeverFalls (viewOf (r .set))
+
+-- b is "the whole number nearest" n / d, "at an exact half it is one of the two nearest": 2 × |b × d − n| ≤ d
+abbrev pub Nearest : ℕ → ℕ → ℕ → Type 0
+Nearest n d b = (2 * (b * d) ≤ 2 * n + d) × (2 * n ≤ 2 * (b * d) + d)
+
+-- "The exact broken line" of l is there at v, of a width above 0, and where two pieces meet both give one height
+pub record HasLine (l : List Point) (v : ℕ) : Type 0 where
+  pub there : (n d : ℕ) × OnLine l v n d
+  pub wide : (n d : ℕ) → OnLine l v n d → 0 < d
+  pub one-height : (n d m e : ℕ) → OnLine l v n d → OnLine l v m e → n * e ≡ m * d
+
+-- ---- chroma
+-- one of the six YUV formats
+abbrev pub IsYuv : Run → Type 0
+IsYuv r = hasChroma r ≡ true
+
+-- "each chroma plane is copied whole"; "Output bytes past that are unchanged"
+pub record Copied (plane before after : List ℕ) : Type 0 where
+  pub whole : take (length plane) after ≡ plane
+  pub past : (k : ℕ) → length plane ≤ k → getD after k 0 ≡ getD before k 0
+  pub long : length after ≡ length before
+
+-- ---- what a run that is not refused gives
+-- "exactly the picture they define"
+pub record ExactPicture (c : Call) : Type 0 where
+  pub done : c .answered .answer ≡ Done
+  pub step : c .answered .step ≡ rowBytes (c .given)
+  -- the three outputs are those of the definition
+  pub out-is : c .out ≡ first (c .given)
+  pub cb-is : c .cb ≡ chroma (c .given) (c .given .cb) (c .given .outCb)
+  pub cr-is : c .cr ≡ chroma (c .given) (c .given .cr) (c .given .outCr)
+  -- every place lies in the plane and in the output
+  pub in-plane : (p : Place) → Within (c .given) p → inPlane (c .given) p < length (c .given .plane .bytes)
+  pub in-output : (p : Place) → Within (c .given) p → inOutput (c .given) p < length (c .out)
+  -- byte by byte: a toned byte is its entry in the table of the list that tones it, alpha is copied, and what lies past the rows stays
+  pub toned : (p : Place) → TonedAt (c .given) p → output c p ≡ entryOf (kindIn (c .given)) (listThatTones (c .given) p) (input c p)
+  pub alpha : (p : Place) → Within (c .given) p → IsAlpha (c .given) p → output c p ≡ input c p
+  pub past : (k : ℕ) → size (c .given) ≤ k → getD (c .out) k 0 ≡ getD (c .given .out) k 0
+  pub long : length (c .out) ≡ length (c .given .out)
+  -- chroma is copied for YUV; the chroma outputs of other formats stay
+  pub cb : IsYuv (c .given) → Copied (c .given .cb .bytes) (c .given .outCb) (c .cb)
+  pub cr : IsYuv (c .given) → Copied (c .given .cr .bytes) (c .given .outCr) (c .cr)
+  pub other-cb : (IsYuv (c .given) → ⊥) → c .cb ≡ c .given .outCb
+  pub other-cr : (IsYuv (c .given) → ⊥) → c .cr ≡ c .given .outCr
+
+-- alpha and chroma "come out as they went in", the chroma's step "handed back"
+pub record PassedThrough (c : Call) : Type 0 where
+  pub alpha : (p : Place) → Within (c .given) p → (TonedAt (c .given) p → ⊥) → output c p ≡ input c p
+  pub cb : IsYuv (c .given) → take (length (c .given .cb .bytes)) (c .cb) ≡ c .given .cb .bytes
+  pub cr : IsYuv (c .given) → take (length (c .given .cr .bytes)) (c .cr) ≡ c .given .cr .bytes
+  pub cb-step : IsYuv (c .given) → c .answered .«cb_step» ≡ c .given .cb .step
+  pub cr-step : IsYuv (c .given) → c .answered .«cr_step» ≡ c .given .cr .step
+
+-- ---- two runs
+-- "alike in their rows": the same byte at every place, alpha too
+abbrev pub AlikeInRows : Call → Call → Type 0
+AlikeInRows a b = (p : Place) → Within (a .given) p → input a p ≡ input b p
+
+-- "and chroma", which is of YUV
+pub record AlikeInChroma (a b : Call) : Type 0 where
+  pub cb : IsYuv (a .given) → a .given .cb .bytes ≡ b .given .cb .bytes
+  pub cr : IsYuv (a .given) → a .given .cr .bytes ≡ b .given .cr .bytes
+
+-- the bytes that a run writes: the tight rows; and each chroma plane for YUV, of other formats none
+abbrev pub written : Call → List ℕ
+written c = take (size (c .given)) (c .out)
+
+abbrev pub writtenChroma : Call → List ℕ → List ℕ → List ℕ
+writtenChroma c plane out = cond (hasChroma (c .given)) (take (length plane) out) []
+
+-- they "write the same bytes"
+pub record WriteTheSame (a b : Call) : Type 0 where
+  pub out : written a ≡ written b
+  pub cb : writtenChroma a (a .given .cb .bytes) (a .cb) ≡ writtenChroma b (b .given .cb .bytes) (b .cb)
+  pub cr : writtenChroma a (a .given .cr .bytes) (a .cr) ≡ writtenChroma b (b .given .cr .bytes) (b .cr)

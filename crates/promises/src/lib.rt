@@ -1,0 +1,1 @@
+// What is promised of the engine stands in specs/: no code.
