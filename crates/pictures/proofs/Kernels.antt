@@ -93,7 +93,8 @@ module _ (kind : CurveInterpolation) (c : Channel) (master : List Point) {own m 
   own-or-master true built = built refl
   own-or-master false built = m-is
 
-  pub chosen-is : {table : List ℕ} (by : Bool) → (by && c .present ≡ true → own ≡ byteTable kind (listOf (c .curve))) → table ≡ chosen (by && c .present) own m
+  pub chosen-is : {table : List ℕ} (by : Bool) → (by && c .present ≡ true → own ≡ byteTable kind (listOf (c .curve)))
+      → table ≡ chosen (by && c .present) own m
       → table ≡ byteTable kind (cond by (ownOrMaster (channelOf c) master) master)
   chosen-is false built e = e ∙ m-is
   chosen-is true built e = e ∙ own-or-master (c .present) built

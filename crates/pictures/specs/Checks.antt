@@ -31,6 +31,7 @@ lutAnswer f w h step len = cond (tooLarge w h) PictureTooLarge (planeAnswer w h 
 abbrev pub Supported : PixelFormat → Type 0
 Supported f = planesRead f ≡ 0 → ⊥
 
+-- "for YUV": the planes after the first are chroma
 abbrev pub chromaRead : PixelFormat → Bool
 chromaRead f = eqb (planesRead f) 3
 

@@ -1,8 +1,8 @@
--- Calls where a slip would show, computed from the definitions: document 01's P12, P2 in a picture, and the order of the refusals.
+-- Calls where a slip would show, computed from the definitions: document 01's P12, what is toned and what stays, the order of the refusals, and P2 in a picture.
 use mathlib.Core.Path.{_≡_, refl, _∙_}
 use mathlib.Core.Bool.{false}
 use mathlib.Core.List.{List, [], _∷_, _++_}
-use Prim.Native.Nat.{ℕ, _<_}
+use Prim.Native.Nat.{ℕ, _+_, _<_}
 use native.Mathlib.Omega.{arith}
 use lib.ListN.{replicate}
 use Rattle.answers.specs.declared.Answer.{Answer}
@@ -17,6 +17,7 @@ use Rattle.answers.specs.declared.Answer.the-variants.{
   PlaneTooShort,
   OutputTooSmall,
 }
+use Rattle.lists.specs.Each.{each}
 use Rattle.lists.specs.Tabulate.{tabulate, tabulate-agree, filled}
 use Rattle.points.specs.declared.Point.{Point}
 use Rattle.points.specs.declared.Curve.{Curve}
@@ -28,10 +29,11 @@ use Rattle.sets.specs.declared.Curves.{Curves}
 use Rattle.sets.specs.declared.Channel.{Channel}
 use Rattle.sets.specs.Sets.{curveAnswer, channelAnswer, setAnswer}
 use Rattle.rows.specs.Bytes.{toned, rowByte}
-use Rattle.rows.specs.Rows.{needed, tightByte, byteAt}
+use Rattle.rows.specs.Rows.{inRow, planeByte, needed, tightByte, byteAt}
 use Rattle.pictures.specs.declared.PixelFormat.{PixelFormat}
-use Rattle.pictures.specs.declared.PixelFormat.the-variants.{Gray8, Cmyk, Yuv420P}
+use Rattle.pictures.specs.declared.PixelFormat.the-variants.{Gray8, Rgba, Cmyk, Yuv420P}
 use Rattle.pictures.specs.Checks.{planeAnswer, lutAnswer, pictureAnswer}
+use Rattle.pictures.specs.OneTable.{tonedWithin}
 use Rattle.pictures.specs.Runs.{Run, given, answer, first, chroma}
 
 -- a list as it is stored, zeros behind it, and the set of this master alone
@@ -86,6 +88,18 @@ no-rows = refl
 pub no-columns : lutAnswer Gray8 0 2 3 0 ≡ Done
 unfolding lutAnswered
 no-columns = refl
+
+-- ---- the one-table call, with a table that adds 10: alpha stays, and Cmyk has four inks
+abbrev more : List ℕ
+more = tabulate 256 (λ x. x + 10)
+
+pub alpha-stays : tonedWithin Rgba 1 1 4 more (1 ∷ 2 ∷ 3 ∷ 4 ∷ []) ≡ 11 ∷ 12 ∷ 13 ∷ 4 ∷ []
+unfolding each tabulate planeByte inRow rowByte toned
+alpha-stays = refl
+
+pub four-inks : tonedWithin Cmyk 1 1 4 more (1 ∷ 2 ∷ 3 ∷ 4 ∷ []) ≡ 11 ∷ 12 ∷ 13 ∷ 14 ∷ []
+unfolding each tabulate planeByte inRow rowByte toned
+four-inks = refl
 
 -- ---- the order of the refusals: each line mends the first fault of the line before it, and has all the later ones still
 abbrev many : Curve

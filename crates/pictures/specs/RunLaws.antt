@@ -2,7 +2,7 @@
 use Prim.Native.Nat.{ℕ, zero, suc, _*_, _≤_}
 use mathlib.Core.Path.{_≡_, refl}
 use mathlib.Core.Bool.{Bool, true, false, cond, _||_, true≢false}
-use lib.Dec.{ltb, eqb}
+use lib.Dec.{ltb}
 use lib.ListN.{length}
 use borrow.Author.Tests.{ltb-false, eqb-true, eqb-false}
 use Rattle.answers.specs.declared.Answer.{Answer}
@@ -13,9 +13,8 @@ use Rattle.sets.specs.Sets.{View, viewOf, setAnswer}
 use Rattle.sets.specs.Legal.{Legal, legal-view, both-done}
 use Rattle.rows.specs.Rows.{Rows, needed}
 use Rattle.pictures.specs.declared.PixelFormat.{PixelFormat}
-use Rattle.pictures.specs.declared.Lengths.{Lengths}
 use Rattle.pictures.specs.Formats.{bytesAPixel, planesRead}
-use Rattle.pictures.specs.Checks.{Supported, tooLarge, wrongStep, planeAnswer, lutAnswer, tooSmall, pictureAnswer}
+use Rattle.pictures.specs.Checks.{Supported, tooLarge, wrongStep, planeAnswer, lutAnswer, pictureAnswer}
 use Rattle.pictures.specs.Runs.{Run, rowBytes, size, hasChroma, answer, tonedBy, tablesOf}
 
 -- the table of each channel is that of the list that tones it

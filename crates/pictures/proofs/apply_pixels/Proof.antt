@@ -1,10 +1,11 @@
 -- `apply_pixels`: an accepted run is toned and its chroma copied; a refused one touches nothing.
 use mathlib.Core.Path.{_≡_, sym, _∙_}
-use mathlib.Core.Bool.{false, not}
+use mathlib.Core.Bool.{true}
 use native.Mathlib.Omega.{arith}
 use borrow.Author.Needs.{needs}
 use borrow.Author.Tests.{eq-eqb, ne-eqb, not-true, not-false}
-use Rattle.pictures.specs.Runs.{Run, given, answer}
+use Rattle.answers.specs.Numbers.{isDone}
+use Rattle.pictures.specs.Runs.{Run, given, hasChroma, answer}
 use Rattle.pictures.specs.RunLaws.{done, Accepted, accepted-run}
 use Rattle.pictures.proofs.Ends as Ends
 use Rattle.pictures.proofs.apply_pixels.Statement.{statement}
@@ -21,9 +22,16 @@ answered : (c : tie.After-first-of) → c .first-of .result ≡ answer (run c)
 unfolding answer
 answered c = rw (← c .before .before .check .ensures, ← c .before .picture-answer .ensures) (c .first-of .ensures)
 
--- what is known where it is not refused
-accepted : (c : tie.After-is-done) → not (c .is-done .result) ≡ false → Accepted (run (c .before))
-accepted c e = accepted-run (run (c .before)) (sym (answered (c .before)) ∙ done _ (sym (c .is-done .ensures) ∙ not-false _ e))
+-- past the refusal
+is-done : (c : tie.Else1) → isDone (c .before .before .first-of .result) ≡ true
+is-done c = sym (c .before .is-done .ensures) ∙ not-false _ (c .if1 .left)
+
+accepted : (c : tie.Else1) → Accepted (run (c .before .before))
+accepted c = accepted-run (run (c .before .before)) (sym (answered (c .before .before)) ∙ done _ (is-done c))
+
+-- where there is chroma
+is-yuv : (c : tie.Then2) → hasChroma (run (c .before .before .before .before .before .before .before .before .before)) ≡ true
+is-yuv c = eq-eqb _ 3 (sym (c .before .planes-read .ensures) ∙ c .if2 .taken)
 
 returns : tie.Need-returns
 returns c =
@@ -32,26 +40,21 @@ returns c =
 
 tone-first-requires : tie.Need-tone-first-requires
 tone-first-requires c κs =
-    let known = accepted (c .before .before) (c .before .if1 .left) in
-    ((known .lists, known .supported), (known .plane .rows, known .room))
+    let known = accepted (c .before) in ((known .lists, known .supported), (known .plane .rows, known .room))
 
 mul-row : tie.Need-mul-row
 mul-row c =
-    let k = c .before .before .before .before .before in
-    let plane = accepted (k .before) (k .if1 .left) .plane in
+    let plane = accepted (c .before .before .before .before .before) .plane in
     omega (arith, rw (← c .bytes-a-pixel .ensures) at (plane .rows .stepped), plane .stepped)
 
 copy-bytes-requires : tie.Need-copy-bytes-requires
 copy-bytes-requires c κs =
-    let yuv = c .before in
-    let k = yuv .before .before .before .before .before .before .before in
-    accepted (k .before) (k .if1 .left) .chroma-room (eq-eqb _ 3 (sym (yuv .before .planes-read .ensures) ∙ yuv .if2 .taken)) .0
+    accepted (c .before .before .before .before .before .before .before .before) .chroma-room (is-yuv (c .before)) .0
 
 copy-bytes-requires-2 : tie.Need-copy-bytes-requires-2
 copy-bytes-requires-2 c κs =
     let yuv = c .before .before .before .before .before in
-    let k = yuv .before .before .before .before .before .before .before in
-    accepted (k .before) (k .if1 .left) .chroma-room (eq-eqb _ 3 (sym (yuv .before .planes-read .ensures) ∙ yuv .if2 .taken)) .1
+    accepted (yuv .before .before .before .before .before .before .before) .chroma-room (is-yuv yuv) .1
 
 returns-2 : tie.Need-returns-2
 returns-2 c =
@@ -60,10 +63,8 @@ returns-2 c =
     let yuv = cb .before .before in
     let row = yuv .before .before in
     let k = row .before .before .before .before .before in
-    Ends.done-chroma _ (answered (k .before .before)) (sym (k .before .is-done .ensures) ∙ not-false _ (k .if1 .left))
-    (rw (row .bytes-a-pixel .ensures))
-    (row .before .before .before .tone-first .ensures)
-    (eq-eqb _ 3 (sym (yuv .before .planes-read .ensures) ∙ yuv .if2 .taken))
+    Ends.done-chroma _ (answered (k .before .before)) (is-done k) (rw (row .bytes-a-pixel .ensures)) (row .before .before .before .tone-first .ensures)
+    (is-yuv yuv)
     (cb .copy-bytes .ensures)
     (cr .copy-bytes2 .ensures)
 
@@ -71,9 +72,7 @@ returns-3 : tie.Need-returns-3
 returns-3 c =
     let row = c .before .before in
     let k = row .before .before .before .before .before in
-    Ends.done _ (answered (k .before .before)) (sym (k .before .is-done .ensures) ∙ not-false _ (k .if1 .left))
-    (rw (row .bytes-a-pixel .ensures))
-    (row .before .before .before .tone-first .ensures)
+    Ends.done _ (answered (k .before .before)) (is-done k) (rw (row .bytes-a-pixel .ensures)) (row .before .before .before .tone-first .ensures)
     (ne-eqb _ 3 (λ e. c .if2 .left (c .before .planes-read .ensures ∙ e)))
 
 pub apply-pixels-spec : {M : Type 1} → statement M

@@ -1,19 +1,23 @@
 -- `apply_tone_lut`: a plane that passes has its rows, which the kernel tones.
 use mathlib.Core.Path.{sym, _∙_}
+use lib.ListN.{length}
 use borrow.Author.Needs.{needs}
-use Rattle.pictures.specs.RunLaws.{done, lut-done}
+use Rattle.pictures.specs.RunLaws.{GoodPlane, done, lut-done}
 use Rattle.pictures.proofs.Kernels.{in-place}
 use Rattle.pictures.proofs.apply_tone_lut.Statement.{statement}
 use Rattle.pictures.proofs.apply_tone_lut.Tie as tie
+
+-- the plane has passed
+good : (c : tie.Then1)
+    → let A = c .before .before .before .before .args in
+    GoodPlane (A .format) (A .width) (A .height) (A .step) (length (A .plane .now))
+good c = lut-done _ _ _ _ _ (sym (c .before .before .lut-answer .ensures) ∙ done _ (sym (c .before .is-done .ensures) ∙ c .if1 .taken))
 
 tone-rows-requires : tie.Need-tone-rows-requires
 tone-rows-requires c κs =
     let p-is = c .before .before .bytes-a-pixel .ensures in
     let k = c .before .before .before .before in
-    let f = k .before .before .before .before .args .format in
-    let accepted = done _ (sym (k .before .is-done .ensures) ∙ k .if1 .taken) in
-    let good = lut-done f _ _ _ _ (sym (k .before .before .lut-answer .ensures) ∙ accepted) in
-    (rw (p-is, c .before .kept .ensures) (in-place f), rw p-is (good .rows))
+    (rw (p-is, c .before .kept .ensures) (in-place (k .before .before .before .before .args .format)), rw p-is (good k .rows))
 
 returns : tie.Need-returns
 returns c =

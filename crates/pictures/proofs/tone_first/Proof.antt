@@ -1,23 +1,26 @@
 -- `tone_first`: the kernel is given the table of each channel.
 use borrow.Author.Needs.{needs}
-use Rattle.points.specs.Points.{listOf}
 use Rattle.sets.specs.Sets.{viewOf}
-use Rattle.sets.specs.Legal.{passed-set, passed-count}
+use Rattle.sets.specs.Legal.{Passed, passed-set, passed-count}
 use Rattle.pictures.proofs.Kernels.{tight, used-count, chosen-is, tight-rows-by}
 use Rattle.pictures.proofs.tone_first.Statement.{statement}
 use Rattle.pictures.proofs.tone_first.Tie as tie
 
+-- the set's lists have passed
+passed : (c : tie.After-by-colour) → Passed (c .before .before .before .args .set)
+passed c = passed-set _ (c .before .before .before .pre .0 .0)
+
 byte-table-requires : tie.Need-byte-table-requires
-byte-table-requires c κs = passed-count _ (passed-set _ (c .before .before .before .before .before .before .pre .0 .0) .master)
+byte-table-requires c κs = passed-count _ (passed (c .before .before .before) .master)
 
 own-table-requires : tie.Need-own-table-requires
-own-table-requires c κs = let start = c .before .before .before .before .before .before .before in used-count (c .before .before .before .before .by-colour .result) (start .args .set .red) (passed-set _ (start .pre .0 .0) .red)
+own-table-requires c κs = let by = c .before .before .before .before in used-count (by .by-colour .result) _ (passed by .red)
 
 own-table-requires-2 : tie.Need-own-table-requires-2
-own-table-requires-2 c κs = let start = c .before .before .before .before .before .before .before .before in used-count (c .before .before .before .before .before .by-colour .result) (start .args .set .green) (passed-set _ (start .pre .0 .0) .green)
+own-table-requires-2 c κs = let by = c .before .before .before .before .before in used-count (by .by-colour .result) _ (passed by .green)
 
 own-table-requires-3 : tie.Need-own-table-requires-3
-own-table-requires-3 c κs = let start = c .before .before .before .before .before .before .before .before .before in used-count (c .before .before .before .before .before .before .by-colour .result) (start .args .set .blue) (passed-set _ (start .pre .0 .0) .blue)
+own-table-requires-3 c κs = let by = c .before .before .before .before .before .before in used-count (by .by-colour .result) _ (passed by .blue)
 
 tone-rows-into-requires : tie.Need-tone-rows-into-requires
 tone-rows-into-requires c κs =
@@ -41,9 +44,9 @@ returns c =
     let set = start .args .set in
     let built = master .byte-table .ensures in
     tight-rows-by (start .args .format) (viewOf set) _ _ _ _ _ (start .pre .0 .1) (by .by-colour .ensures) (k .bytes-a-pixel .ensures)
-    (chosen-is (set .interpolation) (set .red) (listOf (set .master)) built (by .by-colour .result) (own-red .own-table .ensures) (red .chosen-table .ensures))
-    (chosen-is (set .interpolation) (set .green) (listOf (set .master)) built (by .by-colour .result) (own-green .own-table2 .ensures) (green .chosen-table2 .ensures))
-    (chosen-is (set .interpolation) (set .blue) (listOf (set .master)) built (by .by-colour .result) (own-blue .own-table3 .ensures) (blue .chosen-table3 .ensures))
+    (chosen-is _ (set .red) _ built (by .by-colour .result) (own-red .own-table .ensures) (red .chosen-table .ensures))
+    (chosen-is _ (set .green) _ built (by .by-colour .result) (own-green .own-table2 .ensures) (green .chosen-table2 .ensures))
+    (chosen-is _ (set .blue) _ built (by .by-colour .result) (own-blue .own-table3 .ensures) (blue .chosen-table3 .ensures))
     (tight-rows .tone-rows-into .ensures)
 
 pub tone-first-spec : {M : Type 1} → statement M
