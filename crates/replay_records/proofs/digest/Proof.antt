@@ -1,0 +1,26 @@
+-- `replay_records::digest` ends: each byte is joined once.
+use Prim.Native.Nat.{_≤_, _-_}
+use lib.ListN.{length}
+use borrow.Author.Needs.{needs}
+use Rattle.replay_records.proofs.digest.Statement.{statement}
+use Rattle.replay_records.proofs.digest.Tie as tie
+
+abbrev Inv-loop : tie.InvT-loop
+Inv-loop h bytes h₀ i₀ h' i = i ≤ length bytes
+
+abbrev μ-loop : tie.MeasureT-loop
+μ-loop h bytes h₀ i₀ h' i = length bytes - i
+
+pub digest-spec : {M : Type 1} → statement M
+digest-spec =
+    tie.close
+    (tie.spec
+    Inv-loop
+    μ-loop
+    (λ c. search needs)
+    (λ c. search needs)
+    (λ c κs. search needs)
+    (λ c. search needs)
+    (λ c. search needs)
+    (λ c. search needs)
+    (λ c. search needs))

@@ -1,0 +1,31 @@
+-- `replay_records::put_counts` ends: there are 8 answers to count.
+use Prim.Native.Nat.{_≤_, _-_}
+use mathlib.Core.Path.{_≡_}
+use lib.ListN.{length}
+use borrow.Author.Needs.{needs}
+use Rattle.replay_records.proofs.put_counts.Statement.{statement}
+use Rattle.replay_records.proofs.put_counts.Tie as tie
+
+abbrev Inv-loop : tie.InvT-loop
+Inv-loop line₀ at counts at₀ answer₀ line at' answer = (answer ≤ 8) × (length line ≡ length line₀)
+
+abbrev μ-loop : tie.MeasureT-loop
+μ-loop line₀ at counts at₀ answer₀ line at' answer = 8 - answer
+
+pub put-counts-spec : {M : Type 1} → statement M
+put-counts-spec =
+    tie.close
+    (tie.spec
+    Inv-loop
+    μ-loop
+    (λ c. search needs)
+    (λ c. search needs)
+    (λ c. search needs)
+    (λ c. search needs)
+    (λ c κs. search needs)
+    (λ c κs. search needs)
+    (λ c. search needs)
+    (λ c. search needs)
+    (λ c. search needs)
+    (λ c. search needs)
+    (λ c. search needs))
