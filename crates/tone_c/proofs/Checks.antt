@@ -9,7 +9,7 @@ use lib.ListN.{length}
 use Rattle.answers.specs.declared.Answer.{Answer}
 use Rattle.answers.specs.declared.Answer.the-variants.{Done, PointCount, UnknownKind}
 use Rattle.answers.specs.Numbers.{numberOf, isDone}
-use Rattle.tone_c.specs.Boundary.{pairsOf, curveAnswer}
+use Rattle.tone_c.specs.Boundary.{pairsOf, givenAnswer}
 
 -- of two tests
 refused-by : (s t : Bool) (next : Answer) → isDone (cond s PointCount (cond t UnknownKind Done)) ≡ false
@@ -24,9 +24,9 @@ passed-by false true e = absurd (false≢true e)
 passed-by false false e = (refl, refl)
 
 -- the checks answered `answer`, and whether that is done is `done`
-module _ {answer : Answer} {done : Bool} (points : List ℕ) (kind : ℕ) (is : answer ≡ curveAnswer points kind Done) (told : done ≡ isDone answer) where
+module _ {answer : Answer} {done : Bool} (points : List ℕ) (kind : ℕ) (is : answer ≡ givenAnswer points kind Done) (told : done ≡ isDone answer) where
   -- a refusal stands, whatever follows
-  pub refused : {r : ℕ} (next : Answer) → not done ≡ true → r ≡ numberOf answer → (r ≡ numberOf (curveAnswer points kind next)) × (eqb r 0 ≡ false)
+  pub refused : {r : ℕ} (next : Answer) → not done ≡ true → r ≡ numberOf answer → (r ≡ numberOf (givenAnswer points kind next)) × (eqb r 0 ≡ false)
   refused next t e =
       let no : isDone answer ≡ false = sym told ∙ not-true done t in
       let stands = refused-by (ltb 64 (length (pairsOf points))) (ltb 9 kind) next (sym (ap isDone is) ∙ no) in

@@ -25,23 +25,23 @@ pairsOf (x ∷ []) = []
 pairsOf (x ∷ y ∷ bytes) = pt x y ∷ pairsOf bytes
 
 -- what both table calls refuse, before what they refuse of the table: "A count of points is above 64", then "The kind byte is above 9"
-abbrev pub curveAnswer : List ℕ → ℕ → Answer → Answer
-curveAnswer points kind next = cond (ltb 64 (length (pairsOf points))) PointCount (cond (ltb 9 kind) UnknownKind next)
+abbrev pub givenAnswer : List ℕ → ℕ → Answer → Answer
+givenAnswer points kind next = cond (ltb 64 (length (pairsOf points))) PointCount (cond (ltb 9 kind) UnknownKind next)
 
 -- ---- tone_table
 -- 3, 5, then 13: "An output holds less than what would be written", which is 256 bytes
-abbrev pub tableAnswer : List ℕ → ℕ → ℕ → Answer
-tableAnswer points kind room = curveAnswer points kind (cond (ltb room 256) OutputTooSmall Done)
+abbrev pub byteAnswer : List ℕ → ℕ → ℕ → Answer
+byteAnswer points kind room = givenAnswer points kind (cond (ltb room 256) OutputTooSmall Done)
 
 -- the number answered; and the output: the byte table in place of its first 256 bytes, or on a refusal unchanged
 pub record ToneTable (points : List ℕ) (kind tension : ℕ) (start end : ℤ) (old : List ℕ) (r : ℕ) (new : List ℕ) : Type 0 where
-  pub number : r ≡ numberOf (tableAnswer points kind (length old))
+  pub number : r ≡ numberOf (byteAnswer points kind (length old))
   pub table : new ≡ cond (eqb r 0) (byteTable (kindOf kind tension start end) (pairsOf points) ++ drop 256 old) old
 
 -- ---- tone_fine_table
 -- 3, 5, then 14: "A float table's length isn't 256 or 4,096 (build)"
 abbrev pub fineAnswer : List ℕ → ℕ → ℕ → Answer
-fineAnswer points kind S = curveAnswer points kind (cond (isTableLength S) Done TableLength)
+fineAnswer points kind S = givenAnswer points kind (cond (isTableLength S) Done TableLength)
 
 -- the number answered; and the lent table: filled, or on a refusal unchanged
 pub record ToneFineTable (points : List ℕ) (kind tension : ℕ) (start end : ℤ) (old : List Float) (r : ℕ) (new : List Float) : Type 0 where

@@ -7,15 +7,15 @@ use lib.ListN.{replicate}
 use Rattle.answers.specs.declared.Answer.the-variants.{Done, PointCount, UnknownKind, OutputTooSmall, TableLength}
 use Rattle.points.specs.Points.{pt}
 use Rattle.tables.specs.Kinds.{kindOf}
-use Rattle.tone_c.specs.Boundary.{pairsOf, tableAnswer, fineAnswer}
+use Rattle.tone_c.specs.Boundary.{pairsOf, byteAnswer, fineAnswer}
 
 pub odd-byte : pairsOf (10 ∷ 5 ∷ 0 ∷ 0 ∷ 77 ∷ []) ≡ pt 10 5 ∷ pt 0 0 ∷ []
 unfolding pairsOf
 odd-byte = refl
 
 -- 65 pairs, then kind 10, then an output one byte too short; 64 pairs and an odd byte pass
-pub order : (tableAnswer (replicate 130 7) 10 255 ≡ PointCount) × (tableAnswer (replicate 129 7) 10 255 ≡ UnknownKind)
-    × (tableAnswer (replicate 129 7) 9 255 ≡ OutputTooSmall) × (tableAnswer (replicate 129 7) 9 256 ≡ Done)
+pub order : (byteAnswer (replicate 130 7) 10 255 ≡ PointCount) × (byteAnswer (replicate 129 7) 10 255 ≡ UnknownKind)
+    × (byteAnswer (replicate 129 7) 9 255 ≡ OutputTooSmall) × (byteAnswer (replicate 129 7) 9 256 ≡ Done)
 unfolding pairsOf
 order = (refl, refl, refl, refl)
 

@@ -4,7 +4,7 @@ ghost use Prim.Native.Nat.{_<_, _≤_};
 ghost use lib.ListN.{length};
 ghost use Rattle.answers.specs.declared.Answer.the-variants.{Done};
 ghost use Rattle.points.specs.Points.{listOf, nth};
-ghost use Rattle.tone_c.specs.Boundary.{pairsOf, curveAnswer};
+ghost use Rattle.tone_c.specs.Boundary.{pairsOf, givenAnswer};
 use answers::Answer;
 use points::Curve;
 use points::Point;
@@ -18,7 +18,7 @@ fn pair_count(points: &[u8]) -> usize
 
 // 3, then 5.
 pub fn check(points: &[u8], kind: u8) -> Answer
-    ensures { λ r. ⌜ r ≡ curveAnswer (now (points .entry)) kind Done ⌝ }
+    ensures { λ r. ⌜ r ≡ givenAnswer (now (points .entry)) kind Done ⌝ }
 {
     let count = pair_count(points);
     if Curve::LIMIT < count {
