@@ -1,10 +1,11 @@
 -- The numbers of document 01, "When a call says no", one for each answer; and that different answers have different numbers.
 use Prim.Native.Nat.{ℕ}
 use mathlib.Core.Path.{_≡_, refl, sym, ap, _∙_}
-use mathlib.Core.Bool.{Bool}
+use mathlib.Core.Bool.{Bool, true, false, cond}
 use mathlib.Core.List.{List, [], _∷_}
 use lib.ListN.{getD}
 use lib.Dec.{eqb}
+use borrow.Author.Tests.{eqb-true, eqb-false}
 use Rattle.answers.specs.declared.Answer.{Answer}
 use Rattle.answers.specs.declared.Answer.the-variants.{
   Done,
@@ -58,6 +59,10 @@ numberOf TableLength = 14
 abbrev pub isDone : Answer → Bool
 isDone a = eqb (numberOf a) 0
 
+-- the first refusal of two answers
+abbrev pub firstOf : Answer → Answer → Answer
+firstOf a b = cond (isDone a) b a
+
 -- ---- different answers have different numbers
 
 -- the answers in the order of their numbers
@@ -85,3 +90,12 @@ at-number TableLength = refl
 
 pub number-unique : (a b : Answer) → numberOf a ≡ numberOf b → a ≡ b
 number-unique a b e = sym (at-number a) ∙ ap (λ n. getD inOrder n Done) e ∙ at-number b
+
+-- where the first refusal of two is none, neither is a refusal
+module _ (a b : Answer) where
+  by-first : (done : Bool) → isDone a ≡ done → cond done b a ≡ Done → (a ≡ Done) × (b ≡ Done)
+  by-first true h e = (number-unique a Done (eqb-true (numberOf a) 0 h), e)
+  by-first false h e = absurd (eqb-false (numberOf a) 0 h (ap numberOf e))
+
+  pub both-done : firstOf a b ≡ Done → (a ≡ Done) × (b ≡ Done)
+  both-done e = by-first (isDone a) refl e

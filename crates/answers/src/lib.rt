@@ -1,6 +1,6 @@
 // The answer of a call: done, or the first refusal of document 01, "When a call says no".
 ghost use mathlib.Core.Path.{_≡_};
-ghost use Rattle.answers.specs.Numbers.{numberOf, isDone};
+ghost use Rattle.answers.specs.Numbers.{numberOf, isDone, firstOf};
 
 pub enum Answer {
     Done,
@@ -49,4 +49,11 @@ impl Answer {
     {
         self.number() == 0
     }
+}
+
+// The first refusal of two answers.
+pub fn first_of(a: Answer, b: Answer) -> Answer
+    ensures { λ r. ⌜ r ≡ firstOf a b ⌝ }
+{
+    if a.is_done() { b } else { a }
 }

@@ -3,3 +3,4 @@ pub mod Each
 pub mod Stored
 pub mod Replaced
 pub mod Part
+pub mod Copied

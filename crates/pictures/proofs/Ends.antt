@@ -1,14 +1,12 @@
 -- The ends of the set call: refused, done, and done with chroma.
 use mathlib.Core.Path.{_≡_}
 use mathlib.Core.Bool.{true, false}
-use mathlib.Core.List.{List}
+use mathlib.Core.List.{List, _++_}
 use Prim.Native.Nat.{ℕ}
-use lib.ListN.{length}
+use lib.ListN.{length, drop}
 use Rattle.answers.specs.declared.Answer.{Answer}
 use Rattle.answers.specs.Numbers.{isDone}
-use Rattle.lists.specs.Tabulate.{filled}
 use Rattle.sets.specs.Sets.{viewOf}
-use Rattle.rows.specs.Rows.{byteAt}
 use Rattle.pictures.specs.Runs.{PlaneOf, Run, rowBytes, hasChroma, answer, tablesOf, tightRows, accepted, first, chroma, tonedOf, SetCall}
 
 -- the first output toned, and a chroma output filled
@@ -16,7 +14,7 @@ abbrev toned : Run → List ℕ
 toned r = tightRows (r .format) (r .width) (r .height) (r .plane .step) (tablesOf (r .format) (viewOf (r .set))) (r .plane .bytes) (r .out)
 
 abbrev copied : PlaneOf → List ℕ → List ℕ
-copied plane out = filled (length (plane .bytes)) (byteAt (plane .bytes)) out
+copied plane out = plane .bytes ++ drop (length (plane .bytes)) out
 
 module _ (r : Run) {a : Answer} (is : a ≡ answer r) where
   pub refused : isDone a ≡ false → SetCall r (tonedOf a 0 0 0) (r .out) (r .outCb) (r .outCr)

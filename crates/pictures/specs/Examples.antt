@@ -29,10 +29,10 @@ use Rattle.sets.specs.declared.Curves.{Curves}
 use Rattle.sets.specs.declared.Channel.{Channel}
 use Rattle.sets.specs.Sets.{curveAnswer, channelAnswer, setAnswer}
 use Rattle.rows.specs.Bytes.{toned, rowByte}
-use Rattle.rows.specs.Rows.{inRow, planeByte, needed, tightByte, byteAt}
-use Rattle.pictures.specs.declared.PixelFormat.{PixelFormat}
-use Rattle.pictures.specs.declared.PixelFormat.the-variants.{Gray8, Rgba, Cmyk, Yuv420P}
-use Rattle.pictures.specs.Checks.{planeAnswer, lutAnswer, pictureAnswer}
+use Rattle.rows.specs.Rows.{inRow, planeByte, needed, tightByte}
+use Rattle.formats.specs.declared.PixelFormat.{PixelFormat}
+use Rattle.formats.specs.declared.PixelFormat.the-variants.{Gray8, Rgba, Cmyk, Yuv420P}
+use Rattle.formats.specs.Checks.{planeAnswer, lutAnswer, pictureAnswer}
 use Rattle.pictures.specs.OneTable.{tonedWithin}
 use Rattle.pictures.specs.Runs.{Run, given, answer, first, chroma}
 
@@ -164,5 +164,5 @@ unfolding answered first filled tabulate tightByte rowByte toned
 P2-first = rw (P2-entry 5 (omega arith))
 
 pub P2-chroma : chroma flat (flat .cr) (flat .outCr) ≡ 4 ∷ 5 ∷ 6 ∷ 0 ∷ []
-unfolding answered chroma filled tabulate byteAt
+unfolding answered chroma
 P2-chroma = refl

@@ -1,5 +1,3 @@
-pub mod Formats
-pub mod Checks
 pub mod OneTable
 pub mod Runs
 pub mod RunLaws

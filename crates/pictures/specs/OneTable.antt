@@ -9,9 +9,9 @@ use Rattle.answers.specs.Numbers.{isDone}
 use Rattle.lists.specs.Each.{each}
 use Rattle.rows.specs.Bytes.{same, rowByte}
 use Rattle.rows.specs.Rows.{planeByte}
-use Rattle.pictures.specs.declared.PixelFormat.{PixelFormat}
-use Rattle.pictures.specs.Formats.{bytesAPixel, keptOf}
-use Rattle.pictures.specs.Checks.{lutAnswer}
+use Rattle.formats.specs.declared.PixelFormat.{PixelFormat}
+use Rattle.formats.specs.Formats.{bytesAPixel, keptOf}
+use Rattle.formats.specs.Checks.{lutAnswer}
 
 -- "The one-table call tones all 12 formats within the plane: alpha of Ya8 and Rgba, chroma and padding unchanged; Cmyk tones all four inks"
 abbrev pub tonedWithin : PixelFormat → ℕ → ℕ → ℕ → List ℕ → List ℕ → List ℕ

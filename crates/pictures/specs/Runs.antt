@@ -3,24 +3,24 @@
 use Prim.Native.Nat.{ℕ, zero, suc, _*_}
 use mathlib.Core.Path.{_≡_}
 use mathlib.Core.Bool.{Bool, cond, _&&_}
-use mathlib.Core.List.{List}
-use lib.ListN.{length}
+use mathlib.Core.List.{List, _++_}
+use lib.ListN.{length, drop}
 use Rattle.answers.specs.declared.Answer.{Answer}
-use Rattle.answers.specs.Numbers.{isDone}
+use Rattle.answers.specs.Numbers.{isDone, firstOf}
 use Rattle.lists.specs.Tabulate.{filled}
 use Rattle.points.specs.declared.Point.{Point}
 use Rattle.tables.specs.Tables.{byteTable}
 use Rattle.sets.specs.declared.Curves.{Curves}
 use Rattle.sets.specs.declared.Colour.{Colour}
 use Rattle.sets.specs.declared.Colour.the-variants.{Red, Green, Blue}
-use Rattle.sets.specs.Sets.{View, viewOf, colourOf, ownOrMaster, firstOf, setAnswer}
+use Rattle.sets.specs.Sets.{View, viewOf, colourOf, ownOrMaster, setAnswer}
 use Rattle.rows.specs.Bytes.{three, rowByte}
-use Rattle.rows.specs.Rows.{tightByte, byteAt}
-use Rattle.pictures.specs.declared.PixelFormat.{PixelFormat}
-use Rattle.pictures.specs.declared.Lengths.{Lengths}
+use Rattle.rows.specs.Rows.{tightByte}
+use Rattle.formats.specs.declared.PixelFormat.{PixelFormat}
+use Rattle.formats.specs.declared.Lengths.{Lengths}
 use Rattle.pictures.specs.declared.Toned.{Toned}
-use Rattle.pictures.specs.Formats.{bytesAPixel, keptOf, byColour}
-use Rattle.pictures.specs.Checks.{chromaRead, pictureAnswer}
+use Rattle.formats.specs.Formats.{bytesAPixel, keptOf, byColour}
+use Rattle.formats.specs.Checks.{chromaRead, pictureAnswer}
 
 -- "A plane is its bytes together with its row step"
 pub record PlaneOf : Type 0 where
@@ -121,7 +121,7 @@ module _ (r : Run) where
 
   -- "for YUV each chroma plane is copied whole"
   unfoldable pub chroma : PlaneOf → List ℕ → List ℕ
-  chroma plane out = cond (accepted && hasChroma r) (filled (length (plane .bytes)) (byteAt (plane .bytes)) out) out
+  chroma plane out = cond (accepted && hasChroma r) (plane .bytes ++ drop (length (plane .bytes)) out) out
 
   -- "its step handed back"; zeros beside a refusal, and where there is no chroma
   abbrev pub stepOf : PlaneOf → ℕ

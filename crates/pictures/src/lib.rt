@@ -8,129 +8,23 @@ ghost use Rattle.points.specs.Points.{listOf};
 ghost use Rattle.tables.specs.Tables.{byteTable};
 ghost use Rattle.sets.specs.Sets.{viewOf, setAnswer};
 ghost use Rattle.rows.specs.Rows.{Rows};
-ghost use Rattle.pictures.specs.Formats.{bytesAPixel, keptOf, planesRead, byColour};
-ghost use Rattle.pictures.specs.Checks.{Supported};
+ghost use Rattle.formats.specs.Formats.{bytesAPixel};
+ghost use Rattle.formats.specs.Checks.{Supported};
 ghost use Rattle.pictures.specs.OneTable.{LutCall};
 ghost use Rattle.pictures.specs.Runs.{given, tablesOf, tightRows, tonedOf, SetCall};
 use answers::Answer;
+use answers::first_of;
+use formats::Lengths;
+use formats::PixelFormat;
+use formats::checks;
 use points::Curve;
 use rows::copy_bytes;
 use rows::tone_rows;
 use rows::tone_rows_into;
 use sets::Curves;
 use sets::chosen_table;
-use sets::first_of;
 use tables::CurveInterpolation;
 use tables::byte_table;
-
-mod checks;
-
-pub enum PixelFormat {
-    Gray8,
-    Ya8,
-    Rgb24,
-    Rgba,
-    Cmyk,
-    CmykInverted,
-    Yuv420P,
-    Yuv422P,
-    Yuv444P,
-    YuvJ420P,
-    YuvJ422P,
-    YuvJ444P,
-}
-
-// What the kernels and the checks are told of a format.
-impl PixelFormat {
-    pub fn bytes_a_pixel(self) -> usize
-        ensures { λ r. ⌜ r ≡ bytesAPixel self ⌝ }
-    {
-        match self {
-            PixelFormat::Gray8 => 1,
-            PixelFormat::Ya8 => 2,
-            PixelFormat::Rgb24 => 3,
-            PixelFormat::Rgba => 4,
-            PixelFormat::Cmyk => 4,
-            PixelFormat::CmykInverted => 4,
-            PixelFormat::Yuv420P => 1,
-            PixelFormat::Yuv422P => 1,
-            PixelFormat::Yuv444P => 1,
-            PixelFormat::YuvJ420P => 1,
-            PixelFormat::YuvJ422P => 1,
-            PixelFormat::YuvJ444P => 1,
-        }
-    }
-
-    // The channel that no table tones, alpha; the number of channels where there is none.
-    pub fn kept(self) -> usize
-        ensures { λ r. ⌜ r ≡ keptOf self ⌝ }
-    {
-        match self {
-            PixelFormat::Gray8 => 1,
-            PixelFormat::Ya8 => 1,
-            PixelFormat::Rgb24 => 3,
-            PixelFormat::Rgba => 3,
-            PixelFormat::Cmyk => 4,
-            PixelFormat::CmykInverted => 4,
-            PixelFormat::Yuv420P => 1,
-            PixelFormat::Yuv422P => 1,
-            PixelFormat::Yuv444P => 1,
-            PixelFormat::YuvJ420P => 1,
-            PixelFormat::YuvJ422P => 1,
-            PixelFormat::YuvJ444P => 1,
-        }
-    }
-
-    // How many planes the set call reads; 0 where it refuses the format.
-    pub fn planes_read(self) -> usize
-        ensures { λ r. ⌜ r ≡ planesRead self ⌝ }
-    {
-        match self {
-            PixelFormat::Gray8 => 1,
-            PixelFormat::Ya8 => 0,
-            PixelFormat::Rgb24 => 1,
-            PixelFormat::Rgba => 1,
-            PixelFormat::Cmyk => 0,
-            PixelFormat::CmykInverted => 0,
-            PixelFormat::Yuv420P => 3,
-            PixelFormat::Yuv422P => 3,
-            PixelFormat::Yuv444P => 3,
-            PixelFormat::YuvJ420P => 3,
-            PixelFormat::YuvJ422P => 3,
-            PixelFormat::YuvJ444P => 3,
-        }
-    }
-
-    // Whether the set call tones each colour by its own table.
-    pub fn by_colour(self) -> bool
-        ensures { λ r. ⌜ r ≡ byColour self ⌝ }
-    {
-        match self {
-            PixelFormat::Gray8 => false,
-            PixelFormat::Ya8 => false,
-            PixelFormat::Rgb24 => true,
-            PixelFormat::Rgba => true,
-            PixelFormat::Cmyk => false,
-            PixelFormat::CmykInverted => false,
-            PixelFormat::Yuv420P => false,
-            PixelFormat::Yuv422P => false,
-            PixelFormat::Yuv444P => false,
-            PixelFormat::YuvJ420P => false,
-            PixelFormat::YuvJ422P => false,
-            PixelFormat::YuvJ444P => false,
-        }
-    }
-}
-
-// How many bytes the planes and the outputs of the set call hold.
-pub struct Lengths {
-    pub plane: usize,
-    pub cb: usize,
-    pub cr: usize,
-    pub out: usize,
-    pub out_cb: usize,
-    pub out_cr: usize,
-}
 
 // What the set call answers, and the row steps of its outputs.
 pub struct Toned {

@@ -21,8 +21,8 @@ use Rattle.tables.specs.Tables.{entryOf}
 use Rattle.tables.specs.Examples as Tables
 use Rattle.sets.specs.Sets.{curveAnswer, channelAnswer, setAnswer}
 use Rattle.rows.specs.Rows.{inRow, needed}
-use Rattle.pictures.specs.declared.PixelFormat.the-variants.{Gray8, Rgba, Yuv420P}
-use Rattle.pictures.specs.Checks.{planeAnswer, pictureAnswer}
+use Rattle.formats.specs.declared.PixelFormat.the-variants.{Gray8, Rgba, Yuv420P}
+use Rattle.formats.specs.Checks.{planeAnswer, pictureAnswer}
 use Rattle.pictures.specs.Runs.{Run, answer}
 use Rattle.promises.specs.Words.{
   Call,

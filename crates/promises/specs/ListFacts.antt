@@ -27,8 +27,8 @@ use Rattle.sets.specs.Carried.{carriedOf}
 use Rattle.sets.specs.Sets.{View, colourOf, ownOrMaster}
 use Rattle.sets.specs.Legal.{LegalList, LegalColour, Legal}
 use Rattle.rows.specs.Bytes.{through}
-use Rattle.pictures.specs.declared.PixelFormat.{PixelFormat}
-use Rattle.pictures.specs.Formats.{byColour}
+use Rattle.formats.specs.declared.PixelFormat.{PixelFormat}
+use Rattle.formats.specs.Formats.{byColour}
 use Rattle.pictures.specs.Runs.{listFor, tablesOf, tonedBy}
 use Rattle.pictures.specs.RunLaws.{tables-of}
 use Rattle.promises.specs.Words.{OfColour, EveryList, IsSpline}

@@ -1,14 +1,14 @@
 -- What stands at each place of the outputs of a run that is not refused, and the clauses of the third demand that follow.
-use Prim.Native.Nat.{ℕ, _/_, _%_, _≤_, _<_}
+use Prim.Native.Nat.{ℕ, _+_, _-_, _/_, _%_, _≤_, _<_}
 use native.Mathlib.Nat.{mod-lt, div-lt-iff-lt-mul, eq-zero-or-pos, mul-zero, div-add-mod'}
 use native.Mathlib.Decide.{ℕ-discrete}
 use native.Mathlib.Omega.{arith}
 use mathlib.Core.Path.{_≡_, refl, sym, ap, _∙_}
 use mathlib.Core.Logic.{⊎-elim}
 use mathlib.Core.Bool.{true, false, false≢true}
-use mathlib.Core.List.{List, List·Memᴰ}
-use lib.ListN.{length, getD, take, drop}
-use lib.Seq.{take-append-seam, length-take-le, getD-take, ext-getD}
+use mathlib.Core.List.{List, _++_, List·Memᴰ}
+use lib.ListN.{length, getD, take, drop, length-append, length-drop}
+use lib.Seq.{take-append-seam, getD-append-add, getD-drop, length-take-le, getD-take, ext-getD}
 use borrow.Author.Tests.{lt-ltb}
 use Rattle.lists.specs.Tabulate.{tabulate, filled, length-tabulate, is-tabulate, length-filled, getD-filled-rest}
 use Rattle.floats.specs.Frac.{frac}
@@ -29,11 +29,11 @@ use Rattle.sets.specs.Sets.{View, viewOf}
 use Rattle.sets.specs.Legal.{LegalList}
 use Rattle.sets.specs.SameLaws.{same-view}
 use Rattle.rows.specs.Bytes.{toned, rowByte}
-use Rattle.rows.specs.Rows.{inRow, tightByte, byteAt}
+use Rattle.rows.specs.Rows.{inRow, tightByte}
 use Rattle.rows.specs.Places.{mul-room, place-row, place-in}
 use Rattle.rows.specs.Laws.{toned-through, toned-kept, rows-inside, tight-pixel}
-use Rattle.pictures.specs.declared.PixelFormat.{PixelFormat}
-use Rattle.pictures.specs.Formats.{bytesAPixel, keptOf}
+use Rattle.formats.specs.declared.PixelFormat.{PixelFormat}
+use Rattle.formats.specs.Formats.{bytesAPixel, keptOf}
 use Rattle.pictures.specs.Runs.{Run, PlaneOf, rowBytes, size, hasChroma, accepted, tablesOf, first, chroma, stepOf}
 use Rattle.pictures.specs.RunLaws as Checked
 use Rattle.promises.specs.Words.{
@@ -74,13 +74,11 @@ abbrev tablesIn : Run → ℕ → List ℕ
 tablesIn r = tablesOf (r .format) (viewOf (r .set))
 
 -- ---- lists and places
-take-filled : (n : ℕ) (f : ℕ → ℕ) (l : List ℕ) → take n (filled n f l) ≡ tabulate n f
-unfolding filled
-take-filled n f l = rw (length-tabulate n f) at (take-append-seam (tabulate n f) (drop n l))
-
-tabulate-bytes : (l : List ℕ) → tabulate (length l) (byteAt l) ≡ l
-unfolding byteAt
-tabulate-bytes l = sym (is-tabulate 0 refl (λ k h. refl))
+-- past a list that was copied to the front of another
+front-rest : (l m : List ℕ) (k : ℕ) → length l ≤ k → getD (l ++ drop (length l) m) k 0 ≡ getD m k 0
+front-rest l m k h =
+    let past : length l + (k - length l) ≡ k = omega arith in
+    rw past at (getD-append-add l (drop (length l) m) (k - length l) 0) ∙ rw past at (getD-drop (length l) m (k - length l) 0)
 
 -- every byte of the tight rows has a place
 place-of : (r : Run) (k : ℕ) → k < size r → (p : Place) × Within r p × (inOutput r p ≡ k)
@@ -167,11 +165,11 @@ module _ (c : Call) (ok : Accepted c) where
   unfolding chroma
   chroma-copied plane before after yuv e room =
       let n = length (plane .bytes) in
-      let is : after ≡ filled n (byteAt (plane .bytes)) before = rw (not-refused, yuv) at e in
+      let is : after ≡ plane .bytes ++ drop n before = rw (not-refused, yuv) at e in
       record {
-        whole = rw is (take-filled n (byteAt (plane .bytes)) before ∙ tabulate-bytes (plane .bytes));
-        past = λ k h. rw is (getD-filled-rest n (byteAt (plane .bytes)) before k 0 h);
-        long = rw is (length-filled n (byteAt (plane .bytes)) before room);
+        whole = rw is (take-append-seam (plane .bytes) (drop n before));
+        past = λ k h. rw is (front-rest (plane .bytes) before k h);
+        long = rw is (simp (length-append, length-drop) (omega arith));
       }
 
   chroma-stays : (plane : PlaneOf) (before after : List ℕ) → (IsYuv (c .given) → ⊥) → after ≡ chroma (c .given) plane before → after ≡ before

@@ -14,8 +14,8 @@ use Rattle.tables.specs.Tables.{entryOf}
 use Rattle.sets.specs.declared.Channel.{Channel}
 use Rattle.sets.specs.Carried.{carriedOf}
 use Rattle.sets.specs.SameLaws.{same-refl}
-use Rattle.pictures.specs.declared.PixelFormat.{PixelFormat}
-use Rattle.pictures.specs.declared.PixelFormat.the-variants.{Gray8}
+use Rattle.formats.specs.declared.PixelFormat.{PixelFormat}
+use Rattle.formats.specs.declared.PixelFormat.the-variants.{Gray8}
 use Rattle.pictures.specs.Runs.{Run, PlaneOf, rowBytes, accepted, answer, first, chroma, stepOf}
 use Rattle.promises.specs.Words.{Lent, Call, Accepted, Share, Place, TonedAt, input, output}
 use Rattle.promises.specs.Demand3.{exact}

@@ -19,7 +19,7 @@ use Rattle.sets.specs.Same.{Same}
 use Rattle.sets.specs.Carried.{carriedOf}
 use Rattle.rows.specs.Rows.{inRow}
 use Rattle.pictures.specs.declared.Toned.{Toned}
-use Rattle.pictures.specs.Formats.{bytesAPixel, keptOf}
+use Rattle.formats.specs.Formats.{bytesAPixel, keptOf}
 use Rattle.pictures.specs.Runs.{Run, rowBytes, size, hasChroma, answer, tonedBy, first, chroma, SetCall}
 
 -- ---- the lists of a set

@@ -111,7 +111,8 @@ fn read_point(s: &[u8], at: usize) -> Point
     }
 }
 
-fn read_points(s: &[u8], from: usize, n: usize) -> Curve
+// n points from a position on.
+pub fn read_points(s: &[u8], from: usize, n: usize) -> Curve
     requires { ⌜ (n ≤ limit) × (from + n * pointBytes ≤ length (now s)) ⌝ }
     ensures { λ r. ⌜ (listOf r ≡ pairs n (drop from (now (s .entry)))) × (r .count ≡ n) ⌝ }
 {

@@ -1,19 +1,19 @@
 -- Turns of the loops: a pixel after others, a row of a plane, a row into tight rows, a block into its row; and which pixels a test has found.
 use mathlib.Core.Path.{_≡_, refl, sym, ap, _∙_}
-use mathlib.Core.List.{List}
+use mathlib.Core.List.{List, _++_, append-nil}
 use mathlib.Core.Logic.{⊎-elim}
 use Prim.Native.Nat.{ℕ, zero, suc, _+_, _-_, _*_, _%_, _≤_, _<_}
 use native.Mathlib.Nat.{add-mul, mul-add-mod-self-right}
 use native.Mathlib.Omega.{arith}
-use lib.ListN.{length, getD}
-use lib.Seq.{ext-getD}
+use lib.ListN.{length, getD, drop}
+use lib.Seq.{drop-length}
 use Rattle.lists.specs.Each.{each, is-each, each-same}
-use Rattle.lists.specs.Tabulate.{filled, length-filled, getD-filled}
+use Rattle.lists.specs.Tabulate.{filled}
 use Rattle.lists.specs.Replaced.{Replaced, replacing, replaced-none, replaced-then, replaced-as, replaced-kept, replaced-end, replaced-each}
 use Rattle.lists.specs.Stored.{Stored, stored-none, stored-then, stored-end, stored-inside, stored-front}
 use Rattle.lists.specs.Part.{part, back, length-part, getD-part, stored-part-each, replaced-part}
 use Rattle.rows.specs.Bytes.{same, three, through, toned, rowByte, plainByte, pixelByte}
-use Rattle.rows.specs.Rows.{planeByte, tightByte, byteAt, InPlace, Tight}
+use Rattle.rows.specs.Rows.{planeByte, tightByte, InPlace, Tight}
 use Rattle.rows.specs.Places.{mul-next, mul-bound, from-start}
 use Rattle.rows.specs.Laws.{toned-through, toned-kept, row-channel, row-plain, plane-row, plane-padding, beside-row, below-rows, no-columns, tight-row}
 
@@ -69,14 +69,11 @@ one-table p kept table l =
     each-same 0 (rowByte p kept (three table table table)) (rowByte p kept (same table)) l (λ c lt. rw (three-same table (c % p)))
 
 -- a copy as long as its original, of which each byte was then replaced
-copied : (l m : List ℕ) → length m ≡ length l → filled (length l) (byteAt l) m ≡ l
-unfolding byteAt
-copied l m e =
-    let size = length-filled (length l) (byteAt l) m (omega arith) in
-    ext-getD 0 (filled (length l) (byteAt l) m) l (size ∙ e) (λ k lt. getD-filled (length l) (byteAt l) m k 0 (omega arith))
+copied : (l m : List ℕ) → length m ≡ length l → l ++ drop (length l) m ≡ l
+copied l m e = rw (← e, drop-length m) (append-nil l)
 
 pub copied-each : {copy m : List ℕ} (f : ℕ → ℕ → ℕ) (src dst : List ℕ) → length dst ≡ length src
-    → copy ≡ filled (length src) (byteAt src) dst → m ≡ each f copy → m ≡ each f src
+    → copy ≡ src ++ drop (length src) dst → m ≡ each f copy → m ≡ each f src
 copied-each f src dst e is replaced = replaced ∙ ap (each f) (is ∙ copied src dst e)
 
 -- the pixels that a test has found

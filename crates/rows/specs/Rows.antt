@@ -21,10 +21,6 @@ planeByte row height step g k x = cond (inRow row height step k) (g (k % step) x
 unfoldable pub tightByte : ℕ → ℕ → (ℕ → ℕ → ℕ) → List ℕ → ℕ → ℕ
 tightByte row step g plane k = g (k % row) (getD plane (k / row * step + k % row) 0)
 
--- the byte at index k
-unfoldable pub byteAt : List ℕ → ℕ → ℕ
-byteAt bytes k = getD bytes k 0
-
 -- "Bytes needed: 0 if width or height is 0, else (height − 1) × step + row"
 unfoldable pub needed : ℕ → ℕ → ℕ → ℕ → ℕ
 needed width height row step = cond (eqb width 0) 0 (cond (eqb height 0) 0 ((height - 1) * step + row))

@@ -4,12 +4,13 @@
 // needs no index register takes two thirds of the time.
 ghost use mathlib.Core.Path.{_≡_};
 ghost use Prim.Native.Nat.{_+_, _-_, _*_, _%_, _≤_, _<_, min};
-ghost use lib.ListN.{length};
+ghost use mathlib.Core.List.{_++_};
+ghost use lib.ListN.{length, drop};
 ghost use Rattle.lists.specs.Each.{each};
 ghost use Rattle.lists.specs.Tabulate.{filled};
 ghost use Rattle.lists.specs.Replaced.{Replaced};
 ghost use Rattle.rows.specs.Bytes.{same, three, through, rowByte, plainByte, pixelByte};
-ghost use Rattle.rows.specs.Rows.{planeByte, tightByte, byteAt, Rows, InPlace, Tight, alphaOf};
+ghost use Rattle.rows.specs.Rows.{planeByte, tightByte, Rows, InPlace, Tight, alphaOf};
 
 // A byte through a table.
 fn look(table: &[u8; 256], x: u8) -> u8
@@ -184,7 +185,7 @@ pub fn tone_rows(
 // Copies src to the front of dst.
 pub fn copy_bytes(src: &[u8], dst: &mut [u8])
     requires { ⌜ length (now src) ≤ length (now dst) ⌝ }
-    ensures { λ _. ⌜ now (dst .exit) ≡ filled (length (now (src .entry))) (byteAt (now (src .entry))) (now (dst .entry)) ⌝ }
+    ensures { λ _. ⌜ now (dst .exit) ≡ now (src .entry) ++ drop (length (now (src .entry))) (now (dst .entry)) ⌝ }
 {
     let n = src.len();
     let mut i = 0;

@@ -6,17 +6,16 @@ use mathlib.Core.List.{List}
 use mathlib.Core.Bool.{true}
 use mathlib.Core.Option.{Option, none, some}
 use lib.ListN.{length, length-take}
-use borrow.Author.Tests.{ltb-false, eqb-true, eqb-false}
-use Rattle.answers.specs.declared.Answer.{Answer}
+use borrow.Author.Tests.{ltb-false}
 use Rattle.answers.specs.declared.Answer.the-variants.{Done}
-use Rattle.answers.specs.Numbers.{numberOf, isDone, number-unique}
+use Rattle.answers.specs.Numbers.{both-done}
 use Rattle.single.specs.RuleLaws.{by-test}
 use Rattle.points.specs.declared.Point.{Point}
 use Rattle.points.specs.declared.Curve.{Curve}
 use Rattle.points.specs.Points.{listOf, rises, tooMany}
 use Rattle.sets.specs.declared.Channel.{Channel}
 use Rattle.sets.specs.declared.Curves.{Curves}
-use Rattle.sets.specs.Sets.{View, viewOf, channelOf, firstOf, curveAnswer, channelAnswer, setAnswer}
+use Rattle.sets.specs.Sets.{View, viewOf, channelOf, curveAnswer, channelAnswer, setAnswer}
 
 pub record LegalList (l : List Point) : Type 0 where
   pub few : length l ≤ 64
@@ -33,12 +32,6 @@ pub record Legal (v : View) : Type 0 where
   pub blue : LegalColour (v .blue)
 
 -- ---- from the check
--- where the first refusal of two is none, neither is a refusal
-pub both-done : (a b : Answer) → firstOf a b ≡ Done → (a ≡ Done) × (b ≡ Done)
-both-done a b e =
-    by-test (isDone a) (λ t. (number-unique a Done (eqb-true (numberOf a) 0 t), rw t at e))
-    (λ t. let d : a ≡ Done = rw t at e in absurd (eqb-false (numberOf a) 0 t (rw d)))
-
 -- a set passes where each of its lists does
 pub record Passed (s : Curves) : Type 0 where
   pub master : curveAnswer (s .master) ≡ Done

@@ -7,7 +7,7 @@ use mathlib.Core.List.{List, []}
 use mathlib.Core.Option.{Option, none, some}
 use Rattle.answers.specs.declared.Answer.{Answer}
 use Rattle.answers.specs.declared.Answer.the-variants.{Done, PointCount, PointsNotRising}
-use Rattle.answers.specs.Numbers.{isDone}
+use Rattle.answers.specs.Numbers.{firstOf}
 use Rattle.points.specs.declared.Point.{Point}
 use Rattle.points.specs.declared.Curve.{Curve}
 use Rattle.points.specs.Points.{listOf, rises, tooMany}
@@ -91,10 +91,6 @@ abbrev pub withKind : CurveInterpolation → View → View
 withKind k v = record { master = v .master; red = v .red; green = v .green; blue = v .blue; kind = k }
 
 -- ---- the check of a set's lists
--- the first refusal of two
-abbrev pub firstOf : Answer → Answer → Answer
-firstOf a b = cond (isDone a) b a
-
 -- of one list: 3, then 4
 unfoldable pub curveAnswer : Curve → Answer
 curveAnswer c = cond (tooMany c) PointCount (cond (rises (listOf c)) Done PointsNotRising)

@@ -17,13 +17,13 @@ ghost use Rattle.sets.specs.Sets.{
   replaceMaster,
   replaceColour,
   replaceKind,
-  firstOf,
   curveAnswer,
   channelAnswer,
   setAnswer,
   chosen,
 };
 use answers::Answer;
+use answers::first_of;
 use points::Curve;
 use points::Point;
 use tables::CurveInterpolation;
@@ -61,13 +61,6 @@ pub fn check_curve(curve: Curve) -> Answer
     } else {
         Answer::PointsNotRising
     }
-}
-
-// The first refusal of two.
-pub fn first_of(a: Answer, b: Answer) -> Answer
-    ensures { λ r. ⌜ r ≡ firstOf a b ⌝ }
-{
-    if a.is_done() { b } else { a }
 }
 
 impl Channel {

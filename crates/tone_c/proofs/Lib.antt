@@ -1,3 +1,2 @@
 mod Pairs
-mod Copied
 mod Checks

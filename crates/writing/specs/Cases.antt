@@ -10,10 +10,10 @@ use lib.ListN.{drop}
 use borrow.Author.Tests.{lt-ltb, le-ltb, eqb-true}
 use Rattle.answers.specs.declared.Answer.{Answer}
 use Rattle.answers.specs.declared.Answer.the-variants.{Done, OutputTooSmall}
-use Rattle.answers.specs.Numbers.{numberOf, isDone, number-unique}
+use Rattle.answers.specs.Numbers.{numberOf, isDone, firstOf, number-unique}
 use Rattle.single.specs.RuleLaws.{by-test}
 use Rattle.sets.specs.declared.Curves.{Curves}
-use Rattle.sets.specs.Sets.{viewOf, firstOf, setAnswer}
+use Rattle.sets.specs.Sets.{viewOf, setAnswer}
 use Rattle.writing.specs.Encode.{encode, roomAnswer, writeRecord}
 
 pub done-is : (a : Answer) → isDone a ≡ true → a ≡ Done

@@ -10,7 +10,7 @@ use lib.Dec.{ltb, eqb}
 use lib.IntN.{ℤ, pos, negsuc}
 use Rattle.answers.specs.declared.Answer.{Answer}
 use Rattle.answers.specs.declared.Answer.the-variants.{Done, OutputTooSmall}
-use Rattle.answers.specs.Numbers.{isDone}
+use Rattle.answers.specs.Numbers.{isDone, firstOf}
 use Rattle.points.specs.declared.Point.{Point}
 use Rattle.tables.specs.declared.CurveInterpolation.{CurveInterpolation}
 use Rattle.tables.specs.declared.CurveInterpolation.the-variants.{
@@ -27,7 +27,7 @@ use Rattle.tables.specs.declared.CurveInterpolation.the-variants.{
 }
 use Rattle.tables.specs.Kinds.{kindNumber}
 use Rattle.sets.specs.declared.Curves.{Curves}
-use Rattle.sets.specs.Sets.{View, viewOf, default, firstOf, setAnswer}
+use Rattle.sets.specs.Sets.{View, viewOf, default, setAnswer}
 use Rattle.records.specs.Format.{kindBits}
 
 -- ---- the lists

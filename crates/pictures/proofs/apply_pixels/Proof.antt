@@ -6,7 +6,8 @@ use borrow.Author.Needs.{needs}
 use borrow.Author.Tests.{eq-eqb, ne-eqb, not-true, not-false}
 use Rattle.answers.specs.Numbers.{isDone}
 use Rattle.pictures.specs.Runs.{Run, given, hasChroma, answer}
-use Rattle.pictures.specs.RunLaws.{done, Accepted, accepted-run}
+use Rattle.formats.specs.CheckLaws.{done}
+use Rattle.pictures.specs.RunLaws.{Accepted, accepted-run}
 use Rattle.pictures.proofs.Ends as Ends
 use Rattle.pictures.proofs.apply_pixels.Statement.{statement}
 use Rattle.pictures.proofs.apply_pixels.Tie as tie

@@ -2,8 +2,8 @@
 use mathlib.Core.Path.{sym, _∙_}
 use lib.ListN.{length}
 use borrow.Author.Needs.{needs}
-use Rattle.pictures.specs.RunLaws.{GoodPlane, done, lut-done}
-use Rattle.pictures.proofs.Kernels.{in-place}
+use Rattle.formats.specs.CheckLaws.{GoodPlane, done, lut-done}
+use Rattle.formats.specs.FormatLaws.{in-place}
 use Rattle.pictures.proofs.apply_tone_lut.Statement.{statement}
 use Rattle.pictures.proofs.apply_tone_lut.Tie as tie
 

@@ -2,7 +2,8 @@
 use borrow.Author.Needs.{needs}
 use Rattle.sets.specs.Sets.{viewOf}
 use Rattle.sets.specs.Legal.{Passed, passed-set, passed-count}
-use Rattle.pictures.proofs.Kernels.{tight, used-count, chosen-is, tight-rows-by}
+use Rattle.formats.specs.FormatLaws.{tight}
+use Rattle.pictures.proofs.Kernels.{used-count, chosen-is, tight-rows-by}
 use Rattle.pictures.proofs.tone_first.Statement.{statement}
 use Rattle.pictures.proofs.tone_first.Tie as tie
 

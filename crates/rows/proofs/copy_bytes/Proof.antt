@@ -4,13 +4,13 @@ use borrow.Author.Needs.{needs}
 use mathlib.Core.Path.{refl}
 use Prim.Native.Nat.{_≤_, _-_}
 use lib.ListN.{length}
-use Rattle.lists.specs.Stored.{Stored, stored-none, stored-next, stored-front}
-use Rattle.rows.specs.Rows.{byteAt}
+use Rattle.lists.specs.Stored.{Stored, stored-none, stored-next}
+use Rattle.lists.specs.Copied.{elementOf, stored-copy}
 use Rattle.rows.proofs.copy_bytes.Statement.{statement}
 use Rattle.rows.proofs.copy_bytes.Tie as tie
 
 abbrev Inv-loop : tie.InvT-loop
-Inv-loop src dst₀ n i₀ dst i = (i ≤ length src) × Stored (byteAt src) 0 i dst₀ dst
+Inv-loop src dst₀ n i₀ dst i = (i ≤ length src) × Stored (elementOf 0 src) 0 i dst₀ dst
 
 abbrev μ-loop : tie.MeasureT-loop
 μ-loop src dst₀ n i₀ dst i = length src - i
@@ -31,14 +31,14 @@ loop-less : tie.Need-loop-less Inv-loop μ-loop
 loop-less c = search needs
 
 loop-again : tie.Need-loop-again Inv-loop μ-loop
-unfolding byteAt
+unfolding elementOf
 loop-again c = (search needs, stored-next (c .before .before .loop .inv .1) refl)
 
 same-length : tie.Need-same-length Inv-loop μ-loop
 same-length c = search needs
 
 returns : tie.Need-returns Inv-loop μ-loop
-returns c = stored-front (c .before .loop .inv .1) (omega arith) (omega arith)
+returns c = stored-copy 0 _ (c .before .loop .inv .1) (omega arith) (omega arith)
 
 pub copy-bytes-spec : {M : Type 1} → statement M
 copy-bytes-spec =

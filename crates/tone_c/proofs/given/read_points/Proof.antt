@@ -6,7 +6,7 @@ use lib.Seq.{take-append-seam}
 use Rattle.lists.specs.Stored.{Stored, stored-none, stored-next}
 use Rattle.points.specs.Points.{pt}
 use Rattle.tone_c.specs.Boundary.{pairsOf}
-use Rattle.tone_c.proofs.Copied.{elementOf, stored-copy}
+use Rattle.lists.specs.Copied.{elementOf, stored-copy}
 use Rattle.tone_c.proofs.given.read_points.Statement.{statement}
 use Rattle.tone_c.proofs.given.read_points.Tie as tie
 

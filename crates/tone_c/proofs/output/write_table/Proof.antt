@@ -5,7 +5,7 @@ use native.Mathlib.Omega.{arith}
 use borrow.Author.Needs.{needs}
 use lib.ListN.{length}
 use Rattle.lists.specs.Stored.{Stored, stored-none, stored-next}
-use Rattle.tone_c.proofs.Copied.{elementOf, stored-copy}
+use Rattle.lists.specs.Copied.{elementOf, stored-copy}
 use Rattle.tone_c.proofs.output.write_table.Statement.{statement}
 use Rattle.tone_c.proofs.output.write_table.Tie as tie
 

@@ -2,11 +2,11 @@
 ghost use mathlib.Core.Path.{_≡_};
 ghost use Prim.Native.Nat.{_≤_};
 ghost use Rattle.rows.specs.Rows.{needed};
-ghost use Rattle.pictures.specs.Checks.{tooLarge, wrongStep, planeAnswer, lutAnswer, tooSmall, outputAnswer, pictureAnswer};
+ghost use Rattle.formats.specs.Checks.{tooLarge, wrongStep, planeAnswer, lutAnswer, tooSmall, outputAnswer, pictureAnswer};
 use crate::Lengths;
 use crate::PixelFormat;
 use answers::Answer;
-use sets::first_of;
+use answers::first_of;
 
 const LARGEST_SIDE: usize = 4096;
 

@@ -1,7 +1,7 @@
 -- `checks::output_answer`: 13.
 use borrow.Author.Needs.{needs}
-use Rattle.pictures.proofs.checks.output_answer.Statement.{statement}
-use Rattle.pictures.proofs.checks.output_answer.Tie as tie
+use Rattle.formats.proofs.checks.output_answer.Statement.{statement}
+use Rattle.formats.proofs.checks.output_answer.Tie as tie
 
 returns : tie.Need-returns
 returns c = rw (← c .before .too-small .ensures, c .if1 .taken)

@@ -1,7 +1,7 @@
 -- `checks::too_small`: its tests are the definition's.
 use borrow.Author.Needs.{needs}
-use Rattle.pictures.proofs.checks.too_small.Statement.{statement}
-use Rattle.pictures.proofs.checks.too_small.Tie as tie
+use Rattle.formats.proofs.checks.too_small.Statement.{statement}
+use Rattle.formats.proofs.checks.too_small.Tie as tie
 
 returns : tie.Need-returns
 returns c = rw (c .planes-read .ensures)

@@ -5,8 +5,8 @@ use borrow.Author.Needs.{needs}
 use borrow.Author.Tests.{eq-eqb, ne-eqb}
 use Rattle.rows.specs.Places.{mul-bound}
 use Rattle.rows.specs.Rows.{needed}
-use Rattle.pictures.proofs.checks.needed_bytes.Statement.{statement}
-use Rattle.pictures.proofs.checks.needed_bytes.Tie as tie
+use Rattle.formats.proofs.checks.needed_bytes.Statement.{statement}
+use Rattle.formats.proofs.checks.needed_bytes.Tie as tie
 
 returns : tie.Need-returns
 unfolding needed

@@ -5,11 +5,11 @@ use native.Mathlib.Omega.{arith}
 use borrow.Author.Needs.{needs}
 use borrow.Author.Tests.{lt-ltb, le-ltb, eq-eqb, ne-eqb}
 use Rattle.rows.specs.Places.{mul-bound}
-use Rattle.pictures.specs.Checks.{pictureAnswer}
-use Rattle.pictures.specs.RunLaws.{sides}
-use Rattle.pictures.proofs.Kernels.{row-small}
-use Rattle.pictures.proofs.checks.picture_answer.Statement.{statement}
-use Rattle.pictures.proofs.checks.picture_answer.Tie as tie
+use Rattle.formats.specs.Checks.{pictureAnswer}
+use Rattle.formats.specs.CheckLaws.{sides}
+use Rattle.formats.specs.FormatLaws.{row-small}
+use Rattle.formats.proofs.checks.picture_answer.Statement.{statement}
+use Rattle.formats.proofs.checks.picture_answer.Tie as tie
 
 returns : tie.Need-returns
 unfolding pictureAnswer

@@ -2,10 +2,10 @@
 use mathlib.Core.Path.{sym, _∙_}
 use borrow.Author.Needs.{needs}
 use borrow.Author.Tests.{lt-ltb, le-ltb}
-use Rattle.pictures.specs.Checks.{planeAnswer}
-use Rattle.pictures.specs.RunLaws.{steps}
-use Rattle.pictures.proofs.checks.plane_answer.Statement.{statement}
-use Rattle.pictures.proofs.checks.plane_answer.Tie as tie
+use Rattle.formats.specs.Checks.{planeAnswer}
+use Rattle.formats.specs.CheckLaws.{steps}
+use Rattle.formats.proofs.checks.plane_answer.Statement.{statement}
+use Rattle.formats.proofs.checks.plane_answer.Tie as tie
 
 returns : tie.Need-returns
 unfolding planeAnswer

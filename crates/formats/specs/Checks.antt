@@ -5,11 +5,11 @@ use mathlib.Core.Bool.{Bool, cond, _&&_, _||_}
 use lib.Dec.{ltb, eqb}
 use Rattle.answers.specs.declared.Answer.{Answer}
 use Rattle.answers.specs.declared.Answer.the-variants.{Done, UnsupportedFormat, PictureTooLarge, MissingPlane, RowStep, PlaneTooShort, OutputTooSmall}
-use Rattle.sets.specs.Sets.{firstOf}
+use Rattle.answers.specs.Numbers.{firstOf}
 use Rattle.rows.specs.Rows.{needed}
-use Rattle.pictures.specs.declared.PixelFormat.{PixelFormat}
-use Rattle.pictures.specs.declared.Lengths.{Lengths}
-use Rattle.pictures.specs.Formats.{bytesAPixel, planesRead}
+use Rattle.formats.specs.declared.PixelFormat.{PixelFormat}
+use Rattle.formats.specs.declared.Lengths.{Lengths}
+use Rattle.formats.specs.Formats.{bytesAPixel, planesRead}
 
 -- "Width or height is above 4,096"
 abbrev pub tooLarge : ℕ → ℕ → Bool

@@ -1,7 +1,7 @@
 -- `first_of`: the second answer counts only where the first is done.
 use borrow.Author.Needs.{needs}
-use Rattle.sets.proofs.first_of.Statement.{statement}
-use Rattle.sets.proofs.first_of.Tie as tie
+use Rattle.answers.proofs.first_of.Statement.{statement}
+use Rattle.answers.proofs.first_of.Tie as tie
 
 returns : tie.Need-returns
 returns c = rw (← c .before .is-done .ensures, c .if1 .taken)

@@ -1,8 +1,8 @@
 -- The twelve formats: bytes a pixel, the channel that no table tones, the planes that the set call reads. Definitions only.
 use Prim.Native.Nat.{ℕ}
 use mathlib.Core.Bool.{Bool, true, false}
-use Rattle.pictures.specs.declared.PixelFormat.{PixelFormat}
-use Rattle.pictures.specs.declared.PixelFormat.the-variants.{
+use Rattle.formats.specs.declared.PixelFormat.{PixelFormat}
+use Rattle.formats.specs.declared.PixelFormat.the-variants.{
   Gray8,
   Ya8,
   Rgb24,

@@ -3,11 +3,11 @@ use mathlib.Core.Path.{sym, _∙_}
 use Prim.Native.Nat.{_≤_}
 use native.Mathlib.Omega.{arith}
 use borrow.Author.Needs.{needs}
-use Rattle.pictures.specs.Checks.{lutAnswer}
-use Rattle.pictures.specs.RunLaws.{sides}
-use Rattle.pictures.proofs.Kernels.{row-small}
-use Rattle.pictures.proofs.checks.lut_answer.Statement.{statement}
-use Rattle.pictures.proofs.checks.lut_answer.Tie as tie
+use Rattle.formats.specs.Checks.{lutAnswer}
+use Rattle.formats.specs.CheckLaws.{sides}
+use Rattle.formats.specs.FormatLaws.{row-small}
+use Rattle.formats.proofs.checks.lut_answer.Statement.{statement}
+use Rattle.formats.proofs.checks.lut_answer.Tie as tie
 
 returns : tie.Need-returns
 unfolding lutAnswer

@@ -1,0 +1,4 @@
+pub mod Formats
+pub mod Checks
+pub mod CheckLaws
+pub mod FormatLaws

@@ -1,0 +1,112 @@
+// The twelve formats, and the checks of the picture calls.
+ghost use mathlib.Core.Path.{_≡_};
+ghost use Rattle.formats.specs.Formats.{bytesAPixel, keptOf, planesRead, byColour};
+
+pub mod checks;
+
+pub enum PixelFormat {
+    Gray8,
+    Ya8,
+    Rgb24,
+    Rgba,
+    Cmyk,
+    CmykInverted,
+    Yuv420P,
+    Yuv422P,
+    Yuv444P,
+    YuvJ420P,
+    YuvJ422P,
+    YuvJ444P,
+}
+
+// What the kernels and the checks are told of a format.
+impl PixelFormat {
+    pub fn bytes_a_pixel(self) -> usize
+        ensures { λ r. ⌜ r ≡ bytesAPixel self ⌝ }
+    {
+        match self {
+            PixelFormat::Gray8 => 1,
+            PixelFormat::Ya8 => 2,
+            PixelFormat::Rgb24 => 3,
+            PixelFormat::Rgba => 4,
+            PixelFormat::Cmyk => 4,
+            PixelFormat::CmykInverted => 4,
+            PixelFormat::Yuv420P => 1,
+            PixelFormat::Yuv422P => 1,
+            PixelFormat::Yuv444P => 1,
+            PixelFormat::YuvJ420P => 1,
+            PixelFormat::YuvJ422P => 1,
+            PixelFormat::YuvJ444P => 1,
+        }
+    }
+
+    // The channel that no table tones, alpha; the number of channels where there is none.
+    pub fn kept(self) -> usize
+        ensures { λ r. ⌜ r ≡ keptOf self ⌝ }
+    {
+        match self {
+            PixelFormat::Gray8 => 1,
+            PixelFormat::Ya8 => 1,
+            PixelFormat::Rgb24 => 3,
+            PixelFormat::Rgba => 3,
+            PixelFormat::Cmyk => 4,
+            PixelFormat::CmykInverted => 4,
+            PixelFormat::Yuv420P => 1,
+            PixelFormat::Yuv422P => 1,
+            PixelFormat::Yuv444P => 1,
+            PixelFormat::YuvJ420P => 1,
+            PixelFormat::YuvJ422P => 1,
+            PixelFormat::YuvJ444P => 1,
+        }
+    }
+
+    // How many planes the set call reads; 0 where it refuses the format.
+    pub fn planes_read(self) -> usize
+        ensures { λ r. ⌜ r ≡ planesRead self ⌝ }
+    {
+        match self {
+            PixelFormat::Gray8 => 1,
+            PixelFormat::Ya8 => 0,
+            PixelFormat::Rgb24 => 1,
+            PixelFormat::Rgba => 1,
+            PixelFormat::Cmyk => 0,
+            PixelFormat::CmykInverted => 0,
+            PixelFormat::Yuv420P => 3,
+            PixelFormat::Yuv422P => 3,
+            PixelFormat::Yuv444P => 3,
+            PixelFormat::YuvJ420P => 3,
+            PixelFormat::YuvJ422P => 3,
+            PixelFormat::YuvJ444P => 3,
+        }
+    }
+
+    // Whether the set call tones each colour by its own table.
+    pub fn by_colour(self) -> bool
+        ensures { λ r. ⌜ r ≡ byColour self ⌝ }
+    {
+        match self {
+            PixelFormat::Gray8 => false,
+            PixelFormat::Ya8 => false,
+            PixelFormat::Rgb24 => true,
+            PixelFormat::Rgba => true,
+            PixelFormat::Cmyk => false,
+            PixelFormat::CmykInverted => false,
+            PixelFormat::Yuv420P => false,
+            PixelFormat::Yuv422P => false,
+            PixelFormat::Yuv444P => false,
+            PixelFormat::YuvJ420P => false,
+            PixelFormat::YuvJ422P => false,
+            PixelFormat::YuvJ444P => false,
+        }
+    }
+}
+
+// How many bytes the planes and the outputs of the set call hold.
+pub struct Lengths {
+    pub plane: usize,
+    pub cb: usize,
+    pub cr: usize,
+    pub out: usize,
+    pub out_cb: usize,
+    pub out_cr: usize,
+}
