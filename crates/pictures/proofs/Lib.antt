@@ -1,2 +1,3 @@
 pub mod Kernels
+pub mod Owned
 pub mod Ends

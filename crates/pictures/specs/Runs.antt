@@ -1,19 +1,22 @@
 -- A run of the set call: all that it is given, what it answers and what its outputs hold afterwards, as document 01's sections "Pictures" and
 -- "When a call says no" have them. Definitions only.
-use Prim.Native.Nat.{ℕ, zero, suc, _*_}
+use Prim.Native.Nat.{ℕ, zero, suc, _*_, _<_}
 use mathlib.Core.Path.{_≡_}
 use mathlib.Core.Bool.{Bool, cond, _&&_}
 use mathlib.Core.List.{List, _++_}
-use lib.ListN.{length, drop}
+use mathlib.Core.Option.{Option, none, some}
+use lib.ListN.{length, getD, drop}
 use Rattle.answers.specs.declared.Answer.{Answer}
 use Rattle.answers.specs.Numbers.{isDone, firstOf}
 use Rattle.lists.specs.Tabulate.{filled}
 use Rattle.points.specs.declared.Point.{Point}
+use Rattle.points.specs.Order.{All, Bytes}
 use Rattle.tables.specs.Tables.{byteTable}
 use Rattle.sets.specs.declared.Curves.{Curves}
 use Rattle.sets.specs.declared.Colour.{Colour}
 use Rattle.sets.specs.declared.Colour.the-variants.{Red, Green, Blue}
 use Rattle.sets.specs.Sets.{View, viewOf, colourOf, ownOrMaster, setAnswer}
+use Rattle.sets.specs.Carried.{carriedOf}
 use Rattle.rows.specs.Bytes.{three, rowByte}
 use Rattle.rows.specs.Rows.{tightByte}
 use Rattle.formats.specs.declared.PixelFormat.{PixelFormat}
@@ -56,6 +59,25 @@ given set format w h planes plane step cb cbStep cr crStep out outCb outCr = rec
   outCb = outCb;
   outCr = outCr;
 }
+
+-- ---- the lists of a set
+-- P of the master and of each colour present
+abbrev pub OfColour : (List Point → Type 0) → Option (List Point) → Type 0
+OfColour P none = Unit {0}
+OfColour P (some l) = P l
+
+pub record EveryList (P : List Point → Type 0) (v : View) : Type 0 where
+  pub master : P (v .master)
+  pub red : OfColour P (v .red)
+  pub green : OfColour P (v .green)
+  pub blue : OfColour P (v .blue)
+
+-- ---- what it is lent
+-- bytes: the plane, the points and the tension are `u8` in the code, although ℕ has larger numbers
+pub record Lent (r : Run) : Type 0 where
+  pub plane : (k : ℕ) → k < length (r .plane .bytes) → getD (r .plane .bytes) k 0 < 256
+  pub points : EveryList (All Bytes) (viewOf (r .set))
+  pub tension : carriedOf (r .set .interpolation) .tension < 256
 
 -- ---- what it is answered
 module _ (r : Run) where
@@ -131,7 +153,7 @@ module _ (r : Run) where
 abbrev pub tonedOf : Answer → ℕ → ℕ → ℕ → Toned
 tonedOf a step cb cr = record { answer = a; step = step; «cb_step» = cb; «cr_step» = cr }
 
--- what a call of the set call does: what it hands back, t, and the outputs afterwards
+-- what a call of the set call does: what it hands back, t, and the outputs afterwards; and that it was lent bytes
 pub record SetCall (r : Run) (t : Toned) (out cb cr : List ℕ) : Type 0 where
   pub answer-is : t .answer ≡ answer r
   pub step-is : t .step ≡ cond (accepted r) (rowBytes r) 0
@@ -140,3 +162,4 @@ pub record SetCall (r : Run) (t : Toned) (out cb cr : List ℕ) : Type 0 where
   pub out-is : out ≡ first r
   pub cb-is : cb ≡ chroma r (r .cb) (r .outCb)
   pub cr-is : cr ≡ chroma r (r .cr) (r .outCr)
+  pub lent : Lent r

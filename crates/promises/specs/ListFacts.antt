@@ -29,9 +29,9 @@ use Rattle.sets.specs.Legal.{LegalList, LegalColour, Legal}
 use Rattle.rows.specs.Bytes.{through}
 use Rattle.formats.specs.declared.PixelFormat.{PixelFormat}
 use Rattle.formats.specs.Formats.{byColour}
-use Rattle.pictures.specs.Runs.{listFor, tablesOf, tonedBy}
+use Rattle.pictures.specs.Runs.{OfColour, EveryList, listFor, tablesOf, tonedBy}
 use Rattle.pictures.specs.RunLaws.{tables-of}
-use Rattle.promises.specs.Words.{OfColour, EveryList, IsSpline}
+use Rattle.promises.specs.Words.{IsSpline}
 
 -- what holds of every list
 module _ (P : List Point → Type 0) where

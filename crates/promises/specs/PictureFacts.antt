@@ -142,7 +142,7 @@ module _ (c : Call) (ok : Accepted c) where
       omega (arith, along-row (c .given) p w, mul-room (p .row) (c .given .height) (rowBytes (c .given)) (w .row), out-long, passed-checks .room)
 
   input-byte : (p : Place) → Within (c .given) p → input c p < 256
-  input-byte p w = c .lent .plane (inPlane (c .given) p) (plane-holds p w)
+  input-byte p w = c .contract .lent .plane (inPlane (c .given) p) (plane-holds p w)
 
   -- a toned byte is its entry in the table of the list that tones it; alpha is copied
   toned-entry : (p : Place) → TonedAt (c .given) p → output c p ≡ entryOf (kindIn (c .given)) (listThatTones (c .given) p) (input c p)
@@ -214,7 +214,7 @@ module _ (c : Call) (ok : Accepted c) where
 
   -- ---- the list that tones a byte: of bytes, rising, its own kept list
   list-bytes : (p : Place) → All Bytes (listThatTones (c .given) p)
-  list-bytes p = of-toning-list (All Bytes) (c .given .format) (viewOf (c .given .set)) (c .lent .points) (p .channel)
+  list-bytes p = of-toning-list (All Bytes) (c .given .format) (viewOf (c .given .set)) (c .contract .lent .points) (p .channel)
 
   list-legal : (p : Place) → LegalList (listThatTones (c .given) p)
   list-legal p =
@@ -248,7 +248,7 @@ module _ (c : Call) (ok : Accepted c) where
   through-point other p t q m e =
       let l = listThatTones (c .given) p in
       toned-entry p t ∙ ap (entryOf (kindIn (c .given)) l) e
-      ∙ Table.through-points l (list-bytes p) (kindIn (c .given)) (no-spline (kindIn (c .given)) other (c .lent .tension)) q (rw (list-kept p) m)
+      ∙ Table.through-points l (list-bytes p) (kindIn (c .given)) (no-spline (kindIn (c .given)) other (c .contract .lent .tension)) q (rw (list-kept p) m)
 
 -- ---- two runs
 toned-alike : {f g : PixelFormat} {v w : View} {x y : ℕ} (j : ℕ) → f ≡ g → v ≡ w → x ≡ y

@@ -16,8 +16,8 @@ use Rattle.sets.specs.Carried.{carriedOf}
 use Rattle.sets.specs.SameLaws.{same-refl}
 use Rattle.formats.specs.declared.PixelFormat.{PixelFormat}
 use Rattle.formats.specs.declared.PixelFormat.the-variants.{Gray8}
-use Rattle.pictures.specs.Runs.{Run, PlaneOf, rowBytes, accepted, answer, first, chroma, stepOf}
-use Rattle.promises.specs.Words.{Lent, Call, Accepted, Share, Place, TonedAt, input, output}
+use Rattle.pictures.specs.Runs.{Run, PlaneOf, Lent, rowBytes, accepted, answer, first, chroma, stepOf}
+use Rattle.promises.specs.Words.{Call, Accepted, Share, Place, TonedAt, input, output}
 use Rattle.promises.specs.Demand3.{exact}
 
 -- a list of bytes and a kind
@@ -85,12 +85,20 @@ ran g bytes =
     let r = runOf g in
     record {
       given = r;
-      lent = lent-bytes g bytes;
       answered = record { answer = answer r; step = cond (accepted r) (rowBytes r) 0; «cb_step» = stepOf r (r .cb); «cr_step» = stepOf r (r .cr) };
       out = first r;
       cb = chroma r (r .cb) (r .outCb);
       cr = chroma r (r .cr) (r .outCr);
-      contract = record { answer-is = refl; step-is = refl; cb-step-is = refl; cr-step-is = refl; out-is = refl; cb-is = refl; cr-is = refl };
+      contract = record {
+        answer-is = refl;
+        step-is = refl;
+        cb-step-is = refl;
+        cr-step-is = refl;
+        out-is = refl;
+        cb-is = refl;
+        cr-is = refl;
+        lent = lent-bytes g bytes;
+      };
     }
 
 pub shared : (g h : Strip) (g-bytes : AreBytes (g .plane)) (h-bytes : AreBytes (h .plane)) → g .by ≡ h .by → g .format ≡ h .format

@@ -3,48 +3,27 @@ use Prim.Native.Nat.{ℕ, _+_, _*_, _≤_, _<_}
 use mathlib.Core.Path.{_≡_}
 use mathlib.Core.Bool.{true, false, cond}
 use mathlib.Core.List.{List, []}
-use mathlib.Core.Option.{Option, none, some}
 use lib.ListN.{length, getD, take}
 use Rattle.answers.specs.declared.Answer.the-variants.{Done}
 use Rattle.points.specs.declared.Point.{Point}
 use Rattle.points.specs.Knots.{OnLine}
-use Rattle.points.specs.Order.{All, Bytes, NeverFalls}
+use Rattle.points.specs.Order.{NeverFalls}
 use Rattle.sampling.specs.declared.Form.the-variants.{Spline}
 use Rattle.tables.specs.declared.CurveInterpolation.{CurveInterpolation}
 use Rattle.tables.specs.declared.CurveInterpolation.the-variants.{Linear}
 use Rattle.tables.specs.Kinds.{formOf}
 use Rattle.tables.specs.Tables.{entryOf}
-use Rattle.sets.specs.Sets.{View, viewOf}
+use Rattle.sets.specs.Sets.{viewOf}
 use Rattle.sets.specs.Same.{Same}
-use Rattle.sets.specs.Carried.{carriedOf}
 use Rattle.rows.specs.Rows.{inRow}
 use Rattle.pictures.specs.declared.Toned.{Toned}
 use Rattle.formats.specs.Formats.{bytesAPixel, keptOf}
-use Rattle.pictures.specs.Runs.{Run, rowBytes, size, hasChroma, answer, tonedBy, first, chroma, SetCall}
-
--- ---- the lists of a set
--- P of the master and of each colour present
-abbrev pub OfColour : (List Point → Type 0) → Option (List Point) → Type 0
-OfColour P none = Unit {0}
-OfColour P (some l) = P l
-
-pub record EveryList (P : List Point → Type 0) (v : View) : Type 0 where
-  pub master : P (v .master)
-  pub red : OfColour P (v .red)
-  pub green : OfColour P (v .green)
-  pub blue : OfColour P (v .blue)
+use Rattle.pictures.specs.Runs.{Run, EveryList, rowBytes, size, hasChroma, answer, tonedBy, first, chroma, SetCall}
 
 -- ---- runs
--- what is lent are bytes: the plane, the points and the tension are `u8` in the code, so this holds of every run, although ℕ has larger numbers
-pub record Lent (r : Run) : Type 0 where
-  pub plane : (k : ℕ) → k < length (r .plane .bytes) → getD (r .plane .bytes) k 0 < 256
-  pub points : EveryList (All Bytes) (viewOf (r .set))
-  pub tension : carriedOf (r .set .interpolation) .tension < 256
-
 -- a run of the set call, whole: what it was given, what it answered and the three outputs afterwards, of which its contract holds
 pub record Call : Type 0 where
   pub given : Run
-  pub lent : Lent given
   pub answered : Toned
   pub out : List ℕ
   pub cb : List ℕ

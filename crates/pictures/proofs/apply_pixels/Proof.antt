@@ -5,9 +5,10 @@ use native.Mathlib.Omega.{arith}
 use borrow.Author.Needs.{needs}
 use borrow.Author.Tests.{eq-eqb, ne-eqb, not-true, not-false}
 use Rattle.answers.specs.Numbers.{isDone}
-use Rattle.pictures.specs.Runs.{Run, given, hasChroma, answer}
+use Rattle.pictures.specs.Runs.{Run, Lent, given, hasChroma, answer}
 use Rattle.formats.specs.CheckLaws.{done}
 use Rattle.pictures.specs.RunLaws.{Accepted, accepted-run}
+use Rattle.pictures.proofs.Owned.{points-told, tension-told}
 use Rattle.pictures.proofs.Ends as Ends
 use Rattle.pictures.proofs.apply_pixels.Statement.{statement}
 use Rattle.pictures.proofs.apply_pixels.Tie as tie
@@ -23,6 +24,17 @@ answered : (c : tie.After-first-of) → c .first-of .result ≡ answer (run c)
 unfolding answer
 answered c = rw (← c .before .before .check .ensures, ← c .before .picture-answer .ensures) (c .first-of .ensures)
 
+-- what it was lent
+lent : (c : tie.After-first-of) → Lent (run c)
+lent c =
+    let k = c .before .before .before .before .before .before .before .before in
+    let own = k .before .good .0 in
+    record {
+      plane = λ i inside. k .shared-slice-known .given i .fits;
+      points = points-told (run c .set) _ own;
+      tension = tension-told (run c .set) _ own;
+    }
+
 -- past the refusal
 is-done : (c : tie.Else1) → isDone (c .before .before .first-of .result) ≡ true
 is-done c = sym (c .before .is-done .ensures) ∙ not-false _ (c .if1 .left)
@@ -37,7 +49,8 @@ is-yuv c = eq-eqb _ 3 (sym (c .before .planes-read .ensures) ∙ c .if2 .taken)
 returns : tie.Need-returns
 returns c =
     let k = c .before in
-    rw (c .refused .ensures) (Ends.refused _ (answered (k .before .before)) (sym (k .before .is-done .ensures) ∙ not-true _ (k .if1 .taken)))
+    rw (c .refused .ensures)
+    (Ends.refused _ (lent (k .before .before)) (answered (k .before .before)) (sym (k .before .is-done .ensures) ∙ not-true _ (k .if1 .taken)))
 
 tone-first-requires : tie.Need-tone-first-requires
 tone-first-requires c κs =
@@ -64,7 +77,8 @@ returns-2 c =
     let yuv = cb .before .before in
     let row = yuv .before .before in
     let k = row .before .before .before .before .before in
-    Ends.done-chroma _ (answered (k .before .before)) (is-done k) (rw (row .bytes-a-pixel .ensures)) (row .before .before .before .tone-first .ensures)
+    Ends.done-chroma _ (lent (k .before .before)) (answered (k .before .before)) (is-done k) (rw (row .bytes-a-pixel .ensures))
+    (row .before .before .before .tone-first .ensures)
     (is-yuv yuv)
     (cb .copy-bytes .ensures)
     (cr .copy-bytes2 .ensures)
@@ -73,7 +87,8 @@ returns-3 : tie.Need-returns-3
 returns-3 c =
     let row = c .before .before in
     let k = row .before .before .before .before .before in
-    Ends.done _ (answered (k .before .before)) (is-done k) (rw (row .bytes-a-pixel .ensures)) (row .before .before .before .tone-first .ensures)
+    Ends.done _ (lent (k .before .before)) (answered (k .before .before)) (is-done k) (rw (row .bytes-a-pixel .ensures))
+    (row .before .before .before .tone-first .ensures)
     (ne-eqb _ 3 (λ e. c .if2 .left (c .before .planes-read .ensures ∙ e)))
 
 pub apply-pixels-spec : {M : Type 1} → statement M

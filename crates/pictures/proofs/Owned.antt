@@ -1,0 +1,68 @@
+-- What a set that a function is given tells because it is owned: its points and its tension are bytes. A need c of a function of which the set is the
+-- first parameter has `own = c .good .0`.
+use mathlib.Core.List.{List}
+use Prim.Native.Nat.{_<_}
+use lib.Dec.{lit<}
+use mir.Val.{Val}
+use denote.Shadow.{shadow}
+use denote.Struct.Field.{Field}
+use Rattle.single.specs.RuleLaws.{by-test}
+use Rattle.points.specs.declared.Curve.{Curve}
+use Rattle.points.specs.Points.{listOf}
+use Rattle.points.specs.Order.{All, Bytes, all-take}
+use Rattle.points.specs.Owned.{bytes-told}
+use Rattle.points.proofs.Curve as CurveType
+use Rattle.tables.specs.declared.CurveInterpolation.{CurveInterpolation}
+use Rattle.tables.specs.declared.CurveInterpolation.the-variants.{
+  Linear,
+  CatmullRom,
+  MonotoneCubic,
+  MonotoneCubicBox,
+  NaturalCubic,
+  CentripetalCatmullRom,
+  ChordalCatmullRom,
+  Cardinal,
+  ClampedCubic,
+  NotAKnotCubic,
+}
+use Rattle.tables.proofs.CurveInterpolation as KindType
+use Rattle.sets.specs.declared.Channel.{Channel}
+use Rattle.sets.specs.declared.Curves.{Curves}
+use Rattle.sets.specs.Sets.{viewOf, channelOf}
+use Rattle.sets.specs.Carried.{carriedOf}
+use Rattle.sets.proofs.Channel as ChannelType
+use Rattle.sets.proofs.Curves as SetType
+use Rattle.pictures.specs.Runs.{OfColour, EveryList}
+
+-- x is owned, as the values vs
+abbrev IsOwned : (F : Field) → F .Value → List Val → Type 0
+IsOwned F x vs = shadow (F .row .own (F .into x) vs)
+
+list-told : (c : Curve) (vs : List Val) → IsOwned CurveType.the-field c vs → All Bytes (listOf c)
+list-told c vs own = search (own, all-take, bytes-told)
+
+colour-told : (c : Channel) (vs : List Val) → IsOwned ChannelType.the-field c vs → OfColour (All Bytes) (channelOf c)
+colour-told c vs own = by-test (c .present) (λ t. rw t (list-told (c .curve) _ (own .1 .1 .1 .0))) (λ t. rw t tt)
+
+pub points-told : (s : Curves) (vs : List Val) → IsOwned SetType.the-field s vs → EveryList (All Bytes) (viewOf s)
+points-told s vs own = record {
+  master = list-told (s .master) _ (own .1 .1 .0);
+  red = colour-told (s .red) _ (own .1 .1 .1 .0);
+  green = colour-told (s .green) _ (own .1 .1 .1 .1 .0);
+  blue = colour-told (s .blue) _ (own .1 .1 .1 .1 .1 .0);
+}
+
+kind-told : (k : CurveInterpolation) (vs : List Val) → IsOwned KindType.the-field k vs → carriedOf k .tension < 256
+kind-told Linear vs own = lit< tt
+kind-told CatmullRom vs own = lit< tt
+kind-told MonotoneCubic vs own = lit< tt
+kind-told MonotoneCubicBox vs own = lit< tt
+kind-told NaturalCubic vs own = lit< tt
+kind-told CentripetalCatmullRom vs own = lit< tt
+kind-told ChordalCatmullRom vs own = lit< tt
+kind-told (Cardinal q) vs own = own .1 .1 .1 .1 .0 .1
+kind-told (ClampedCubic start end) vs own = lit< tt
+kind-told NotAKnotCubic vs own = lit< tt
+
+pub tension-told : (s : Curves) (vs : List Val) → IsOwned SetType.the-field s vs → carriedOf (s .interpolation) .tension < 256
+tension-told s vs own = kind-told (s .interpolation) _ (own .1 .1 .1 .1 .1 .1 .0)
