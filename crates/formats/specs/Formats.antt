@@ -1,6 +1,8 @@
 -- The twelve formats: bytes a pixel, the channel that no table tones, the planes that the set call reads. Definitions only.
 use Prim.Native.Nat.{ℕ}
 use mathlib.Core.Bool.{Bool, true, false}
+use mathlib.Core.List.{List, [], _∷_}
+use lib.ListN.{getD}
 use Rattle.formats.specs.declared.PixelFormat.{PixelFormat}
 use Rattle.formats.specs.declared.PixelFormat.the-variants.{
   Gray8,
@@ -16,6 +18,14 @@ use Rattle.formats.specs.declared.PixelFormat.the-variants.{
   YuvJ422P,
   YuvJ444P,
 }
+
+-- the formats in the order of their numbers at the C boundary, from 0 to 11
+abbrev pub inOrder : List PixelFormat
+inOrder = Gray8 ∷ Ya8 ∷ Rgb24 ∷ Rgba ∷ Cmyk ∷ CmykInverted ∷ Yuv420P ∷ Yuv422P ∷ Yuv444P ∷ YuvJ420P ∷ YuvJ422P ∷ YuvJ444P ∷ []
+
+-- a greater number is none: it is refused before anything is asked of its format
+unfoldable pub formatOf : ℕ → PixelFormat
+formatOf n = getD inOrder n Gray8
 
 -- "width times 1 (Gray8, luma), 2 (Ya8), 3 (Rgb24), 4 (Rgba, Cmyk, CmykInverted)"
 abbrev pub bytesAPixel : PixelFormat → ℕ

@@ -1,6 +1,6 @@
 // The twelve formats, and the checks of the picture calls.
 ghost use mathlib.Core.Path.{_≡_};
-ghost use Rattle.formats.specs.Formats.{bytesAPixel, keptOf, planesRead, byColour};
+ghost use Rattle.formats.specs.Formats.{formatOf, bytesAPixel, keptOf, planesRead, byColour};
 
 pub mod checks;
 
@@ -17,6 +17,31 @@ pub enum PixelFormat {
     YuvJ420P,
     YuvJ422P,
     YuvJ444P,
+}
+
+// The format of a number, 0 to 11. A greater one is none: whoever asks has refused it.
+pub fn format_of(n: u8) -> PixelFormat
+    ensures { λ r. ⌜ r ≡ formatOf n ⌝ }
+{
+    let in_order = [
+        PixelFormat::Gray8,
+        PixelFormat::Ya8,
+        PixelFormat::Rgb24,
+        PixelFormat::Rgba,
+        PixelFormat::Cmyk,
+        PixelFormat::CmykInverted,
+        PixelFormat::Yuv420P,
+        PixelFormat::Yuv422P,
+        PixelFormat::Yuv444P,
+        PixelFormat::YuvJ420P,
+        PixelFormat::YuvJ422P,
+        PixelFormat::YuvJ444P,
+    ];
+    if n < 12 {
+        in_order[n as usize]
+    } else {
+        PixelFormat::Gray8
+    }
 }
 
 // What the kernels and the checks are told of a format.

@@ -1,28 +1,56 @@
--- The definitions where a slip would show: a last odd byte, the order of the refusals, the greatest count of points, and arguments that a kind does not read.
+-- The definitions where a slip would show: a last odd byte, the numbers of the formats, the order of each call's refusals, the greatest count of
+-- points, and arguments that a kind does not read.
 use mathlib.Core.Path.{_≡_, refl}
-use mathlib.Core.List.{[], _∷_}
+use mathlib.Core.List.{List, [], _∷_}
 use Prim.Native.Nat.{ℕ, zero, suc}
 use lib.IntN.{ℤ}
 use lib.ListN.{replicate}
-use Rattle.answers.specs.declared.Answer.the-variants.{Done, PointCount, UnknownKind, OutputTooSmall, TableLength}
+use Rattle.answers.specs.declared.Answer.{Answer}
+use Rattle.answers.specs.declared.Answer.the-variants.{
+  Done,
+  PointCount,
+  UnknownKind,
+  TrailingBytes,
+  UnsupportedFormat,
+  PictureTooLarge,
+  MissingPlane,
+  RowStep,
+  PlaneTooShort,
+  OutputTooSmall,
+  TableLength,
+}
 use Rattle.points.specs.Points.{pt}
 use Rattle.tables.specs.Kinds.{kindOf}
-use Rattle.tone_c.specs.Boundary.{pairsOf, byteAnswer, fineAnswer}
+use Rattle.rows.specs.Rows.{needed}
+use Rattle.formats.specs.declared.PixelFormat.the-variants.{Gray8, Rgba, Yuv420P, YuvJ444P}
+use Rattle.formats.specs.Formats.{formatOf}
+use Rattle.formats.specs.Checks.{planeAnswer, lutAnswer, pictureAnswer}
+use Rattle.records.specs.Format.{pairs, readRecord, readFields, readKind, readNumber, readCarried}
+use Rattle.writing.specs.Encode.{bitsUnder, encode}
+use Rattle.tone_c.specs.Boundary.{
+  pairsOf,
+  toneTableAnswer,
+  toneFineTableAnswer,
+  tonePlaneAnswer,
+  tonePictureAnswer,
+  lengthsOf,
+  toneRecordTableAnswer,
+  toneRecordCopyAnswer,
+}
 
+-- ---- a curve that is given
 pub odd-byte : pairsOf (10 ∷ 5 ∷ 0 ∷ 0 ∷ 77 ∷ []) ≡ pt 10 5 ∷ pt 0 0 ∷ []
-unfolding pairsOf
+unfolding pairs
 odd-byte = refl
 
 -- 65 pairs, then kind 10, then an output one byte too short; 64 pairs and an odd byte pass
-pub order : (byteAnswer (replicate 130 7) 10 255 ≡ PointCount) × (byteAnswer (replicate 129 7) 10 255 ≡ UnknownKind)
-    × (byteAnswer (replicate 129 7) 9 255 ≡ OutputTooSmall) × (byteAnswer (replicate 129 7) 9 256 ≡ Done)
-unfolding pairsOf
-order = (refl, refl, refl, refl)
+pub table-order : (toneTableAnswer (replicate 130 7) 10 255 ≡ PointCount) × (toneTableAnswer (replicate 129 7) 10 255 ≡ UnknownKind)
+    × (toneTableAnswer (replicate 129 7) 9 255 ≡ OutputTooSmall) × (toneTableAnswer (replicate 129 7) 9 256 ≡ Done)
+table-order = (refl, refl, refl, refl)
 
-pub fine-order : (fineAnswer (replicate 130 7) 10 257 ≡ PointCount) × (fineAnswer (replicate 129 7) 10 257 ≡ UnknownKind)
-    × (fineAnswer (replicate 129 7) 9 257 ≡ TableLength) × (fineAnswer (replicate 129 7) 9 4096 ≡ Done)
-unfolding pairsOf
-fine-order = (refl, refl, refl, refl)
+pub fine-table-order : (toneFineTableAnswer (replicate 130 7) 10 257 ≡ PointCount) × (toneFineTableAnswer (replicate 129 7) 10 257 ≡ UnknownKind)
+    × (toneFineTableAnswer (replicate 129 7) 9 257 ≡ TableLength) × (toneFineTableAnswer (replicate 129 7) 9 4096 ≡ Done)
+fine-table-order = (refl, refl, refl, refl)
 
 -- the tension matters to kind 7 only, the slopes to kind 8 only
 pub unread : (k q r : ℕ) (s t e f : ℤ) → (k ≡ 7 → q ≡ r) → (k ≡ 8 → (s ≡ t) × (e ≡ f)) → kindOf k q s e ≡ kindOf k r t f
@@ -36,3 +64,46 @@ unread (suc (suc (suc (suc (suc (suc zero)))))) q r s t e f tension slopes = ref
 unread (suc (suc (suc (suc (suc (suc (suc zero))))))) q r s t e f tension slopes = rw (tension refl)
 unread (suc (suc (suc (suc (suc (suc (suc (suc zero)))))))) q r s t e f tension slopes = rw (slopes refl .0, slopes refl .1)
 unread (suc (suc (suc (suc (suc (suc (suc (suc (suc n))))))))) q r s t e f tension slopes = refl
+
+-- ---- pictures
+pub formats : (formatOf 0 ≡ Gray8) × (formatOf 3 ≡ Rgba) × (formatOf 6 ≡ Yuv420P) × (formatOf 11 ≡ YuvJ444P)
+unfolding formatOf
+formats = (refl, refl, refl, refl)
+
+-- an unknown format, then a side of 4,097; the last format passes
+pub plane-order : (tonePlaneAnswer 12 4097 1 0 0 ≡ UnsupportedFormat) × (tonePlaneAnswer 11 4097 1 0 0 ≡ PictureTooLarge)
+    × (tonePlaneAnswer 11 4 1 3 0 ≡ RowStep) × (tonePlaneAnswer 11 4 1 4 3 ≡ PlaneTooShort) × (tonePlaneAnswer 11 4 1 4 4 ≡ Done)
+unfolding formatOf lutAnswer planeAnswer needed
+plane-order = (refl, refl, refl, refl, refl)
+
+-- the record of an empty set of kind 0, and with a byte more
+abbrev empty : List ℕ
+empty = 0x10 ∷ 0 ∷ []
+
+abbrev longer : List ℕ
+longer = 0x10 ∷ 0 ∷ 0 ∷ []
+
+-- of planes of 4 bytes, chroma of 1 byte, and a last output of so many bytes
+abbrev pictureAnswered : List ℕ → ℕ → ℕ → ℕ → ℕ → ℕ → Answer
+pictureAnswered stored format w planes step room =
+    tonePictureAnswer stored format w 1 planes step (lengthsOf (replicate 4 5) (1 ∷ []) (2 ∷ []) (replicate 4 0) (0 ∷ []) (replicate room 0))
+
+-- the record's 7 before all others; an unknown format, or one that the set call does not take, before a width of 4,097; the output last
+pub picture-order : (pictureAnswered longer 12 4097 0 0 0 ≡ TrailingBytes) × (pictureAnswered empty 12 4097 0 0 0 ≡ UnsupportedFormat)
+    × (pictureAnswered empty 1 4097 0 0 0 ≡ UnsupportedFormat) × (pictureAnswered empty 6 4097 2 0 0 ≡ PictureTooLarge)
+    × (pictureAnswered empty 6 4 2 3 0 ≡ MissingPlane) × (pictureAnswered empty 6 4 3 3 0 ≡ RowStep)
+    × (pictureAnswered empty 6 4 3 4 0 ≡ OutputTooSmall) × (pictureAnswered empty 6 4 3 4 1 ≡ Done)
+unfolding readRecord readFields readKind readNumber readCarried formatOf pictureAnswer planeAnswer needed
+picture-order = (refl, refl, refl, refl, refl, refl, refl, refl)
+
+-- ---- records
+pub record-table-order : (toneRecordTableAnswer longer 255 ≡ TrailingBytes) × (toneRecordTableAnswer empty 255 ≡ OutputTooSmall)
+    × (toneRecordTableAnswer empty 256 ≡ Done)
+unfolding readRecord readFields readKind readNumber readCarried
+record-table-order = (refl, refl, refl)
+
+-- the default kind, where a record names it, is left out of the copy: 1 byte for 2
+pub record-copy-order : (toneRecordCopyAnswer longer 0 ≡ TrailingBytes) × (toneRecordCopyAnswer empty 1 ≡ OutputTooSmall)
+    × (toneRecordCopyAnswer empty 2 ≡ Done) × (toneRecordCopyAnswer (0x10 ∷ 2 ∷ []) 1 ≡ Done)
+unfolding readRecord readFields readKind readNumber readCarried encode bitsUnder
+record-copy-order = (refl, refl, refl, refl)

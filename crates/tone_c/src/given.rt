@@ -1,27 +1,17 @@
-// A curve as a caller gives it: points as bytes, x, y pairs in any order, and the number of a kind.
+// What a caller gives as bytes and numbers: points, a kind, a format, an output. Each check answers for itself; the calls put them in their order.
 ghost use mathlib.Core.Path.{_≡_};
-ghost use Prim.Native.Nat.{_<_, _≤_};
-ghost use lib.ListN.{length};
-ghost use Rattle.answers.specs.declared.Answer.the-variants.{Done};
-ghost use Rattle.points.specs.Points.{listOf, nth};
-ghost use Rattle.tone_c.specs.Boundary.{pairsOf, givenAnswer};
+ghost use Prim.Native.Nat.{_≤_};
+ghost use Rattle.points.specs.Points.{listOf};
+ghost use Rattle.tone_c.specs.Boundary.{countOf, pairsOf, givenAnswer, formatAnswer, roomFor};
 use answers::Answer;
 use points::Curve;
-use points::Point;
-
-// How many pairs: a last odd byte is none.
-fn pair_count(points: &[u8]) -> usize
-    ensures { λ r. ⌜ r ≡ length (pairsOf (now (points .entry))) ⌝ }
-{
-    points.len() / 2
-}
+use records::read_points;
 
 // 3, then 5.
 pub fn check(points: &[u8], kind: u8) -> Answer
-    ensures { λ r. ⌜ r ≡ givenAnswer (now (points .entry)) kind Done ⌝ }
+    ensures { λ r. ⌜ r ≡ givenAnswer (now (points .entry)) kind ⌝ }
 {
-    let count = pair_count(points);
-    if Curve::LIMIT < count {
+    if Curve::LIMIT < points.len() / 2 {
         return Answer::PointCount;
     }
     if 9 < kind {
@@ -30,31 +20,32 @@ pub fn check(points: &[u8], kind: u8) -> Answer
     Answer::Done
 }
 
-// Point i.
-fn read_point(points: &[u8], i: usize) -> Point
-    requires { ⌜ i < length (pairsOf (now points)) ⌝ }
-    ensures { λ r. ⌜ r ≡ nth (pairsOf (now (points .entry))) i ⌝ }
+// The points as a list: x, y pairs; a last odd byte is none.
+pub fn curve_of(points: &[u8]) -> Curve
+    requires { ⌜ countOf (now points) ≤ 64 ⌝ }
+    ensures { λ r. ⌜ (listOf r ≡ pairsOf (now (points .entry))) × (r .count ≤ 64) ⌝ }
 {
-    Point {
-        x: points[2 * i],
-        y: points[2 * i + 1],
+    read_points(points, 0, points.len() / 2)
+}
+
+// 8, of a number that is no format.
+pub fn format_answer(n: u8) -> Answer
+    ensures { λ r. ⌜ r ≡ formatAnswer n ⌝ }
+{
+    if 11 < n {
+        Answer::UnsupportedFormat
+    } else {
+        Answer::Done
     }
 }
 
-// The points as a list.
-pub fn read_points(points: &[u8]) -> Curve
-    requires { ⌜ length (pairsOf (now points)) ≤ 64 ⌝ }
-    ensures { λ r. ⌜ (listOf r ≡ pairsOf (now (points .entry))) × (r .count ≤ 64) ⌝ }
+// 13, of an output of so many bytes that is to take count.
+pub fn room_for(count: usize, held: usize) -> Answer
+    ensures { λ r. ⌜ r ≡ roomFor count held ⌝ }
 {
-    let count = pair_count(points);
-    let mut list = [Point { x: 0, y: 0 }; 64];
-    let mut i: usize = 0;
-    while i < count {
-        list[i] = read_point(points, i);
-        i += 1;
-    }
-    Curve {
-        points: list,
-        count,
+    if held < count {
+        Answer::OutputTooSmall
+    } else {
+        Answer::Done
     }
 }

@@ -1,11 +1,18 @@
 // The tone calls for a C or Rust caller. Each answers one byte: 0 when it did its work, else the first refusal's number; then no lent byte has changed.
 // A slice crosses as a pointer and a length.
-ghost use Rattle.tone_c.specs.Boundary.{ToneTable, ToneFineTable, ToneLookup};
-use answers::Answer;
+ghost use Rattle.tone_c.specs.Boundary.{ToneTable, ToneFineTable, ToneLookup, TonePlane, TonePicture, ToneRecordTable, ToneRecordCopy};
+use answers::first_of;
+use formats::format_of;
+use pictures::apply_pixels;
+use pictures::apply_tone_lut;
+use records::read_record;
+use rows::copy_bytes;
+use tables::build_table;
+use tables::byte_table;
 use tables::kind_of;
+use writing::write_record;
 
 mod given;
-mod output;
 
 // Writes the byte table of the curve through the points, x, y pairs in any order, to the front of table. A last odd byte of points is ignored.
 // The tension is read for kind 7 only, the slopes for kind 8 only.
@@ -20,17 +27,17 @@ pub extern "C" fn tone_table(
 ) -> u8
     ensures { λ r. ⌜ ToneTable (now (points .entry)) kind «tension» «start_slope» «end_slope» (now (table .entry)) r (now (table .exit)) ⌝ }
 {
-    let answer = given::check(points, kind);
+    let answer = first_of(
+        given::check(points, kind),
+        given::room_for(256, table.len()),
+    );
     if !answer.is_done() {
         return answer.number();
     }
-    if table.len() < 256 {
-        return Answer::OutputTooSmall.number();
-    }
-    let curve = given::read_points(points);
-    let bytes = tables::byte_table(curve, kind_of(kind, tension, start_slope, end_slope));
-    output::write_table(bytes, table);
-    Answer::Done.number()
+    let curve = given::curve_of(points);
+    let bytes = byte_table(curve, kind_of(kind, tension, start_slope, end_slope));
+    copy_bytes(&bytes, table);
+    answer.number()
 }
 
 // Fills table, 256 or 4,096 floats, with the samples of that curve.
@@ -49,8 +56,8 @@ pub extern "C" fn tone_fine_table(
     if !answer.is_done() {
         return answer.number();
     }
-    let curve = given::read_points(points);
-    let built = tables::build_table(curve, kind_of(kind, tension, start_slope, end_slope), table);
+    let curve = given::curve_of(points);
+    let built = build_table(curve, kind_of(kind, tension, start_slope, end_slope), table);
     built.number()
 }
 
@@ -59,6 +66,112 @@ pub extern "C" fn tone_fine_table(
 pub extern "C" fn tone_lookup(table: &[f32], values: &mut [f32]) -> u8
     ensures { λ r. ⌜ ToneLookup (now (table .entry)) (now (values .entry)) r (now (values .exit)) ⌝ }
 {
-    let answer = lookup::lookup(table, values);
+    let replaced = lookup::lookup(table, values);
+    replaced.number()
+}
+
+// Tones a plane of any of the twelve formats in place by one table. Alpha, chroma and padding stay as they are.
+#[no_mangle]
+pub extern "C" fn tone_plane(
+    table: &[u8; 256],
+    format: u8,
+    width: u32,
+    height: u32,
+    plane: &mut [u8],
+    step: usize,
+) -> u8
+    ensures { λ r. ⌜ TonePlane (now (table .entry)) format width height step (now (plane .entry)) r (now (plane .exit)) ⌝ }
+{
+    let known = given::format_answer(format);
+    if !known.is_done() {
+        return known.number();
+    }
+    let pixel_format = format_of(format);
+    let toned = apply_tone_lut(plane, step, *table, pixel_format, width, height);
+    toned.number()
+}
+
+// Tones a picture by the set that a record holds into tight rows at the front of out_y; for YUV the chroma planes u and v are copied.
+// y is the luma or colour plane. The chroma planes of other formats are not read, and their outputs stay.
+#[no_mangle]
+pub extern "C" fn tone_picture<'a, 'x, 'y, 'z>(
+    record: &[u8],
+    format: u8,
+    width: u32,
+    height: u32,
+    planes: usize,
+    y: &'a [u8],
+    y_step: usize,
+    u: &'a [u8],
+    v: &'a [u8],
+    out_y: &'x mut [u8],
+    out_u: &'y mut [u8],
+    out_v: &'z mut [u8],
+) -> u8
+    ensures { λ r. ⌜ TonePicture (now («record» .entry)) format width height planes (now (y .entry)) «y_step» (now (u .entry)) (now (v .entry)) (now («out_y» .entry)) (now («out_u» .entry)) (now («out_v» .entry)) r (now («out_y» .exit)) (now («out_u» .exit)) (now («out_v» .exit)) ⌝ }
+{
+    let read = read_record(record);
+    let of_record = read.answer;
+    let answer = first_of(of_record, given::format_answer(format));
+    if !answer.is_done() {
+        return answer.number();
+    }
+    let set = read.set;
+    let pixel_format = format_of(format);
+    let toned = apply_pixels(
+        set,
+        pixel_format,
+        width,
+        height,
+        planes,
+        y,
+        y_step,
+        u,
+        0,
+        v,
+        0,
+        out_y,
+        out_u,
+        out_v,
+    );
+    let answer = toned.answer;
+    answer.number()
+}
+
+// Writes the byte table of the master of the set that a record holds to the front of table.
+#[no_mangle]
+pub extern "C" fn tone_record_table(record: &[u8], table: &mut [u8]) -> u8
+    ensures { λ r. ⌜ ToneRecordTable (now («record» .entry)) (now (table .entry)) r (now (table .exit)) ⌝ }
+{
+    let read = read_record(record);
+    let of_record = read.answer;
+    let answer = first_of(of_record, given::room_for(256, table.len()));
+    if !answer.is_done() {
+        return answer.number();
+    }
+    let set = read.set;
+    let kind = set.interpolation;
+    let bytes = byte_table(set.master, kind);
+    copy_bytes(&bytes, table);
+    answer.number()
+}
+
+// Writes the set that a record holds to the front of out with the present writer, and its length to written.
+#[no_mangle]
+pub extern "C" fn tone_record_copy(record: &[u8], out: &mut [u8], written: &mut usize) -> u8
+    ensures { λ r. ⌜ ToneRecordCopy (now («record» .entry)) (now (out .entry)) (now (written .entry)) r (now (out .exit)) (now (written .exit)) ⌝ }
+{
+    let read = read_record(record);
+    let answer = read.answer;
+    if !answer.is_done() {
+        return answer.number();
+    }
+    let set = read.set;
+    let copy = write_record(set, out);
+    let answer = copy.answer;
+    if !answer.is_done() {
+        return answer.number();
+    }
+    *written = copy.length;
     answer.number()
 }

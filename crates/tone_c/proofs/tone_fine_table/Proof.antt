@@ -1,26 +1,28 @@
 -- `tone_fine_table`: 3 and 5 first, with the table as it was; the rest is the fine table's own call.
-use mathlib.Core.Path.{ap, _∙_}
+use mathlib.Core.Path.{_≡_, sym, ap, _∙_}
 use borrow.Author.Needs.{needs}
-use borrow.Author.Tests.{ltb-false, le-ltb}
+use borrow.Author.Tests.{le-ltb}
 use mir.Facts.{toZ-ofZ}
+use Rattle.answers.specs.declared.Answer.the-variants.{Done}
 use Rattle.answers.specs.Numbers.{numberOf}
-use Rattle.tone_c.proofs.Checks.{refused, passed}
+use Rattle.tone_c.specs.Boundary.{givenAnswer}
+use Rattle.tone_c.proofs.Passed.{refusal, none, few-points, stands}
 use Rattle.tone_c.proofs.tone_fine_table.Statement.{statement}
 use Rattle.tone_c.proofs.tone_fine_table.Tie as tie
 
--- 3 or 5
+accepted : (c : tie.Else1) → let A = c .before .before .before .before .before .args in givenAnswer (A .points .now) (A .kind) ≡ Done
+accepted c = sym (c .before .before .check .ensures) ∙ none _ (c .before .is-done .ensures) (c .if1 .left)
+
 returns : tie.Need-returns
 returns c =
-    let b = c .before .before in
-    let a = b .before .before .before .before .args in
-    let no = refused (a .points .now) (a .kind) (b .before .check .ensures) (b .is-done .ensures) _ (c .before .if1 .taken) (c .number .ensures) in
-    record { number = no .0; table = rw (no .1) }
+    let k = c .before .before in
+    let no = refusal (k .before .check .result) (k .is-done .ensures) (c .before .if1 .taken) in
+    record { number = c .number .ensures ∙ ap numberOf (stands _ (k .before .check .ensures) no); table = rw (c .number .ensures, no) }
 
-read-points-requires : tie.Need-read-points-requires
-read-points-requires c κs =
-    let b = c .before in
-    let a = b .before .before .before .before .args in
-    ltb-false 64 _ (passed (a .points .now) (a .kind) (b .before .check .ensures) (b .is-done .ensures) (c .if1 .left) .0)
+curve-of-requires : tie.Need-curve-of-requires
+curve-of-requires c κs =
+    let A = c .before .before .before .before .before .args in
+    few-points (A .points .now) (A .kind) (accepted c)
 
 -- 14, or the table
 returns-2 : tie.Need-returns-2
@@ -28,15 +30,13 @@ returns-2 c =
     let t = c .before .before .before in
     let k = t .before .before in
     let p = k .before in
-    let b = p .before .before in
-    let s = b .before .before .before .before in
-    let so = passed (s .args .points .now) (s .args .kind) (b .before .check .ensures) (b .is-done .ensures) (p .before .if1 .left) in
-    let start = toZ-ofZ (s .fits .start-slope) in
-    let end = toZ-ofZ (s .fits .end-slope) in
+    let s = p .before .before .before .before .before .before in
     let built = t .build-table .ensures in
     record {
-      number = rw (so .0, so .1) (c .number2 .ensures ∙ ap numberOf (rw (le-ltb _ _ (p .read-points .ensures .1)) at (built .answer)));
-      table = rw (c .number2 .ensures) (built .table ∙ rw (k .kind-of .ensures, p .read-points .ensures .0, start, end));
+      number = rw (accepted (p .before)) (c .number2 .ensures ∙ ap numberOf (rw (le-ltb _ _ (p .curve-of .ensures .1)) at (built .answer)));
+      table =
+          rw (c .number2 .ensures)
+          (built .table ∙ rw (k .kind-of .ensures, p .curve-of .ensures .0, toZ-ofZ (s .fits .start-slope), toZ-ofZ (s .fits .end-slope)));
     }
 
 pub tone-fine-table-spec : {M : Type 1} → statement M
@@ -47,7 +47,7 @@ tone-fine-table-spec =
     (λ c κs. search needs)
     (λ c κs. search needs)
     returns
-    read-points-requires
+    curve-of-requires
     (λ c κs. search needs)
     (λ c κs. search needs)
     (λ c κs. search needs)

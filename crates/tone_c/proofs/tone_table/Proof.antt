@@ -1,52 +1,60 @@
--- `tone_table`: the refusals in their order, each with the output as it was; else the byte table is written.
-use mathlib.Core.Path.{_∙_}
-use native.Mathlib.Omega.{arith}
+-- `tone_table`: refused, with the output as it was; else the byte table is written.
+use mathlib.Core.Path.{_≡_, sym, ap, _∙_}
 use borrow.Author.Needs.{needs}
-use borrow.Author.Tests.{ltb-false, lt-ltb, le-ltb}
 use lib.ListN.{length}
 use mir.Facts.{toZ-ofZ}
-use Rattle.tone_c.proofs.Checks.{refused, passed}
+use Rattle.answers.specs.declared.Answer.the-variants.{Done}
+use Rattle.answers.specs.Numbers.{numberOf, both-done}
+use Rattle.tone_c.specs.Boundary.{givenAnswer, roomFor, toneTableAnswer}
+use Rattle.tone_c.proofs.Passed.{refusal, none, few-points, has-room}
 use Rattle.tone_c.proofs.tone_table.Statement.{statement}
 use Rattle.tone_c.proofs.tone_table.Tie as tie
 
--- 3 or 5
+answered : (c : tie.After-first-of)
+    → let A = c .before .before .before .before .before .args in
+    c .first-of .result ≡ toneTableAnswer (A .points .now) (A .kind) (length (A .table .now))
+answered c = rw (c .before .before .check .ensures, c .before .room-for .ensures) at (c .first-of .ensures)
+
+-- past the refusal
+accepted : (c : tie.Else1)
+    → let A = c .before .before .before .before .before .before .before .args in
+    (givenAnswer (A .points .now) (A .kind) ≡ Done) × (roomFor 256 (length (A .table .now)) ≡ Done)
+accepted c =
+    let A = c .before .before .before .before .before .before .before .args in
+    both-done (givenAnswer (A .points .now) (A .kind)) _ (sym (answered (c .before .before)) ∙ none _ (c .before .is-done .ensures) (c .if1 .left))
+
 returns : tie.Need-returns
 returns c =
-    let b = c .before .before in
-    let a = b .before .before .before .before .args in
-    let no = refused (a .points .now) (a .kind) (b .before .check .ensures) (b .is-done .ensures) _ (c .before .if1 .taken) (c .number .ensures) in
-    record { number = no .0; table = rw (no .1) }
+    let k = c .before .before in
+    record {
+      number = c .number .ensures ∙ ap numberOf (answered (k .before));
+      table = rw (c .number .ensures, refusal (k .before .first-of .result) (k .is-done .ensures) (c .before .if1 .taken));
+    }
 
--- 13
+curve-of-requires : tie.Need-curve-of-requires
+curve-of-requires c κs =
+    let A = c .before .before .before .before .before .before .before .args in few-points (A .points .now) (A .kind) (accepted c .0)
+
+copy-bytes-requires : tie.Need-copy-bytes-requires
+copy-bytes-requires c κs =
+    let long : length (c .before .before .byte-table .result) ≡ 256 = search needs in
+    rw long (has-room 256 _ (accepted (c .before .before .before .before .before) .1))
+
 returns-2 : tie.Need-returns-2
 returns-2 c =
-    let b = c .before .before .before in
-    let a = b .before .before .before .before .args in
-    let so = passed (a .points .now) (a .kind) (b .before .check .ensures) (b .is-done .ensures) (c .before .before .if1 .left) in
-    record { number = rw (so .0, so .1, lt-ltb (length (a .table .now)) 256 (omega arith)) (c .number2 .ensures); table = rw (c .number2 .ensures) }
-
-read-points-requires : tie.Need-read-points-requires
-read-points-requires c κs =
-    let b = c .before .before in
-    let a = b .before .before .before .before .args in
-    ltb-false 64 _ (passed (a .points .now) (a .kind) (b .before .check .ensures) (b .is-done .ensures) (c .before .if1 .left) .0)
-
-returns-3 : tie.Need-returns-3
-returns-3 c =
     let t = c .before .before .before in
-    let k = t .before .before .before in
-    let p = k .before .before in
-    let b = p .before .before in
-    let s = b .before .before .before .before in
-    let so = passed (s .args .points .now) (s .args .kind) (b .before .check .ensures) (b .is-done .ensures) (p .before .if1 .left) in
+    let b = t .before .before .before in
+    let k = b .before .before .before in
+    let s = k .before .before .before .before .before .before .before in
     let start = toZ-ofZ (s .fits .start-slope) in
     let end = toZ-ofZ (s .fits .end-slope) in
+    let long : length (b .byte-table .result) ≡ 256 = search needs in
     record {
-      number = rw (so .0, so .1, le-ltb (length (s .args .table .now)) 256 (omega arith)) (c .number3 .ensures);
+      number = c .number2 .ensures ∙ ap numberOf (answered (k .before .before));
       table =
-          rw (c .number3 .ensures)
-          (t .write-table .ensures
-          ∙ rw (t .before .before .byte-table .ensures, k .kind-of .ensures, k .before .read-points .ensures .0, start, end));
+          rw (c .number2 .ensures, none (k .before .before .first-of .result) (k .before .is-done .ensures) (k .if1 .left))
+          (rw (long, b .byte-table .ensures, b .before .kind-of .ensures, b .before .before .curve-of .ensures .0, start, end)
+          at (t .copy-bytes .ensures));
     }
 
 pub tone-table-spec : {M : Type 1} → statement M
@@ -56,13 +64,14 @@ tone-table-spec =
     (λ c κs. search needs)
     (λ c κs. search needs)
     (λ c κs. search needs)
+    (λ c κs. search needs)
+    (λ c κs. search needs)
     returns
-    (λ c κs. search needs)
-    returns-2
-    read-points-requires
-    (λ c κs. search needs)
-    (λ c κs. search needs)
+    curve-of-requires
     (λ c κs. search needs)
     (λ c κs. search needs)
     (search needs)
-    returns-3)
+    copy-bytes-requires
+    (λ c κs. search needs)
+    (search needs)
+    returns-2)

@@ -1,0 +1,98 @@
+-- `tone_record_copy`: the record's refusals first, with the output and the length as they were; the rest is the writer, whose set the record's reader
+-- has checked.
+use Prim.Native.Nat.{ℕ}
+use mathlib.Core.Path.{_≡_, refl, sym, ap, _∙_}
+use mathlib.Core.Bool.{Bool, true, false, cond}
+use mathlib.Core.List.{List, _++_}
+use borrow.Author.Needs.{needs}
+use lib.Dec.{ltb}
+use lib.ListN.{length, drop}
+use Rattle.answers.specs.declared.Answer.the-variants.{Done, OutputTooSmall}
+use Rattle.answers.specs.Numbers.{numberOf, isDone}
+use Rattle.sets.specs.Sets.{View}
+use Rattle.records.specs.declared.RecordRead.{RecordRead}
+use Rattle.records.specs.Format.{readRecord}
+use Rattle.records.specs.Views.{HandedBack}
+use Rattle.writing.specs.Encode.{Write, outcome, encode, writeRecord}
+use Rattle.tone_c.specs.Boundary.{copyOf, roomFor}
+use Rattle.tone_c.proofs.Passed.{refusal, none, stands}
+use Rattle.tone_c.proofs.tone_record_copy.Statement.{statement}
+use Rattle.tone_c.proofs.tone_record_copy.Tie as tie
+
+-- what the writer leaves of these bytes, as its answer says
+record Left (bytes old : List ℕ) (w : Write) : Type 0 where
+  answer-is : w .answer ≡ roomFor (length bytes) (length old)
+  length-is : w .length ≡ cond (isDone (w .answer)) (length bytes) 0
+  buffer-is : w .buffer ≡ cond (isDone (w .answer)) (bytes ++ drop (length bytes) old) old
+
+left-by : (bytes old : List ℕ) (short : Bool) → ltb (length old) (length bytes) ≡ short → Left bytes old (outcome (cond short OutputTooSmall Done) bytes old)
+left-by bytes old true e = record { answer-is = rw e; length-is = refl; buffer-is = refl }
+left-by bytes old false e = record { answer-is = rw e; length-is = refl; buffer-is = refl }
+
+-- the writer on the set that the reader handed back, said of the record
+left : (stored old : List ℕ) {handed : RecordRead} → HandedBack (readRecord stored) handed → Left (copyOf stored) old (writeRecord (handed .set) old)
+unfolding writeRecord
+left stored old read =
+    rw (read .legal, ap (λ (set : View). outcome (roomFor (length (encode set)) (length old)) (encode set) old) (read .set))
+    (left-by (copyOf stored) old (ltb (length old) (length (copyOf stored))) refl)
+
+accepted : (c : tie.Else1) → readRecord (c .before .before .before .before .before .args .«record» .now) .answer ≡ Done
+accepted c = sym (c .before .before .read-record .ensures .answer) ∙ none _ (c .before .is-done .ensures) (c .if1 .left)
+
+copied : (c : tie.After-write-record)
+    → let A = c .before .before .before .before .before .before .before .before .args in
+    let written = c .write-record .result in
+    Left (copyOf (A .«record» .now)) (A .out .now) (record { answer = written .answer; length = written .length; buffer = c .write-record .last .1 .0 })
+copied c =
+    let A = c .before .before .before .before .before .before .before .before .args in
+    let wrote = c .write-record .ensures in
+    rw (wrote .answer, wrote .length, wrote .buffer) (left (A .«record» .now) (A .out .now) (c .before .before .before .before .before .read-record .ensures))
+
+returns : tie.Need-returns
+returns c =
+    let k = c .before .before in
+    let no = refusal (k .before .read-record .result .answer) (k .is-done .ensures) (c .before .if1 .taken) in
+    record {
+      number = c .number .ensures ∙ ap numberOf (stands _ (k .before .read-record .ensures .answer) no);
+      out = rw (c .number .ensures, no);
+      written = rw (c .number .ensures, no);
+    }
+
+returns-2 : tie.Need-returns-2
+returns-2 c =
+    let d = c .before .before in
+    let w = d .before .before .before in
+    let no = refusal (w .write-record .result .answer) (d .is-done2 .ensures) (c .before .if2 .taken) in
+    record {
+      number = rw (accepted (w .before .before .before)) (c .number2 .ensures ∙ ap numberOf (copied w .answer-is));
+      out = rw (c .number2 .ensures) (copied w .buffer-is);
+      written = rw (c .number2 .ensures, no);
+    }
+
+returns-3 : tie.Need-returns-3
+returns-3 c =
+    let d = c .before .before in
+    let w = d .before .before .before in
+    let yes = none (w .write-record .result .answer) (d .is-done2 .ensures) (c .before .if2 .left) in
+    record {
+      number = rw (accepted (w .before .before .before)) (c .number3 .ensures ∙ ap numberOf (copied w .answer-is));
+      out = rw (c .number3 .ensures) (copied w .buffer-is);
+      written = rw (c .number3 .ensures, yes) (rw yes at (copied w .length-is));
+    }
+
+pub tone-record-copy-spec : {M : Type 1} → statement M
+tone-record-copy-spec =
+    tie.close
+    (tie.spec
+    (λ c κs. search needs)
+    (λ c κs. search needs)
+    (λ c κs. search needs)
+    returns
+    (λ c κs. search needs)
+    (λ c κs. search needs)
+    (λ c κs. search needs)
+    (search needs)
+    returns-2
+    (λ c κs. search needs)
+    (search needs)
+    returns-3)

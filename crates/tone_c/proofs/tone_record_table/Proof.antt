@@ -1,0 +1,75 @@
+-- `tone_record_table`: refused, with the output as it was; else the table of the record's master is written.
+use mathlib.Core.Path.{_≡_, sym, ap, _∙_}
+use borrow.Author.Needs.{needs}
+use lib.ListN.{length}
+use Rattle.answers.specs.declared.Answer.the-variants.{Done}
+use Rattle.answers.specs.Numbers.{numberOf, both-done}
+use Rattle.tables.specs.Tables.{byteTable}
+use Rattle.sets.specs.Sets.{View}
+use Rattle.sets.specs.Legal.{passed-set, passed-count}
+use Rattle.records.specs.Format.{readRecord}
+use Rattle.tone_c.specs.Boundary.{roomFor, toneRecordTableAnswer}
+use Rattle.tone_c.proofs.Passed.{refusal, none, has-room}
+use Rattle.tone_c.proofs.tone_record_table.Statement.{statement}
+use Rattle.tone_c.proofs.tone_record_table.Tie as tie
+
+answered : (c : tie.After-first-of)
+    → let A = c .before .before .before .before .before .args in
+    c .first-of .result ≡ toneRecordTableAnswer (A .«record» .now) (length (A .table .now))
+answered c = rw (c .before .before .read-record .ensures .answer, c .before .room-for .ensures) at (c .first-of .ensures)
+
+-- past the refusal
+accepted : (c : tie.Else1)
+    → let A = c .before .before .before .before .before .before .before .args in
+    roomFor 256 (length (A .table .now)) ≡ Done
+accepted c =
+    let A = c .before .before .before .before .before .before .before .args in
+    both-done (readRecord (A .«record» .now) .answer) _ (sym (answered (c .before .before)) ∙ none _ (c .before .is-done .ensures) (c .if1 .left)) .1
+
+returns : tie.Need-returns
+returns c =
+    let k = c .before .before in
+    record {
+      number = c .number .ensures ∙ ap numberOf (answered (k .before));
+      table = rw (c .number .ensures, refusal (k .before .first-of .result) (k .is-done .ensures) (c .before .if1 .taken));
+    }
+
+byte-table-requires : tie.Need-byte-table-requires
+byte-table-requires c κs =
+    passed-count _ (passed-set _ (c .before .before .before .before .before .read-record .ensures .legal) .master)
+
+copy-bytes-requires : tie.Need-copy-bytes-requires
+copy-bytes-requires c κs =
+    let long : length (c .before .before .byte-table .result) ≡ 256 = search needs in
+    rw long (has-room 256 _ (accepted (c .before .before .before .before)))
+
+returns-2 : tie.Need-returns-2
+returns-2 c =
+    let t = c .before .before .before in
+    let b = t .before .before .before in
+    let k = b .before .before in
+    let read = k .before .before .before .before .read-record .ensures in
+    let long : length (b .byte-table .result) ≡ 256 = search needs in
+    record {
+      number = c .number2 .ensures ∙ ap numberOf (answered (k .before .before));
+      table =
+          rw (c .number2 .ensures, none (k .before .before .first-of .result) (k .before .is-done .ensures) (k .if1 .left))
+          (rw (long, b .byte-table .ensures ∙ ap (λ (set : View). byteTable (set .kind) (set .master)) (read .set)) at (t .copy-bytes .ensures));
+    }
+
+pub tone-record-table-spec : {M : Type 1} → statement M
+tone-record-table-spec =
+    tie.close
+    (tie.spec
+    (λ c κs. search needs)
+    (λ c κs. search needs)
+    (λ c κs. search needs)
+    (λ c κs. search needs)
+    (λ c κs. search needs)
+    returns
+    byte-table-requires
+    (search needs)
+    copy-bytes-requires
+    (λ c κs. search needs)
+    (search needs)
+    returns-2)
