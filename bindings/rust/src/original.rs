@@ -114,22 +114,48 @@ mod stand_ins {
 
 pub use stand_ins::{PixelFilter, PixelFormat, VideoFrame, VideoPlane, VideoStreamParams};
 
+/// The original's name of a format.
+pub fn pixel_format(format: crate::Format) -> PixelFormat {
+    use crate::Format;
+    match format {
+        Format::Gray8 => PixelFormat::Gray8,
+        Format::Ya8 => PixelFormat::Ya8,
+        Format::Rgb24 => PixelFormat::Rgb24,
+        Format::Rgba => PixelFormat::Rgba,
+        Format::Cmyk => PixelFormat::Cmyk,
+        Format::CmykInverted => PixelFormat::CmykInverted,
+        Format::Yuv420P => PixelFormat::Yuv420P,
+        Format::Yuv422P => PixelFormat::Yuv422P,
+        Format::Yuv444P => PixelFormat::Yuv444P,
+        Format::YuvJ420P => PixelFormat::YuvJ420P,
+        Format::YuvJ422P => PixelFormat::YuvJ422P,
+        Format::YuvJ444P => PixelFormat::YuvJ444P,
+    }
+}
+
+/// A frame of planes, each with its row step.
+pub fn frame(planes: impl IntoIterator<Item = (Vec<u8>, usize)>) -> VideoFrame {
+    VideoFrame { pts: None, planes: planes.into_iter().map(|(data, stride)| VideoPlane { stride, data }).collect() }
+}
+
 /// Ways into the text included, whose table builds are private.
 macro_rules! doors {
     () => {
         pub fn mode(kind: crate::Kind) -> CurveInterpolation {
-            match kind.number {
-                0 => CurveInterpolation::Linear,
-                1 => CurveInterpolation::CatmullRom,
-                2 => CurveInterpolation::MonotoneCubic,
-                3 => CurveInterpolation::MonotoneCubicBox,
-                4 => CurveInterpolation::NaturalCubic,
-                5 => CurveInterpolation::CentripetalCatmullRom,
-                6 => CurveInterpolation::ChordalCatmullRom,
-                7 => CurveInterpolation::Cardinal { tension_q8: kind.tension },
-                8 => CurveInterpolation::ClampedCubic { start_slope_q8: kind.start_slope, end_slope_q8: kind.end_slope },
-                9 => CurveInterpolation::NotAKnotCubic,
-                other => panic!("the original has no kind {other}"),
+            use crate::Kind;
+            match kind {
+                Kind::Linear => CurveInterpolation::Linear,
+                Kind::CatmullRom => CurveInterpolation::CatmullRom,
+                Kind::MonotoneCubic => CurveInterpolation::MonotoneCubic,
+                Kind::MonotoneCubicBox => CurveInterpolation::MonotoneCubicBox,
+                Kind::NaturalCubic => CurveInterpolation::NaturalCubic,
+                Kind::CentripetalCatmullRom => CurveInterpolation::CentripetalCatmullRom,
+                Kind::ChordalCatmullRom => CurveInterpolation::ChordalCatmullRom,
+                Kind::Cardinal { tension } => CurveInterpolation::Cardinal { tension_q8: tension },
+                Kind::ClampedCubic { start_slope, end_slope } => {
+                    CurveInterpolation::ClampedCubic { start_slope_q8: start_slope, end_slope_q8: end_slope }
+                }
+                Kind::NotAKnotCubic => CurveInterpolation::NotAKnotCubic,
             }
         }
 
@@ -144,6 +170,14 @@ macro_rules! doors {
 
         pub fn fine_table(curve: &Curve, kind: crate::Kind, samples: usize) -> Vec<f32> {
             curve.build_table(mode(kind), samples)
+        }
+
+        /// The original's set.
+        pub fn set(set: &crate::model::record::Set) -> Curves {
+            let colour = |i: usize| set.colours[i].as_deref().map(curve);
+            let mut curves = Curves::new(curve(&set.master)).with_interpolation(mode(set.kind));
+            (curves.red, curves.green, curves.blue) = (colour(0), colour(1), colour(2));
+            curves
         }
     };
 }
@@ -174,4 +208,9 @@ pub mod lookup {
 pub mod tonal_lut {
     use super::stand_ins::*;
     include!(concat!(env!("OUT_DIR"), "/tonal_lut.rs"));
+
+    /// The call, which is not open outside its crate.
+    pub fn tone(frame: &mut VideoFrame, table: &[u8; 256], format: crate::Format, width: u32, height: u32) {
+        apply_tone_lut(frame, table, super::pixel_format(format), width, height);
+    }
 }

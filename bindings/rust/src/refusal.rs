@@ -22,27 +22,37 @@ pub enum Refusal {
     TableLength = 14,
 }
 
-/// Each refusal, in the order of the numbers, with its message.
+/// Each refusal, in the order of the numbers, in document 01's words.
 const ALL: [(Refusal, &str); 14] = [
-    (Refusal::ReservedBit, "bit 7 of the record's map stands"),
-    (Refusal::RecordTruncated, "the record ends before its map or inside a field"),
-    (Refusal::PointCount, "more than 64 points, or a record's master without any"),
-    (Refusal::PointsNotRising, "the points do not strictly rise in x"),
-    (Refusal::UnknownKind, "the kind is above 9"),
-    (Refusal::FieldMismatch, "a tension or slopes disagree with the kind"),
-    (Refusal::TrailingBytes, "bytes follow the record's last field"),
-    (Refusal::UnsupportedFormat, "the format is not one that the call takes"),
+    (Refusal::ReservedBit, "bit 7 of a record's map stands"),
+    (Refusal::RecordTruncated, "a record ends before its map or inside a field whose bit stands"),
+    (Refusal::PointCount, "a count of points is above 64, or a record's master count is 0"),
+    (Refusal::PointsNotRising, "a record's or set's points don't strictly rise in x"),
+    (Refusal::UnknownKind, "the kind byte is above 9"),
+    (Refusal::FieldMismatch, "bit 5 or bit 6 disagrees with the kind"),
+    (Refusal::TrailingBytes, "bytes follow the last field"),
+    (Refusal::UnsupportedFormat, "the set call is given Ya8, Cmyk or CmykInverted, or a call an unknown format"),
     (Refusal::PictureTooLarge, "width or height is above 4,096"),
-    (Refusal::MissingPlane, "a plane is missing"),
-    (Refusal::RowStep, "the row step is below the row's bytes or above 32,768"),
-    (Refusal::PlaneTooShort, "the plane has fewer bytes than needed"),
+    (Refusal::MissingPlane, "the set call has no plane, or fewer than three for YUV"),
+    (Refusal::RowStep, "the first plane's row step is below the row bytes or above 32,768"),
+    (Refusal::PlaneTooShort, "the first plane has fewer bytes than needed"),
     (Refusal::OutputTooSmall, "an output holds less than what would be written"),
-    (Refusal::TableLength, "the length of a float table is not one that the call takes"),
+    (Refusal::TableLength, "a float table's length isn't 256 or 4,096 (build) or 4,096 (lookup)"),
 ];
 
 impl Refusal {
+    /// Each refusal, by its number less one.
+    pub fn all() -> [Refusal; 14] {
+        ALL.map(|(refusal, _)| refusal)
+    }
+
     pub fn number(self) -> u8 {
         self as u8
+    }
+
+    /// Document 01's words for it.
+    pub fn words(self) -> &'static str {
+        ALL[usize::from(self.number()) - 1].1
     }
 
     /// The answer byte of a boundary function: 0, or a refusal's number.
@@ -56,8 +66,7 @@ impl Refusal {
 
 impl fmt::Display for Refusal {
     fn fmt(&self, f: &mut fmt::Formatter) -> fmt::Result {
-        let n = self.number();
-        write!(f, "refused {n}: {}", ALL[usize::from(n) - 1].1)
+        write!(f, "refused {}: {}", self.number(), self.words())
     }
 }
 

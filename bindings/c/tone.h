@@ -1,0 +1,184 @@
+/* The tone engine for C and C++ callers: tables of tone curves, and pictures toned by them.
+ *
+ * Link with libtone_c.a, which `rt staticlib tone_c` makes of the proved crate. C99 or C++98 and later.
+ *
+ * Every call answers one byte: TONE_DONE when it did its work, else the number of the first refusal that applies, in the order of
+ * the numbers. A refused call has changed nothing that it was lent. No call keeps a pointer, allocates memory or holds a state,
+ * so calls from several threads do not disturb each other.
+ *
+ * What a caller must see to:
+ *  - An array passes as a pointer and the number of its elements. The pointer must not be null, even where the number is 0: then
+ *    any other pointer will do, and nothing is read or written through it.
+ *  - What a call writes must not overlap anything else that the same call is lent.
+ *  - A number of elements or a row step may be any value, but memory must be there for what is lent. */
+#ifndef TONE_H
+#define TONE_H
+
+#include <stddef.h>
+#include <stdint.h>
+
+#ifdef __cplusplus
+extern "C" {
+#endif
+
+/* The kinds of interpolation. */
+enum tone_kind {
+    TONE_LINEAR = 0,
+    TONE_CATMULL_ROM = 1,
+    TONE_MONOTONE_CUBIC = 2, /* the default of a record */
+    TONE_MONOTONE_CUBIC_BOX = 3,
+    TONE_NATURAL_CUBIC = 4,
+    TONE_CENTRIPETAL_CATMULL_ROM = 5,
+    TONE_CHORDAL_CATMULL_ROM = 6,
+    TONE_CARDINAL = 7,      /* carries a tension, in 255ths */
+    TONE_CLAMPED_CUBIC = 8, /* carries the slopes at both ends, in 256ths */
+    TONE_NOT_A_KNOT_CUBIC = 9
+};
+
+/* The formats of pictures. A row of the first plane has 1 byte a pixel (Gray8, YUV), 2 (Ya8), 3 (Rgb24) or 4 (Rgba, Cmyk). */
+enum tone_format {
+    TONE_GRAY8 = 0,
+    TONE_YA8 = 1,
+    TONE_RGB24 = 2,
+    TONE_RGBA = 3,
+    TONE_CMYK = 4,
+    TONE_CMYK_INVERTED = 5,
+    TONE_YUV420P = 6,
+    TONE_YUV422P = 7,
+    TONE_YUV444P = 8,
+    TONE_YUVJ420P = 9,
+    TONE_YUVJ422P = 10,
+    TONE_YUVJ444P = 11
+};
+
+/* The answers: done, or a refusal. tone_refusal_text has them in words. */
+enum tone_answer {
+    TONE_DONE = 0,
+    TONE_RESERVED_BIT = 1,
+    TONE_RECORD_TRUNCATED = 2,
+    TONE_POINT_COUNT = 3,
+    TONE_POINTS_NOT_RISING = 4,
+    TONE_UNKNOWN_KIND = 5,
+    TONE_FIELD_MISMATCH = 6,
+    TONE_TRAILING_BYTES = 7,
+    TONE_UNSUPPORTED_FORMAT = 8,
+    TONE_PICTURE_TOO_LARGE = 9,
+    TONE_MISSING_PLANE = 10,
+    TONE_ROW_STEP = 11,
+    TONE_PLANE_TOO_SHORT = 12,
+    TONE_OUTPUT_TOO_SMALL = 13,
+    TONE_TABLE_LENGTH = 14
+};
+
+/* Limits and sizes. */
+enum tone_size {
+    TONE_MOST_POINTS = 64,
+    TONE_LARGEST_SIDE = 4096,     /* of a picture, in pixels */
+    TONE_LARGEST_STEP = 32768,    /* from a row to the next, in bytes */
+    TONE_TABLE_BYTES = 256,       /* of a byte table */
+    TONE_FINE_SAMPLES = 4096,     /* of a fine table to look in */
+    TONE_LONGEST_RECORD = 522     /* bytes: no record is longer */
+};
+
+/* An answer in words; never null. */
+static inline const char *tone_refusal_text(uint8_t answer)
+{
+    switch (answer) {
+    case TONE_DONE:
+        return "done";
+    case TONE_RESERVED_BIT:
+        return "bit 7 of a record's map stands";
+    case TONE_RECORD_TRUNCATED:
+        return "a record ends before its map or inside a field whose bit stands";
+    case TONE_POINT_COUNT:
+        return "a count of points is above 64, or a record's master count is 0";
+    case TONE_POINTS_NOT_RISING:
+        return "a record's or set's points don't strictly rise in x";
+    case TONE_UNKNOWN_KIND:
+        return "the kind byte is above 9";
+    case TONE_FIELD_MISMATCH:
+        return "bit 5 or bit 6 disagrees with the kind";
+    case TONE_TRAILING_BYTES:
+        return "bytes follow the last field";
+    case TONE_UNSUPPORTED_FORMAT:
+        return "the set call is given Ya8, Cmyk or CmykInverted, or a call an unknown format";
+    case TONE_PICTURE_TOO_LARGE:
+        return "width or height is above 4,096";
+    case TONE_MISSING_PLANE:
+        return "the set call has no plane, or fewer than three for YUV";
+    case TONE_ROW_STEP:
+        return "the first plane's row step is below the row bytes or above 32,768";
+    case TONE_PLANE_TOO_SHORT:
+        return "the first plane has fewer bytes than needed";
+    case TONE_OUTPUT_TOO_SMALL:
+        return "an output holds less than what would be written";
+    case TONE_TABLE_LENGTH:
+        return "a float table's length isn't 256 or 4,096 (build) or 4,096 (lookup)";
+    default:
+        return "no answer of the engine";
+    }
+}
+
+/* Writes the byte table of the curve through some points to the first 256 bytes of `table`; what stands behind them stays.
+ *
+ * `points` holds x, y pairs in any order; of equal x the first counts, and a last odd byte is ignored. `kind` is a tone_kind.
+ * `tension` is read for TONE_CARDINAL only, the slopes for TONE_CLAMPED_CUBIC only.
+ *
+ * Refusals: 3 more than 64 points; 5 a kind above 9; 13 a table_length below 256. */
+uint8_t tone_table(const uint8_t *points, size_t points_length, uint8_t kind, uint8_t tension, int16_t start_slope,
+                   int16_t end_slope, uint8_t *table, size_t table_length);
+
+/* Fills `table`, of 256 or 4,096 floats, with as many samples of that curve from x = 0 to x = 255, clamped to 0..255.
+ *
+ * Points, kind, tension and slopes as for tone_table.
+ *
+ * Refusals: 3 more than 64 points; 5 a kind above 9; 14 a table_length that is neither 256 nor 4,096. */
+uint8_t tone_fine_table(const uint8_t *points, size_t points_length, uint8_t kind, uint8_t tension, int16_t start_slope,
+                        int16_t end_slope, float *table, size_t table_length);
+
+/* Replaces each of `values`, clamped to 0..1 with NaN taken as 0, by the height there of a fine table of 4,096 samples, over 255.
+ *
+ * Refusals: 14 a table_length other than 4,096. */
+uint8_t tone_lookup(const float *table, size_t table_length, float *values, size_t values_length);
+
+/* Tones a plane in place by one table of 256 bytes, all twelve formats. Alpha of Ya8 and Rgba and the bytes between the rows stay as they are;
+ * Cmyk tones all four inks; of the YUV formats the plane is the luma.
+ *
+ * `format` is a tone_format. Row y starts at byte y * step. A picture of width or height 0 needs no bytes.
+ *
+ * Refusals: 8 a format above 11; 9 a width or height above 4,096; 11 a step below the row's bytes or above 32,768, also at
+ * height 0; 12 a plane_length below (height - 1) * step + the row's bytes. */
+uint8_t tone_plane(const uint8_t table[TONE_TABLE_BYTES], uint8_t format, uint32_t width, uint32_t height, uint8_t *plane,
+                   size_t plane_length, size_t step);
+
+/* Tones a picture by the set of curves that a record holds, into tight rows at the front of `out_y`: Gray8 and luma by the master, Rgb24 and Rgba by
+ * each colour's list or else the master's, alpha copied. For the YUV formats `u` is copied to the front of `out_u` and `v` to that of
+ * `out_v`, each whole, whatever its length. What stands in an output behind that stays; of the other formats so do out_u and out_v.
+ *
+ * `planes` says how many planes are given, of which Gray8, Rgb24 and Rgba read the first, YUV the first three. `y` is the first, whatever
+ * the format, and row k starts at its byte k * y_step. Where the format has no chroma, u, v, out_u and out_v may have length 0.
+ *
+ * Refusals: 1 to 7 the record's; 8 Ya8, Cmyk, CmykInverted or a format above 11; 9 a width or height above 4,096; 10 no plane, or
+ * fewer than three for YUV; 11 a y_step below the row's bytes or above 32,768, also at height 0; 12 a y_length below
+ * (height - 1) * y_step + the row's bytes; 13 an output that holds less than would be written to it. */
+uint8_t tone_picture(const uint8_t *record, size_t record_length, uint8_t format, uint32_t width, uint32_t height, size_t planes,
+                     const uint8_t *y, size_t y_length, size_t y_step, const uint8_t *u, size_t u_length, const uint8_t *v,
+                     size_t v_length, uint8_t *out_y, size_t out_y_length, uint8_t *out_u, size_t out_u_length, uint8_t *out_v,
+                     size_t out_v_length);
+
+/* Writes the byte table of a record's master, by the record's kind, to the first 256 bytes of `table`; what stands behind them stays.
+ *
+ * Refusals: 1 to 7 the record's; 13 a table_length below 256. */
+uint8_t tone_record_table(const uint8_t *record, size_t record_length, uint8_t *table, size_t table_length);
+
+/* Reads a record and writes the set it holds to the front of `out`, as the present writer has it, and the length to `written`; what
+ * stands in `out` behind that stays. TONE_LONGEST_RECORD bytes always suffice.
+ *
+ * Refusals: 1 to 7 the record's; 13 an out_length below the length that would be written. `written` too is unchanged then. */
+uint8_t tone_record_copy(const uint8_t *record, size_t record_length, uint8_t *out, size_t out_length, size_t *written);
+
+#ifdef __cplusplus
+}
+#endif
+
+#endif

@@ -1,0 +1,139 @@
+//! Tables and lookups beside the original's.
+use super::run::Trial;
+use tone::model::checks::{self, Answer};
+use tone::original::{curves, lookup};
+use tone::trial::{kind, Element, Lent, Question, Random};
+use tone::KindNumbers;
+
+pub fn byte_table(t: &mut Trial) {
+    let question = t.question();
+    let room = 256 + t.random.below(3) * 7;
+    let mut points = Lent::new(&question.points);
+    let mut table = Lent::new(&vec![t.random.byte(); room]);
+    let answer = tone::table(points.lend(), question.numbers, table.lend());
+    t.answered(answer, Ok(()), &question);
+    same_bytes(t, &question, &table);
+    t.kept(&table, 256, &question);
+    t.kept(&points, 0, &question);
+}
+
+fn same_bytes(t: &mut Trial, question: &Question, table: &Lent<u8>) {
+    let original = curves::byte_table(&curves::curve(&question.points), question.kind());
+    t.same(&table.now()[..256], &original, question);
+    t.tally.entries += 256;
+}
+
+pub fn fine_table(t: &mut Trial, samples: usize) {
+    let question = t.question();
+    let mut points = Lent::new(&question.points);
+    let mut table = Lent::new(&vec![t.random.float(); samples]);
+    let answer = tone::fine_table(points.lend(), question.numbers, table.lend());
+    t.answered(answer, Ok(()), &question);
+    same_samples(t, &question, &table);
+    t.kept(&table, samples, &question);
+    t.kept(&points, 0, &question);
+}
+
+fn same_samples(t: &mut Trial, question: &Question, table: &Lent<f32>) {
+    let samples = table.now().len();
+    let original = curves::fine_table(&curves::curve(&question.points), question.kind(), samples);
+    t.same(table.now(), &original, question);
+    t.tally.samples += samples as u64;
+}
+
+pub fn lookups(t: &mut Trial) {
+    let table = table_to_look_in(t);
+    let values: Vec<f32> = (0..t.random.below(2048)).map(|_| value(&mut t.random)).collect();
+    let mut table = Lent::new(&table);
+    let mut results = Lent::new(&values);
+    let answer = tone::lookup(table.lend(), results.lend());
+    t.answered(answer, Ok(()), &values.len());
+    let original: Vec<f32> = values.iter().map(|v| lookup::lookup(table.now(), *v)).collect();
+    t.same(results.now(), &original, &"lookup");
+    t.kept(&results, values.len(), &"lookup");
+    t.kept(&table, 0, &"lookup");
+    t.tally.lookups += values.len() as u64;
+}
+
+/// A fine table of a list, one of heights without order, or one of any bits.
+fn table_to_look_in(t: &mut Trial) -> Vec<f32> {
+    match t.random.below(3) {
+        0 => {
+            let question = t.question();
+            curves::fine_table(&curves::curve(&question.points), question.kind(), 4096)
+        }
+        1 => (0..4096).map(|_| t.random.unit() * 255.0).collect(),
+        _ => (0..4096).map(|_| t.random.float()).collect(),
+    }
+}
+
+fn value(random: &mut Random) -> f32 {
+    const ENDS: [f32; 10] = [f32::NAN, f32::INFINITY, f32::NEG_INFINITY, 0.0, -0.0, 1.0, 0.99999994, 1.0000001, f32::MIN_POSITIVE, -1e-45];
+    match random.below(5) {
+        0 => random.float(),
+        1 => random.of(&ENDS),
+        // at a sample of the table, or one bit beside it
+        2 => {
+            let at = (random.below(4096) as f32 / 4095.0).to_bits();
+            f32::from_bits(at + random.below(3) as u32 - u32::from(at > 0))
+        }
+        3 => random.unit() * 2.0 - 0.5,
+        _ => random.unit(),
+    }
+}
+
+/// Calls of which some are refused: the first refusal that applies must be the answer.
+pub fn refused(t: &mut Trial) {
+    let mut points: Vec<u8> = (0..t.random.below(140)).map(|_| t.random.byte()).collect();
+    if !t.random.once_in(3) {
+        points.truncate(129);
+    }
+    let number = if t.random.once_in(3) { t.random.byte() } else { t.random.below(10) as u8 };
+    let numbers: KindNumbers = kind(number, &mut t.random);
+    let listed = checks::given(points.len(), number);
+    let question = Question { points, numbers };
+    refused_table(t, &question, listed);
+    refused_fine_table(t, &question, listed);
+    refused_lookup(t);
+}
+
+fn refused_table(t: &mut Trial, question: &Question, listed: Answer) {
+    let room = t.random.below(400);
+    let expected = listed.and(checks::table_room(room));
+    let mut points = Lent::new(&question.points);
+    let mut table = Lent::new(&vec![t.random.byte(); room]);
+    let answer = tone::table(points.lend(), question.numbers, table.lend());
+    judged(t, answer, expected, &table, 256);
+    t.kept(&points, 0, question);
+    if expected.is_ok() {
+        same_bytes(t, question, &table);
+    }
+}
+
+fn refused_fine_table(t: &mut Trial, question: &Question, listed: Answer) {
+    let samples = if t.random.once_in(4) { t.random.below(5000) } else { t.random.of(&[0, 1, 2, 255, 256, 257, 4095, 4096, 4097]) };
+    let expected = listed.and(checks::fine_length(samples));
+    let mut points = Lent::new(&question.points);
+    let mut table = Lent::new(&vec![t.random.float(); samples]);
+    let answer = tone::fine_table(points.lend(), question.numbers, table.lend());
+    judged(t, answer, expected, &table, samples);
+    t.kept(&points, 0, question);
+    if expected.is_ok() {
+        same_samples(t, question, &table);
+    }
+}
+
+fn refused_lookup(t: &mut Trial) {
+    let samples = t.random.of(&[0, 1, 256, 4094, 4095, 4097, 5000]);
+    let mut table = Lent::new(&vec![t.random.unit(); samples]);
+    let mut values = Lent::new(&vec![t.random.float(); t.random.below(100)]);
+    let answer = tone::lookup(table.lend(), values.lend());
+    judged(t, answer, checks::lookup_length(samples), &values, 0);
+    t.kept(&table, 0, &samples);
+}
+
+/// Holds an answer to the one expected, and what was lent to what the call may write.
+fn judged<T: Element>(t: &mut Trial, answer: Answer, expected: Answer, lent: &Lent<T>, written: usize) {
+    t.answered(answer, expected, &"refusals");
+    t.kept(lent, if expected.is_ok() { written } else { 0 }, &expected);
+}

@@ -1,0 +1,132 @@
+//! The stored record: what a reader must answer and a writer must write.
+use crate::{Kind, KindNumbers, Refusal};
+
+/// A master, three optional colours and a kind. A list is x, y pairs.
+#[derive(Clone, Debug, Default, PartialEq, Eq)]
+pub struct Set {
+    pub master: Vec<u8>,
+    pub colours: [Option<Vec<u8>>; 3],
+    pub kind: Kind,
+}
+
+/// "Inside a record 2 to 5 run field by field [..] then 6, and only then 2 for tension or slopes", and 7 at the end.
+pub fn read(record: &[u8]) -> Result<Set, Refusal> {
+    let mut left = record;
+    let map = take(&mut left, 1)?[0];
+    let stands = |bit: u8| map & (1 << bit) != 0;
+    if stands(7) {
+        return Err(Refusal::ReservedBit);
+    }
+    // "Bit 0 off: empty master; 1 to 3 off: absent colour, a count of 0 being an empty one; 4 off: default kind."
+    let mut set = Set::default();
+    if stands(0) {
+        set.master = list(&mut left, 1)?;
+    }
+    for (colour, bit) in set.colours.iter_mut().zip(1..) {
+        if stands(bit) {
+            *colour = Some(list(&mut left, 0)?);
+        }
+    }
+    set.kind = kind(&mut left, stands(4), stands(5), stands(6))?;
+    // "7. Bytes follow the last field."
+    match left {
+        [] => Ok(set),
+        _ => Err(Refusal::TrailingBytes),
+    }
+}
+
+/// "2. A record ends before its map or inside a field whose bit stands."
+fn take<'a>(left: &mut &'a [u8], count: usize) -> Result<&'a [u8], Refusal> {
+    let (taken, rest) = left.split_at_checked(count).ok_or(Refusal::RecordTruncated)?;
+    *left = rest;
+    Ok(taken)
+}
+
+/// "a missing count, 3, missing points, 4"
+fn list(left: &mut &[u8], least: u8) -> Result<Vec<u8>, Refusal> {
+    let count = take(left, 1)?[0];
+    // "3. A count of points is above 64, or a record's master count is 0."
+    if count > 64 || count < least {
+        return Err(Refusal::PointCount);
+    }
+    let points = take(left, 2 * usize::from(count))?;
+    if !rises(points) {
+        return Err(Refusal::PointsNotRising);
+    }
+    Ok(points.to_vec())
+}
+
+/// "4. A record's or set's points don't strictly rise in x."
+pub fn rises(points: &[u8]) -> bool {
+    points.iter().step_by(2).zip(points.iter().skip(2).step_by(2)).all(|(a, b)| a < b)
+}
+
+/// "a missing kind byte, 5; then 6, and only then 2 for tension or slopes"
+fn kind(left: &mut &[u8], named: bool, tense: bool, sloped: bool) -> Result<Kind, Refusal> {
+    let number = if named { take(left, 1)?[0] } else { Kind::default().number() };
+    if number > 9 {
+        return Err(Refusal::UnknownKind);
+    }
+    // "Bit 5 stands with Cardinal only, bit 6 with ClampedCubic only, and always then."
+    if tense != (number == 7) || sloped != (number == 8) {
+        return Err(Refusal::FieldMismatch);
+    }
+    let mut carried = KindNumbers { number, tension: 0, start_slope: 0, end_slope: 0 };
+    if tense {
+        carried.tension = take(left, 1)?[0];
+    }
+    if sloped {
+        carried.start_slope = slope(left)?;
+        carried.end_slope = slope(left)?;
+    }
+    carried.kind().ok_or(Refusal::UnknownKind)
+}
+
+/// "two's complement, low byte first"
+fn slope(left: &mut &[u8]) -> Result<i16, Refusal> {
+    let bytes = take(left, 2)?;
+    let value = i32::from(bytes[0]) + 256 * i32::from(bytes[1]);
+    Ok(if value < 32_768 { value as i16 } else { (value - 65_536) as i16 })
+}
+
+/// "The writer leaves the kind out when it is the default."
+pub fn write(set: &Set) -> Vec<u8> {
+    encode(set, set.kind != Kind::default())
+}
+
+/// A record of a set, its kind named or not.
+pub fn encode(set: &Set, named: bool) -> Vec<u8> {
+    let mut record = vec![0];
+    if !set.master.is_empty() {
+        add_list(&mut record, 0, &set.master);
+    }
+    for (colour, bit) in set.colours.iter().zip(1..) {
+        if let Some(points) = colour {
+            add_list(&mut record, bit, points);
+        }
+    }
+    if named {
+        add(&mut record, 4, &[set.kind.number()]);
+    }
+    match set.kind {
+        Kind::Cardinal { tension } => add(&mut record, 5, &[tension]),
+        Kind::ClampedCubic { start_slope, end_slope } => {
+            let [a, b] = start_slope.to_le_bytes();
+            let [c, d] = end_slope.to_le_bytes();
+            add(&mut record, 6, &[a, b, c, d]);
+        }
+        _ => {}
+    }
+    record
+}
+
+/// "each a count byte, then x, y pairs"
+fn add_list(record: &mut Vec<u8>, bit: u8, points: &[u8]) {
+    add(record, bit, &[(points.len() / 2) as u8]);
+    record.extend_from_slice(points);
+}
+
+fn add(record: &mut Vec<u8>, bit: u8, field: &[u8]) {
+    record[0] |= 1 << bit;
+    record.extend_from_slice(field);
+}

@@ -1,0 +1,106 @@
+//! Both picture calls through the wrapper.
+use tone::{Format, Outputs, Planes, Refusal};
+
+/// The table that turns brightness round.
+fn negative() -> [u8; 256] {
+    std::array::from_fn(|v| 255 - v as u8)
+}
+
+/// Linear: the master is flat at 7, red turns brightness round, blue is empty and so flat at 0.
+const RECORD: [u8; 11] = [0x1B, 1, 0, 7, 2, 0, 255, 255, 0, 0, 0];
+
+#[test]
+fn one_table_keeps_alpha_and_padding() {
+    let before: Vec<u8> = (0..40).collect();
+    // (format, bytes a pixel, the channel kept)
+    for (format, pixel, kept) in [
+        (Format::Gray8, 1, None),
+        (Format::Ya8, 2, Some(1)),
+        (Format::Rgb24, 3, None),
+        (Format::Rgba, 4, Some(3)),
+        (Format::Cmyk, 4, None),
+        (Format::CmykInverted, 4, None),
+        (Format::Yuv420P, 1, None),
+        (Format::YuvJ444P, 1, None),
+    ] {
+        let mut plane = before.clone();
+        tone::plane(&negative(), format, 3, 2, &mut plane, 17).unwrap();
+        for (i, (now, then)) in plane.iter().zip(&before).enumerate() {
+            let (row, column) = (i / 17, i % 17);
+            let toned = row < 2 && column < 3 * pixel && Some(column % pixel) != kept;
+            assert_eq!(*now, if toned { 255 - then } else { *then }, "{format:?}, byte {i}");
+        }
+    }
+}
+
+#[test]
+fn p12_of_document_01() {
+    let mut row = [1, 2, 3, 4];
+    assert_eq!(tone::plane(&negative(), Format::Gray8, 4, 1, &mut row, 3), Err(Refusal::RowStep));
+    assert_eq!(row, [1, 2, 3, 4]);
+    tone::plane(&negative(), Format::Gray8, 4, 1, &mut row, 4).unwrap();
+    assert_eq!(row, [254, 253, 252, 251]);
+}
+
+#[test]
+fn a_set_tones_by_colour_into_tight_rows() {
+    let plane: Vec<u8> = (10..30).collect();
+    let mut out = [99; 14];
+    tone::picture(&RECORD, Format::Rgb24, 2, 2, Planes::one(&plane, 9), Outputs::one(&mut out)).unwrap();
+    assert_eq!(out, [245, 7, 0, 242, 7, 0, 236, 7, 0, 233, 7, 0, 99, 99]);
+    let mut out = [99; 9];
+    tone::picture(&RECORD, Format::Rgba, 1, 2, Planes::one(&plane, 9), Outputs::one(&mut out)).unwrap();
+    assert_eq!(out, [245, 7, 0, 13, 236, 7, 0, 22, 99]);
+}
+
+#[test]
+fn a_set_tones_grey_and_luma_by_the_master() {
+    let plane = [1, 2, 3, 4];
+    let mut out = [99; 5];
+    tone::picture(&RECORD, Format::Gray8, 2, 2, Planes::one(&plane, 2), Outputs::one(&mut out)).unwrap();
+    assert_eq!(out, [7, 7, 7, 7, 99]);
+    let (mut y, mut u, mut v) = ([99; 3], [99; 4], [99; 2]);
+    let planes = Planes::three(&plane, 3, [&[5, 6, 8], &[9]]);
+    tone::picture(&RECORD, Format::Yuv420P, 1, 2, planes, Outputs::three(&mut y, [&mut u, &mut v])).unwrap();
+    assert_eq!((y, u, v), ([7, 7, 99], [5, 6, 8, 99], [9, 99]));
+}
+
+#[test]
+fn refusals_of_the_one_table_call_come_in_order() {
+    let mut plane = [8; 10];
+    let table = negative();
+    assert_eq!(tone::plane(&table, 12, 4097, 1, &mut plane, 40_000), Err(Refusal::UnsupportedFormat));
+    assert_eq!(tone::plane(&table, 0, 4097, 1, &mut plane, 40_000), Err(Refusal::PictureTooLarge));
+    assert_eq!(tone::plane(&table, 0, 1, 5000, &mut plane, 40_000), Err(Refusal::PictureTooLarge));
+    assert_eq!(tone::plane(&table, 0, 1, 0, &mut plane, 32_769), Err(Refusal::RowStep));
+    assert_eq!(tone::plane(&table, 2, 4, 1, &mut plane, 11), Err(Refusal::RowStep));
+    assert_eq!(tone::plane(&table, 2, 4, 1, &mut plane, 12), Err(Refusal::PlaneTooShort));
+    assert_eq!(tone::plane(&table, 0, 3, 3, &mut plane, 4), Err(Refusal::PlaneTooShort));
+    assert_eq!(plane, [8; 10]);
+    tone::plane(&table, 0, 2, 3, &mut plane, 4).unwrap();
+    tone::plane(&table, Format::Gray8, 0, 4096, &mut [], 32_768).unwrap();
+}
+
+#[test]
+fn refusals_of_the_set_call_come_in_order() {
+    let plane = [8; 10];
+    let (mut y, mut u, mut v) = ([9; 5], [9; 1], [9; 1]);
+    let mut ask = |record: &[u8], format: u8, size: (u32, u32), count: usize, step: usize| {
+        let planes = Planes { count, first: &plane, step, chroma: [&[1, 2], &[3]] };
+        tone::picture(record, format, size.0, size.1, planes, Outputs::three(&mut y, [&mut u, &mut v]))
+    };
+    assert_eq!(ask(&[0x80], 1, (5000, 1), 0, 0), Err(Refusal::ReservedBit));
+    assert_eq!(ask(&RECORD[..10], 1, (5000, 1), 0, 0), Err(Refusal::RecordTruncated));
+    for format in [1, 4, 5, 12, 255] {
+        assert_eq!(ask(&RECORD, format, (5000, 1), 0, 0), Err(Refusal::UnsupportedFormat));
+    }
+    assert_eq!(ask(&RECORD, 0, (5000, 1), 0, 0), Err(Refusal::PictureTooLarge));
+    assert_eq!(ask(&RECORD, 0, (3, 3), 0, 0), Err(Refusal::MissingPlane));
+    assert_eq!(ask(&RECORD, 6, (3, 3), 2, 0), Err(Refusal::MissingPlane));
+    assert_eq!(ask(&RECORD, 6, (3, 3), 3, 2), Err(Refusal::RowStep));
+    assert_eq!(ask(&RECORD, 6, (3, 3), 3, 4), Err(Refusal::PlaneTooShort));
+    assert_eq!(ask(&RECORD, 0, (3, 2), 1, 3), Err(Refusal::OutputTooSmall));
+    assert_eq!(ask(&RECORD, 6, (2, 2), 3, 2), Err(Refusal::OutputTooSmall));
+    assert_eq!(ask(&RECORD, 0, (2, 2), 1, 2), Ok(()));
+    assert_eq!((y, u, v), ([7, 7, 7, 7, 9], [9], [9]));
+}
