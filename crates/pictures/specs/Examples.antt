@@ -1,9 +1,8 @@
--- Calls where a slip would show, computed from the definitions: document 01's P12, what is toned and what stays, the order of the refusals, and P2 in a picture.
-use mathlib.Core.Path.{_≡_, refl, _∙_}
+-- Calls where a slip would show, computed from the definitions: what is toned and what stays, and the order of the refusals.
+use mathlib.Core.Path.{_≡_, refl}
 use mathlib.Core.Bool.{false}
 use mathlib.Core.List.{List, [], _∷_, _++_}
-use Prim.Native.Nat.{ℕ, _+_, _<_}
-use native.Mathlib.Omega.{arith}
+use Prim.Native.Nat.{ℕ, _+_}
 use lib.ListN.{replicate}
 use Rattle.answers.specs.declared.Answer.{Answer}
 use Rattle.answers.specs.declared.Answer.the-variants.{
@@ -18,26 +17,24 @@ use Rattle.answers.specs.declared.Answer.the-variants.{
   OutputTooSmall,
 }
 use Rattle.lists.specs.Each.{each}
-use Rattle.lists.specs.Tabulate.{tabulate, tabulate-agree, filled}
+use Rattle.lists.specs.Tabulate.{tabulate}
 use Rattle.points.specs.declared.Point.{Point}
 use Rattle.points.specs.declared.Curve.{Curve}
 use Rattle.points.specs.Points.{pt, straight, risesFrom}
 use Rattle.tables.specs.declared.CurveInterpolation.the-variants.{Linear}
-use Rattle.tables.specs.Tables.{entryOf}
-use Rattle.tables.specs.Examples.{P2}
 use Rattle.sets.specs.declared.Curves.{Curves}
 use Rattle.sets.specs.declared.Channel.{Channel}
 use Rattle.sets.specs.Sets.{curveAnswer, channelAnswer, setAnswer}
 use Rattle.rows.specs.Bytes.{toned, rowByte}
-use Rattle.rows.specs.Rows.{inRow, planeByte, needed, tightByte}
+use Rattle.rows.specs.Rows.{inRow, planeByte, needed}
 use Rattle.formats.specs.declared.PixelFormat.{PixelFormat}
 use Rattle.formats.specs.declared.PixelFormat.the-variants.{Gray8, Rgba, Cmyk, Yuv420P}
 use Rattle.formats.specs.Checks.{planeAnswer, lutAnswer, pictureAnswer}
 use Rattle.pictures.specs.OneTable.{tonedWithin}
-use Rattle.pictures.specs.Runs.{Run, given, answer, first, chroma}
+use Rattle.pictures.specs.Runs.{Run, given, answer, chroma}
 
 -- a list as it is stored, zeros behind it, and the set of this master alone
-abbrev stored : List Point → ℕ → Curve
+abbrev pub stored : List Point → ℕ → Curve
 stored l n = record { points = l ++ replicate 64 (pt 0 0); count = n }
 
 abbrev absent : Channel
@@ -46,40 +43,24 @@ absent = record { present = false; curve = stored [] 0 }
 abbrev alone : Curve → Curves
 alone c = record { master = c; red = absent; green = absent; blue = absent; interpolation = Linear }
 
-abbrev line : Curve
+abbrev pub line : Curve
 line = stored straight 2
 
 -- a run of w columns and h rows, out of a plane of len bytes, with chroma of 3 bytes each
-abbrev run : Curve → PixelFormat → ℕ → ℕ → ℕ → ℕ → ℕ → ℕ → ℕ → Run
+abbrev pub run : Curve → PixelFormat → ℕ → ℕ → ℕ → ℕ → ℕ → ℕ → ℕ → Run
 run master f w h planes step len out outCr =
     given (alone master) f w h planes (replicate len 5) step (1 ∷ 2 ∷ 3 ∷ []) 7 (4 ∷ 5 ∷ 6 ∷ []) 9 (replicate out 0) (replicate 3 0) (replicate outCr 0)
 
 -- what an answer opens, named in this one place: a theorem that unfolds `answered` unfolds them too
-answered : Run → Answer
+unfoldable pub answered : Run → Answer
 unfolding answer setAnswer curveAnswer channelAnswer risesFrom pictureAnswer planeAnswer needed
 answered = answer
 
-lutAnswered : PixelFormat → ℕ → ℕ → ℕ → ℕ → Answer
+unfoldable pub lutAnswered : PixelFormat → ℕ → ℕ → ℕ → ℕ → Answer
 unfolding lutAnswer planeAnswer needed
 lutAnswered = lutAnswer
 
--- ---- P12, in both calls
-pub P12-lut : lutAnswer Gray8 4 1 3 4 ≡ RowStep
-unfolding lutAnswered
-P12-lut = refl
-
-pub P12-lut-passes : lutAnswer Gray8 4 1 4 4 ≡ Done
-unfolding lutAnswered
-P12-lut-passes = refl
-
-pub P12-set : answer (run line Gray8 4 1 1 3 4 4 0) ≡ RowStep
-unfolding answered
-P12-set = refl
-
-pub P12-set-passes : answer (run line Gray8 4 1 1 4 4 4 0) ≡ Done
-unfolding answered
-P12-set-passes = refl
-
+-- ---- the one-table call: what it answers
 -- "also at height 0"; and without columns no byte is needed
 pub no-rows : lutAnswer Gray8 4 0 3 0 ≡ RowStep
 unfolding lutAnswered
@@ -148,21 +129,10 @@ pub accepted : answer (run line Yuv420P 4 2 3 4 8 8 3) ≡ Done
 unfolding answered
 accepted = refl
 
--- ---- P2 in a picture: rows of 2 bytes and padding; chroma goes over, the byte after the tight rows stays
-abbrev flat : Run
-flat = run (stored (pt 128 200 ∷ []) 1) Yuv420P 2 2 3 3 5 5 4
+-- ---- chroma goes over, and the byte after it stays
+abbrev roomy : Run
+roomy = run line Yuv420P 4 2 3 4 8 8 4
 
-P2-rule : replicate {A = ℕ} 256 200 ≡ tabulate 256 (λ (v : ℕ). 200)
-unfolding tabulate
-P2-rule = refl
-
-P2-entry : (v : ℕ) → v < 256 → entryOf Linear (pt 128 200 ∷ []) v ≡ 200
-P2-entry v lt = tabulate-agree (entryOf Linear (pt 128 200 ∷ [])) (λ w. 200) (P2 ∙ P2-rule) v lt
-
-pub P2-first : first flat ≡ 200 ∷ 200 ∷ 200 ∷ 200 ∷ 0 ∷ []
-unfolding answered first filled tabulate tightByte rowByte toned
-P2-first = rw (P2-entry 5 (omega arith))
-
-pub P2-chroma : chroma flat (flat .cr) (flat .outCr) ≡ 4 ∷ 5 ∷ 6 ∷ 0 ∷ []
+pub chroma-copied : chroma roomy (roomy .cr) (roomy .outCr) ≡ 4 ∷ 5 ∷ 6 ∷ 0 ∷ []
 unfolding answered chroma
-P2-chroma = refl
+chroma-copied = refl

@@ -8,9 +8,8 @@ use mathlib.Core.List.{List, [], _∷_, List·Memᴰ, List·Memᴰ·head, List·
 use lib.Dec.{lit<, lit≤}
 use lib.ListN.{getD}
 use lib.Seq.{getD-take}
-use Rattle.answers.specs.declared.Answer.{Answer}
 use Rattle.points.specs.declared.Point.{Point}
-use Rattle.points.specs.Points.{pt, straight, risesFrom}
+use Rattle.points.specs.Points.{pt, straight}
 use Rattle.points.specs.Knots.{rest, knots, OnLine}
 use Rattle.hermite.specs.CatmullRom.{slope}
 use Rattle.hermite.specs.Monotone.{secantAt, meanAt, boxed, adjusted, reached, monotoneAt}
@@ -18,12 +17,11 @@ use Rattle.spline.specs.Second.{recovered, endsRecovered, notAKnotAt}
 use Rattle.tables.specs.declared.CurveInterpolation.{CurveInterpolation}
 use Rattle.tables.specs.declared.CurveInterpolation.the-variants.{Linear, MonotoneCubicBox, NotAKnotCubic}
 use Rattle.tables.specs.Tables.{entryOf}
-use Rattle.tables.specs.Examples as Tables
-use Rattle.sets.specs.Sets.{curveAnswer, channelAnswer, setAnswer}
-use Rattle.rows.specs.Rows.{inRow, needed}
+use Rattle.rows.specs.Rows.{inRow}
 use Rattle.formats.specs.declared.PixelFormat.the-variants.{Gray8, Rgba, Yuv420P}
-use Rattle.formats.specs.Checks.{planeAnswer, pictureAnswer}
-use Rattle.pictures.specs.Runs.{Run, answer}
+use Rattle.pictures.specs.Runs.{Run}
+use Rattle.pictures.specs.Examples.{answered}
+use Rattle.examples.specs.Computed as Computed
 use Rattle.promises.specs.Words.{
   Call,
   Accepted,
@@ -46,14 +44,10 @@ use Rattle.promises.specs.Words.{
 use Rattle.promises.specs.Demand3.{through-points, passed-through}
 use Rattle.promises.specs.Pixels.{Toning, Strip, AreBytes, runOf, ran, shared, here, grey, ranGrey, grey-toned, grey-input, grey-output}
 
--- what the computation of an entry opens, and that of an answer
+-- what the computation of an entry opens, under every kind that is used here
 computed : CurveInterpolation → List Point → ℕ → ℕ
-unfolding Tables.computed slope secantAt meanAt boxed adjusted reached monotoneAt recovered endsRecovered notAKnotAt
+unfolding Computed.entry slope secantAt meanAt boxed adjusted reached monotoneAt recovered endsRecovered notAKnotAt
 computed = entryOf
-
-checked : Run → Answer
-unfolding answer setAnswer curveAnswer channelAnswer risesFrom pictureAnswer planeAnswer needed
-checked = answer
 
 -- ---- "order", with P for its premise on kind and lists
 abbrev OrderUnder : (Run → Type 0) → Type 0
@@ -91,7 +85,7 @@ unfolding computed
 falling-at-255 = refl
 
 pub order-wants-no-list-to-fall : OrderUnder IsLinear → ⊥
-unfolding checked
+unfolding answered
 order-wants-no-list-to-fall =
     order-refuted IsLinear falling 0 255 (lit< tt) (lit< tt) (lit≤ tt) (omega (arith, falling-at-0, falling-at-255)) refl refl refl
 
@@ -113,7 +107,7 @@ unfolding computed
 steep-at-34 = refl
 
 pub order-wants-linear : OrderUnder NoListFalls → ⊥
-unfolding checked
+unfolding answered
 order-wants-linear =
     order-refuted NoListFalls steep 33 34 (lit< tt) (lit< tt) (lit≤ tt) (omega (arith, steep-at-33, steep-at-34)) refl refl
     (record { master = (lit≤ tt, (lit≤ tt, (lit≤ tt, tt))); red = tt; green = tt; blue = tt })
@@ -130,7 +124,7 @@ unfolding knots rest
 steep-line-at-34 = record { i = 1; inside = lit< tt; left = lit≤ tt; right = lit≤ tt; width = refl; height = refl }
 
 pub near-wants-linear : NearUnder (λ r. Unit {0}) Nearest → ⊥
-unfolding checked
+unfolding answered
 near-wants-linear near =
     let byte : 34 < 256 = lit< tt in
     let claim = near (ranGrey steep 34 byte) refl tt here (grey-toned steep 34) 3283 65 steep-line-at-34 in
@@ -153,7 +147,7 @@ unfolding computed
 ramp-at-7 = refl
 
 pub near-goes-either-way : NearUnder IsLinear (λ n d b. 2 * n < 2 * (b * d) + d) → ⊥
-unfolding checked
+unfolding answered
 near-goes-either-way up =
     let byte : 7 < 256 = lit< tt in
     omega (arith, up (ranGrey ramp 7 byte) refl refl here (grey-toned ramp 7) 378 12 ramp-line-at-7, grey-output ramp 7 byte refl, ramp-at-7)
@@ -175,7 +169,7 @@ pub through-points-wants-no-spline :
     ((a : Call) → Accepted a → (p : Place) → TonedAt (a .given) p
     → (q : Point) → List·Memᴰ q (listThatTones (a .given) p) → input a p ≡ q .x → output a p ≡ q .y)
     → ⊥
-unfolding checked
+unfolding answered
 through-points-wants-no-spline through =
     let byte : 163 < 256 = lit< tt in
     omega (
@@ -211,7 +205,7 @@ pub rows-alone-wants-alpha :
     ((a b : Call) → Share a b → Accepted a → Accepted b → ((p : Place) → TonedAt (a .given) p → input a p ≡ input b p) → AlikeInChroma a b
     → WriteTheSame a b)
     → ⊥
-unfolding checked
+unfolding answered
 rows-alone-wants-alpha claim =
     let bytes : (x : ℕ) → x < 256 → AreBytes (colours x) = λ x h. (lit< tt, (lit< tt, (lit< tt, (h, tt)))) in
     let a-bytes = bytes 1 (lit< tt) in
@@ -236,7 +230,7 @@ abbrev tinted : ℕ → Strip
 tinted cb = record { by = straightLine; format = Yuv420P; height = 1; plane = 5 ∷ []; step = 1; chroma = cb ∷ [] }
 
 pub rows-alone-wants-chroma : ((a b : Call) → Share a b → Accepted a → Accepted b → AlikeInRows a b → WriteTheSame a b) → ⊥
-unfolding checked
+unfolding answered
 rows-alone-wants-chroma claim =
     let a = ran (tinted 1) (lit< tt, tt) in
     let b = ran (tinted 2) (lit< tt, tt) in
@@ -253,7 +247,7 @@ padded = record { by = straightLine; format = Gray8; height = 2; plane = 5 ∷ 9
 
 pub rows-alone-with-padding :
     (a b : Call) × Share a b × Accepted a × Accepted b × AlikeInRows a b × (a .given .plane .step < b .given .plane .step) × IsPadding (b .given) 1
-unfolding checked inRow
+unfolding answered inRow
 rows-alone-with-padding =
     let a-bytes : AreBytes (unpadded .plane) = (lit< tt, (lit< tt, tt)) in
     let b-bytes : AreBytes (padded .plane) = (lit< tt, (lit< tt, (lit< tt, (lit< tt, tt)))) in
@@ -276,7 +270,7 @@ linear-is-no-spline : IsSpline Linear → ⊥
 linear-is-no-spline e = let z : _≡_ {A = ℕ} 0 1 = cc in omega arith
 
 pub no-flat-table : (t : ℕ) → ((a : Call) → Accepted a → (p : Place) → TonedAt (a .given) p → output a p ≡ t) → ⊥
-unfolding checked
+unfolding answered
 no-flat-table t flat =
     let a = ranGrey straightLine 0 (lit< tt) in
     let b = ranGrey straightLine 255 (lit< tt) in
@@ -294,7 +288,7 @@ abbrev lifted : Toning
 lifted = record { list = pt 128 200 ∷ []; kind = Linear; bytes = ((lit< tt, lit< tt), tt); tension = lit< tt }
 
 pub no-copy : ((a : Call) → Accepted a → (p : Place) → TonedAt (a .given) p → output a p ≡ input a p) → ⊥
-unfolding checked
+unfolding answered
 no-copy copied =
     let a = ranGrey lifted 128 (lit< tt) in
     let a-here = grey-toned lifted 128 in

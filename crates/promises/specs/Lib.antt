@@ -1,8 +1,24 @@
--- The third demand of the mission: Words says what its words mean, Demand3 states its clauses in full and cites their proofs. These stand in PictureFacts,
--- with ListFacts below it. Controls shows by computed runs, made in Pixels, that its premises are needed.
+-- What is promised, a page for each demand of the mission, in full; the proofs stand apart and are cited.
+-- Demand1: every call on anything at all answers with the first refusal, and a refusal changes nothing. Checks has document 01's checks, call by call and in
+-- its order. Boundary says the same of the calls of the C boundary, with BoundaryChecks.
+-- Demand2: each call gives what its definition says, the curves are the published ones, and records survive writing then reading. Results has its words.
+-- Demand3: what two runs of the set call owe. Words has its words; Controls shows by computed runs, made in Pixels, that its premises are needed.
+-- P1 to P12 are a table of their own, Marked of the crate `examples`.
+-- Proofs of the first demand: Follows, RecordChecks, CheckFacts; of the second: Drawn, ResultFacts; of the third: ListFacts, PictureFacts.
+pub mod Checks
+pub mod Follows
+pub mod RecordChecks
+pub mod CheckFacts
+pub mod Demand1
+pub mod BoundaryChecks
+pub mod Boundary
 pub mod Words
 pub mod ListFacts
 pub mod PictureFacts
+pub mod Results
+pub mod Drawn
+pub mod ResultFacts
+pub mod Demand2
 pub mod Demand3
 pub mod Pixels
 pub mod Controls

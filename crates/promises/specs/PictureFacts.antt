@@ -3,14 +3,14 @@ use Prim.Native.Nat.{ℕ, _+_, _-_, _/_, _%_, _≤_, _<_}
 use native.Mathlib.Nat.{mod-lt, div-lt-iff-lt-mul, eq-zero-or-pos, mul-zero, div-add-mod'}
 use native.Mathlib.Decide.{ℕ-discrete}
 use native.Mathlib.Omega.{arith}
-use mathlib.Core.Path.{_≡_, refl, sym, ap, _∙_}
+use mathlib.Core.Path.{_≡_, sym, ap, _∙_}
 use mathlib.Core.Logic.{⊎-elim}
 use mathlib.Core.Bool.{true, false, false≢true}
 use mathlib.Core.List.{List, _++_, List·Memᴰ}
 use lib.ListN.{length, getD, take, drop, length-append, length-drop}
 use lib.Seq.{take-append-seam, getD-append-add, getD-drop, length-take-le, getD-take, ext-getD}
 use borrow.Author.Tests.{lt-ltb}
-use Rattle.lists.specs.Tabulate.{tabulate, filled, length-tabulate, is-tabulate, length-filled, getD-filled-rest}
+use Rattle.lists.specs.Tabulate.{filled, length-filled, getD-filled-rest}
 use Rattle.floats.specs.Frac.{frac}
 use Rattle.floats.specs.Nearest as Whole
 use Rattle.single.specs.RuleLaws.{by-test}

@@ -1,23 +1,20 @@
--- P10 and P11 of document 01; for each refusal a record that has it; and the order of the refusals within a field.
-use Prim.Native.Nat.{ℕ}
+-- For the refusals 2 to 6 a record that has it, and their order within a field; 1 and 7 are document 01's P11 and P10.
 use mathlib.Core.Path.{_≡_, refl}
 use mathlib.Core.List.{[], _∷_}
 use mathlib.Core.Option.{some}
 use lib.IntN.{pos, negsuc}
 use Rattle.answers.specs.declared.Answer.the-variants.{
   Done,
-  ReservedBit,
   RecordTruncated,
   PointCount,
   PointsNotRising,
   UnknownKind,
   FieldMismatch,
-  TrailingBytes,
 }
-use Rattle.points.specs.Points.{straight, risesFrom}
-use Rattle.tables.specs.declared.CurveInterpolation.the-variants.{Linear, Cardinal, ClampedCubic}
+use Rattle.points.specs.Points.{risesFrom}
+use Rattle.tables.specs.declared.CurveInterpolation.the-variants.{Cardinal, ClampedCubic}
 use Rattle.sets.specs.declared.Colour.the-variants.{Red}
-use Rattle.sets.specs.Sets.{emptyView, masterOnly, withColour, withKind}
+use Rattle.sets.specs.Sets.{emptyView, withColour, withKind}
 use Rattle.records.specs.Format.{
   pairs,
   readPoints,
@@ -32,19 +29,6 @@ use Rattle.records.specs.Format.{
   result,
   refused,
 }
-
-pub P10 : readRecord (0x11 ∷ 2 ∷ 0 ∷ 0 ∷ 0xff ∷ 0xff ∷ 0 ∷ []) ≡ record { answer = Done; set = withKind Linear (masterOnly straight) }
-unfolding readRecord readFields readList readPoints pairs readKind readNumber readCarried risesFrom
-P10 = refl
-
--- "with one byte more, 7"
-pub P10-longer : (b : ℕ) → readRecord (0x11 ∷ 2 ∷ 0 ∷ 0 ∷ 0xff ∷ 0xff ∷ 0 ∷ b ∷ []) ≡ result (refused TrailingBytes)
-unfolding readRecord readFields readList readPoints pairs readKind readNumber readCarried risesFrom
-P10-longer b = refl
-
-pub P11 : readRecord (0x80 ∷ []) ≡ result (refused ReservedBit)
-unfolding readRecord
-P11 = refl
 
 -- ---- accepted
 -- "a count of 0 being an empty one"

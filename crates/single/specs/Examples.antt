@@ -1,10 +1,9 @@
--- The small rules on single floats where a slip would show, computed: halves, the float just below one, both zeros, NaN, and the lowest slope.
+-- The small rules on single floats where a slip would show, computed: halves, the float just below one, both zeros, and NaN.
 use mathlib.Core.Path.{_≡_, refl}
-use lib.IntN.{negsuc}
-use lib.Ieee.{Float, nan, binary32, lt, add, div, ofInt, ofBits}
-use Rattle.floats.specs.Notation.{_⊕_, _⊘_}
+use lib.Ieee.{Float, nan, binary32, lt, add, ofBits}
+use Rattle.floats.specs.Notation.{_⊕_}
 use Rattle.floats.specs.Value.{Is, absolute}
-use Rattle.single.specs.Constants.{𝟎, ½, 𝟏, 𝟐𝟓𝟔}
+use Rattle.single.specs.Constants.{𝟎, ½, 𝟏}
 use Rattle.single.specs.Rules.{clamped, byteOf}
 
 abbrev pub −𝟎 : Float
@@ -59,8 +58,3 @@ clamped-minus-zero = refl
 pub absolute-minus-zero : absolute −𝟎 ≡ 𝟎
 unfolding absolute ofBits
 absolute-minus-zero = refl
-
--- ---- P8: slope −32,768 is −128.0. In ℤ the number −(n + 1) is negsuc n.
-pub lowest-slope : ofInt binary32 (negsuc 32767) ⊘ 𝟐𝟓𝟔 ≡ ofInt binary32 (negsuc 127)
-unfolding div ofInt ofBits
-lowest-slope = refl

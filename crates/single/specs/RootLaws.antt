@@ -116,11 +116,6 @@ unfolding rootOf
 root-of-negative m e = refl
 
 -- ---- by computation
--- P9: the root of 2.0 has the bits 0x3FB504F3
-pub root-of-two : toBits binary32 (rootOf 𝟐) ≡ 0x3fb5_04f3
-unfolding rootOf ofBits toBits
-root-of-two = refl
-
 pub root-of-four : rootOf (ofBits binary32 0x4080_0000) ≡ 𝟐
 unfolding rootOf ofBits
 root-of-four = refl

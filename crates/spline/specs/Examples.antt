@@ -1,13 +1,11 @@
--- Few knots, and P8: the cases where document 01 says what comes out.
+-- Few knots: the cases where document 01 says what comes out.
 use mathlib.Core.Path.{_≡_, refl}
 use mathlib.Core.List.{List}
 use Prim.Native.Nat.{ℕ}
-use lib.IntN.{negsuc}
-use lib.Ieee.{Float, binary32, ofInt}
+use lib.Ieee.{Float}
 use Rattle.single.specs.Constants.{𝟎}
-use Rattle.single.specs.Examples as Single
 use Rattle.spline.specs.declared.SplineBoundary.the-variants.{Natural, NotAKnot}
-use Rattle.spline.specs.Segments.{segmentAt, slopeOf}
+use Rattle.spline.specs.Segments.{segmentAt}
 use Rattle.spline.specs.Second.{parabola, framed, notAKnotAt, secondAt}
 
 -- ---- not-a-knot: two knots, three knots
@@ -23,8 +21,3 @@ three-knots xs ys i = refl
 pub natural-start : (xs ys : List Float) (n : ℕ) → secondAt xs ys n Natural 0 ≡ 𝟎
 unfolding framed secondAt
 natural-start xs ys n = refl
-
--- ---- P8: slope −32,768 is −128.0
-pub lowest-slope : slopeOf (negsuc 32767) ≡ ofInt binary32 (negsuc 127)
-unfolding slopeOf
-lowest-slope = Single.lowest-slope

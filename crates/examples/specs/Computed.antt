@@ -1,0 +1,33 @@
+-- What a computation opens, named in this one place: a theorem that unfolds one of these unfolds all that stands in its list. Each is another name of the
+-- definition that it is equal to.
+use Prim.Native.Nat.{ℕ}
+use mathlib.Core.List.{List}
+use lib.Ieee.{add, sub, neg, mul, div, lt, ofInt, ofBits}
+use Rattle.lists.specs.Tabulate.{tabulate, filled}
+use Rattle.floats.specs.Value.{absolute}
+use Rattle.single.specs.Rules.{clamped, byteOf, guardedQuotient}
+use Rattle.points.specs.declared.Point.{Point}
+use Rattle.points.specs.Points.{risesFrom, firstAt, keptBelow, kept}
+use Rattle.points.specs.Knots.{rest, knots, xAt, yAt, xRow, yRow}
+use Rattle.hermite.specs.Segments.{step, sampleAt, seek, segment}
+use Rattle.hermite.specs.Pieces as Piece
+use Rattle.hermite.specs.CatmullRom.{looseness, looseSlope, cardinalAt}
+use Rattle.spline.specs.Segments.{between, segmentAt, splinePiece, slopeOf}
+use Rattle.spline.specs.Second.{rowAt, unknown, framed, secondAt}
+use Rattle.spline.specs.Thomas.{scaled, sweep, swept, sweptRow, backward, substituted, solution}
+use Rattle.sampling.specs.Pieces.{heightOf, heightAt, sampled}
+use Rattle.tables.specs.declared.CurveInterpolation.{CurveInterpolation}
+use Rattle.tables.specs.Tables.{unclampedAt, sampleOf, entryOf}
+use Rattle.records.specs.Format.{Read, pairs, readPoints, readList, readKind, readNumber, readCarried, readFields, readRecord}
+
+-- an entry of a byte table
+unfoldable pub entry : CurveInterpolation → List Point → ℕ → ℕ
+unfolding entryOf sampleOf sampled unclampedAt heightAt heightOf kept keptBelow firstAt knots rest xRow yRow xAt yAt filled tabulate
+    step sampleAt seek segment Piece.part Piece.straight Piece.hermite looseness looseSlope cardinalAt between segmentAt splinePiece slopeOf secondAt framed
+    unknown rowAt solution substituted backward sweptRow swept sweep scaled guardedQuotient absolute clamped byteOf add sub neg mul div lt ofInt ofBits
+entry = entryOf
+
+-- what a reader makes of a record
+unfoldable pub read : List ℕ → Read
+unfolding readRecord readFields readList readPoints pairs readKind readNumber readCarried risesFrom
+read = readRecord

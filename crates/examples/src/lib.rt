@@ -1,0 +1,1 @@
+// The marked examples stand in specs/: no code.

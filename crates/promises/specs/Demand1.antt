@@ -1,0 +1,78 @@
+-- The first demand, call by call. "If a call is given any list, set, record, table or planes at all, it finishes with the toned result or with the first
+-- refusal number that document 01 names, and a refusal changes no byte lent."
+-- That a call finishes is the language's check, made of every function, and no open call asks anything of what it is given. Each statement here follows from
+-- the call's contract alone, and so holds of every run: the answer has the number of the first of the call's checks that fails, 0 where none does; and where
+-- it is a refusal, what was lent is as it was, and what is handed back is empty. With 0 the call gives its result, which is the second demand's.
+use Prim.Native.Nat.{ℕ}
+use mathlib.Core.Path.{_≡_}
+use mathlib.Core.List.{List, []}
+use lib.ListN.{length, replicate}
+use lib.Ieee.{Float}
+use Rattle.answers.specs.declared.Answer.{Answer}
+use Rattle.answers.specs.Numbers.{numberOf}
+use Rattle.points.specs.declared.Curve.{Curve}
+use Rattle.points.specs.declared.Sorted.{Sorted}
+use Rattle.points.specs.Points.{listOf, SortedFrom}
+use Rattle.tables.specs.declared.CurveInterpolation.{CurveInterpolation}
+use Rattle.tables.specs.declared.Lut.{Lut}
+use Rattle.tables.specs.Tables.{BuiltTable, BuiltLut}
+use Rattle.lookup.specs.Lookup.{LookupCall}
+use Rattle.sets.specs.declared.Curves.{Curves}
+use Rattle.sets.specs.Sets.{viewOf, emptyView}
+use Rattle.records.specs.declared.RecordRead.{RecordRead}
+use Rattle.records.specs.Format.{readRecord}
+use Rattle.records.specs.Views.{HandedBack}
+use Rattle.writing.specs.declared.Written.{Written}
+use Rattle.writing.specs.Contracts.{Wrote}
+use Rattle.formats.specs.declared.PixelFormat.{PixelFormat}
+use Rattle.pictures.specs.declared.Toned.{Toned}
+use Rattle.pictures.specs.OneTable.{LutCall}
+use Rattle.pictures.specs.Runs.{Run, SetCall}
+use Rattle.promises.specs.Checks.{Answers, listChecks, tableChecks, lookupChecks, writeChecks, recordChecks, lutChecks, runChecks}
+use Rattle.promises.specs.CheckFacts as Fact
+
+-- ---- "any list"
+-- `Curve::new`
+pub new : {given : Curve} {r : Sorted} → SortedFrom given r
+    → Answers (listChecks given) (numberOf (r .answer)) (listOf (r .curve) ≡ [])
+new = Fact.new-answers
+
+-- `build_lut`
+pub build-lut : {given : Curve} {kind : CurveInterpolation} {r : Lut} → BuiltLut given kind r
+    → Answers (listChecks given) (numberOf (r .answer)) (r .table ≡ replicate 256 0)
+build-lut = Fact.build-lut-answers
+
+-- `build_table`
+pub build-table : {given : Curve} {kind : CurveInterpolation} {old new : List Float} {r : Answer} → BuiltTable given kind old r new
+    → Answers (tableChecks given (length old)) (numberOf r) (new ≡ old)
+build-table = Fact.build-table-answers
+
+-- ---- "set"
+-- `write_record`
+pub write-record : {set : Curves} {old new : List ℕ} {r : Written} → Wrote set old r new
+    → Answers (writeChecks set (length old)) (numberOf (r .answer)) (new ≡ old)
+write-record = Fact.write-record-answers
+
+-- ---- "record"
+-- `read_record`
+pub read-record : (s : List ℕ) {r : RecordRead} → HandedBack (readRecord s) r
+    → Answers (recordChecks s) (numberOf (r .answer)) (viewOf (r .set) ≡ emptyView)
+read-record = Fact.read-record-answers
+
+-- ---- "table"
+-- `lookup`
+pub lookup : {table old new : List Float} {r : Answer} → LookupCall table old r new
+    → Answers (lookupChecks (length table)) (numberOf r) (new ≡ old)
+lookup = Fact.lookup-answers
+
+-- ---- "or planes at all"
+-- `apply_tone_lut`
+pub apply-tone-lut : {format : PixelFormat} {width height step : ℕ} {table old new : List ℕ} {r : Answer}
+    → LutCall format width height step table old r new
+    → Answers (lutChecks format width height step (length old)) (numberOf r) (new ≡ old)
+apply-tone-lut = Fact.apply-tone-lut-answers
+
+-- `apply_pixels`
+pub apply-pixels : {run : Run} {r : Toned} {out cb cr : List ℕ} → SetCall run r out cb cr
+    → Answers (runChecks run) (numberOf (r .answer)) ((out ≡ run .out) × (cb ≡ run .outCb) × (cr ≡ run .outCr))
+apply-pixels = Fact.apply-pixels-answers

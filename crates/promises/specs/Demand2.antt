@@ -1,0 +1,173 @@
+-- The second demand. "Everywhere else tables and pictures equal the Rust's, bit for bit": that is a matter of running both, and docs/DIFFERENCES.md has what
+-- was compared. What is proved stands here: each call that answers 0 gives what its definition says, the definitions are those of the published
+-- curves, and records survive writing then reading. What a call gives with another number is the first demand's.
+use Prim.Native.Nat.{ℕ, _≤_}
+use mathlib.Core.Path.{_≡_}
+use mathlib.Core.Bool.{true, false}
+use mathlib.Core.List.{List, _++_}
+use lib.IntN.{ℤ}
+use lib.ListN.{length, take, drop}
+use lib.Ieee.{Float}
+use Rattle.lists.specs.Tabulate.{tabulate}
+use Rattle.answers.specs.declared.Answer.{Answer}
+use Rattle.answers.specs.declared.Answer.the-variants.{Done}
+use Rattle.answers.specs.Numbers.{numberOf}
+use Rattle.single.specs.Rules.{byteOf}
+use Rattle.points.specs.declared.Point.{Point}
+use Rattle.points.specs.declared.Curve.{Curve}
+use Rattle.points.specs.declared.Sorted.{Sorted}
+use Rattle.points.specs.Points.{listOf, kept, SortedFrom}
+use Rattle.hermite.specs.CatmullRom.{catmullRomAt, cardinalAt}
+use Rattle.hermite.specs.Monotone.{monotoneAt}
+use Rattle.hermite.specs.Alpha.{alphaAt}
+use Rattle.spline.specs.declared.SplineBoundary.the-variants.{Natural, Clamped, NotAKnot}
+use Rattle.spline.specs.Segments.{slopeOf}
+use Rattle.sampling.specs.Pieces.{heightOf}
+use Rattle.tables.specs.declared.CurveInterpolation.{CurveInterpolation}
+use Rattle.tables.specs.declared.CurveInterpolation.the-variants.{
+  Linear,
+  CatmullRom,
+  MonotoneCubic,
+  MonotoneCubicBox,
+  NaturalCubic,
+  CentripetalCatmullRom,
+  ChordalCatmullRom,
+  Cardinal,
+  ClampedCubic,
+  NotAKnotCubic,
+}
+use Rattle.tables.specs.declared.Lut.{Lut}
+use Rattle.tables.specs.Tables.{sampleOf, entryOf, BuiltTable, BuiltLut}
+use Rattle.lookup.specs.Lookup.{looked, LookupCall}
+use Rattle.sets.specs.declared.Curves.{Curves}
+use Rattle.sets.specs.Sets.{View, viewOf}
+use Rattle.sets.specs.Carried.{LegalKind}
+use Rattle.sets.specs.Legal.{Legal}
+use Rattle.sets.specs.Same.{Same}
+use Rattle.records.specs.declared.RecordRead.{RecordRead}
+use Rattle.records.specs.Format.{readRecord}
+use Rattle.records.specs.Views.{HandedBack}
+use Rattle.writing.specs.declared.Written.{Written}
+use Rattle.writing.specs.Encode.{encode, roomAnswer}
+use Rattle.writing.specs.Contracts.{Wrote}
+use Rattle.writing.specs.RoundTrip as RoundTrip
+use Rattle.writing.specs.NotLonger as NotLonger
+use Rattle.writing.specs.Runs as Writing
+use Rattle.formats.specs.declared.PixelFormat.{PixelFormat}
+use Rattle.pictures.specs.OneTable.{LutCall}
+use Rattle.promises.specs.Words.{Call, Accepted, ExactPicture}
+use Rattle.promises.specs.Results.{straightly, hermiteBy, splineBy, ExactPlane}
+use Rattle.promises.specs.ResultFacts as Fact
+use Rattle.promises.specs.Drawn.{drawn}
+use Rattle.promises.specs.PictureFacts.{as-defined}
+
+-- ---- "tables"
+-- `Curve::new`: the kept points
+pub new : {given : Curve} {r : Sorted} → SortedFrom given r → numberOf (r .answer) ≡ 0 → listOf (r .curve) ≡ kept (listOf given)
+new = Fact.new-sorts
+
+-- `build_lut`: each of 256 samples to a byte
+pub build-lut : {given : Curve} {kind : CurveInterpolation} {r : Lut} → BuiltLut given kind r → numberOf (r .answer) ≡ 0
+    → r .table ≡ tabulate 256 (λ v. byteOf (sampleOf kind (listOf given) 256 v))
+unfolding entryOf
+build-lut = Fact.build-lut-builds
+
+-- `build_table`: as many samples as the slice holds
+pub build-table : {given : Curve} {kind : CurveInterpolation} {old new : List Float} {r : Answer} → BuiltTable given kind old r new → numberOf r ≡ 0
+    → new ≡ tabulate (length old) (λ v. sampleOf kind (listOf given) (length old) v)
+build-table = Fact.build-table-builds
+
+-- `lookup`: each value replaced
+pub lookup : {table old new : List Float} {r : Answer} → LookupCall table old r new → numberOf r ≡ 0
+    → new ≡ tabulate (length old) (λ k. looked table old k)
+lookup = Fact.lookup-replaces
+
+-- ---- "and pictures"
+-- `apply_tone_lut`
+pub apply-tone-lut : {format : PixelFormat} {width height step : ℕ} {table old new : List ℕ} {r : Answer}
+    → LutCall format width height step table old r new → numberOf r ≡ 0 → ExactPlane format width height step table old new
+apply-tone-lut = Fact.apply-tone-lut-tones
+
+-- `apply_pixels`
+pub apply-pixels : (a : Call) → Accepted a → ExactPicture a
+apply-pixels = as-defined
+
+-- ---- "The port is also proved equal to definitions of the published curves in single precision"
+-- sample v of S of the curve of the list l, kind by kind
+module _ (l : List Point) (S v : ℕ) where
+  -- the straight line
+  pub linear : sampleOf Linear l S v ≡ straightly l S v
+  unfolding heightOf
+  linear = drawn l S v Linear
+
+  -- Catmull and Rom, "A class of local interpolating splines", 1974
+  pub catmull-rom : sampleOf CatmullRom l S v ≡ hermiteBy l S v catmullRomAt
+  unfolding heightOf
+  catmull-rom = drawn l S v CatmullRom
+
+  pub cardinal : (q : ℕ) → sampleOf (Cardinal q) l S v ≡ hermiteBy l S v (cardinalAt q)
+  unfolding heightOf
+  cardinal q = drawn l S v (Cardinal q)
+
+  -- Fritsch and Carlson, "Monotone Piecewise Cubic Interpolation", 1980: the circle, and the box
+  pub monotone-cubic : sampleOf MonotoneCubic l S v ≡ hermiteBy l S v (monotoneAt false)
+  unfolding heightOf
+  monotone-cubic = drawn l S v MonotoneCubic
+
+  pub monotone-cubic-box : sampleOf MonotoneCubicBox l S v ≡ hermiteBy l S v (monotoneAt true)
+  unfolding heightOf
+  monotone-cubic-box = drawn l S v MonotoneCubicBox
+
+  -- Barry and Goldman, "A recursive evaluation algorithm for a class of Catmull-Rom splines", 1988: by the root of the chord, and by the chord
+  pub centripetal-catmull-rom : sampleOf CentripetalCatmullRom l S v ≡ hermiteBy l S v (alphaAt true)
+  unfolding heightOf
+  centripetal-catmull-rom = drawn l S v CentripetalCatmullRom
+
+  pub chordal-catmull-rom : sampleOf ChordalCatmullRom l S v ≡ hermiteBy l S v (alphaAt false)
+  unfolding heightOf
+  chordal-catmull-rom = drawn l S v ChordalCatmullRom
+
+  -- de Boor, "A Practical Guide to Splines", 1978
+  pub natural-cubic : sampleOf NaturalCubic l S v ≡ splineBy l S v Natural
+  unfolding heightOf
+  natural-cubic = drawn l S v NaturalCubic
+
+  pub clamped-cubic : (start end : ℤ) → sampleOf (ClampedCubic start end) l S v ≡ splineBy l S v (Clamped (slopeOf start) (slopeOf end))
+  unfolding heightOf
+  clamped-cubic start end = drawn l S v (ClampedCubic start end)
+
+  pub not-a-knot-cubic : sampleOf NotAKnotCubic l S v ≡ splineBy l S v NotAKnot
+  unfolding heightOf
+  not-a-knot-cubic = drawn l S v NotAKnotCubic
+
+-- ---- "and records survive writing then reading."
+-- `read_record`: the set of the definition
+pub read-record : (s : List ℕ) {r : RecordRead} → HandedBack (readRecord s) r → viewOf (r .set) ≡ readRecord s .set
+read-record s call = call .set
+
+-- `write_record`: the set's record at the front of the buffer, the rest of it unchanged
+pub write-record : {set : Curves} {old new : List ℕ} {r : Written} → Wrote set old r new → numberOf (r .answer) ≡ 0
+    → (r .length ≡ length (encode (viewOf set))) × (new ≡ encode (viewOf set) ++ drop (length (encode (viewOf set))) old)
+write-record = Fact.write-record-writes
+
+-- what was written, up to its length, is read without a refusal as the same set
+pub written-then-read : {set : Curves} {old new : List ℕ} {w : Written} {r : RecordRead} → Wrote set old w new → w .answer ≡ Done
+    → HandedBack (readRecord (take (w .length) new)) r → (r .answer ≡ Done) × Same (r .set) set
+written-then-read = Writing.written-then-read
+
+-- on the definitions: the record of every set that passes its check, with a tension of a byte or slopes of 16 bits, is read as that set
+pub round-trip : (v : View) → Legal v → LegalKind (v .kind) → readRecord (encode v) ≡ record { answer = Done; set = v }
+round-trip = RoundTrip.round-trip
+
+-- and a set that was read can be written: its record is not longer than the one it was read from, the writer refuses it for want of room alone ..
+pub not-longer : (s : List ℕ) → readRecord s .answer ≡ Done → length (encode (readRecord s .set)) ≤ length s
+not-longer = NotLonger.not-longer
+
+pub accepted-not-refused : (s : List ℕ) {old new : List ℕ} {r : RecordRead} {w : Written} → HandedBack (readRecord s) r → Wrote (r .set) old w new
+    → w .answer ≡ roomAnswer (encode (readRecord s .set)) old
+accepted-not-refused = Writing.accepted-not-refused
+
+-- .. and never in a buffer as long as that record
+pub accepted-fits : (s : List ℕ) {old new : List ℕ} {r : RecordRead} {w : Written} → HandedBack (readRecord s) r → r .answer ≡ Done
+    → Wrote (r .set) old w new → length s ≤ length old → w .answer ≡ Done
+accepted-fits = Writing.accepted-fits

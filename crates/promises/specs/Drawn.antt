@@ -1,0 +1,56 @@
+-- A sample is the clamped height of the piece in whose segment it lies, drawn from the numbers that its kind gives the two knots at the ends of it.
+use Prim.Native.Nat.{ℕ, zero, suc, _+_, _-_, _≤_, _<_}
+use native.Mathlib.Omega.{arith}
+use mathlib.Core.Path.{_≡_}
+use mathlib.Core.List.{List, [], _∷_}
+use lib.Dec.{eqb, lit<}
+use lib.ListN.{length, replicate}
+use lib.Ieee.{Float, nan, lt}
+use borrow.Author.Tests.{eqb-true}
+use Rattle.lists.specs.Tabulate.{getD-filled}
+use Rattle.single.specs.Constants.{𝟎}
+use Rattle.single.specs.Rules.{clamped}
+use Rattle.single.specs.RuleLaws.{by-test}
+use Rattle.points.specs.declared.Point.{Point}
+use Rattle.points.specs.Points.{kept}
+use Rattle.points.specs.Knots.{rest, knots}
+use Rattle.hermite.specs.Segments.{at, seek, segment}
+use Rattle.sampling.specs.Pieces.{heightOf, heightAt, sampled}
+use Rattle.tables.specs.declared.CurveInterpolation.{CurveInterpolation}
+use Rattle.tables.specs.Kinds.{formOf, numbersAt, rowOf}
+use Rattle.tables.specs.Tables.{unclampedAt, sampleOf}
+use Rattle.promises.specs.Results.{xs, ys, n, x, i, a, b}
+
+-- ---- every list has two knots, and every segment both its ends
+two-knots : (l : List Point) → 1 < length (knots l)
+unfolding knots rest
+two-knots [] = lit< tt
+two-knots (p ∷ []) =
+    by-test (eqb (p .x) 0) (λ t. let e = eqb-true (p .x) 0 t in rw e (lit< tt))
+    (λ t. rw t (omega arith))
+two-knots (p ∷ q ∷ l) = by-test (eqb (p .x) 0) (λ t. rw t (omega arith)) (λ t. rw t (omega arith))
+
+seek-most : (xs : List Float) (x : Float) (k i : ℕ) → seek xs x k i ≤ i + k
+unfolding seek
+seek-most xs x zero i = omega arith
+seek-most xs x (suc k) i =
+    by-test (lt (at xs (suc i)) x) (λ t. rw t (omega (arith, seek-most xs x k (suc i)))) (λ t. rw t (omega arith))
+
+module _ (l : List Point) (S v : ℕ) where
+  right-end : i l S v + 1 < n l
+  unfolding segment
+  right-end = omega (arith, seek-most (xs l) (x l S v) (n l - 2) 0, two-knots (kept l))
+
+  module _ (kind : CurveInterpolation) where
+    number : (k : ℕ) → k < n l → at (rowOf kind (xs l) (ys l) (n l)) k ≡ numbersAt kind (xs l) (ys l) (n l) k
+    number k inside = getD-filled (n l) (numbersAt kind (xs l) (ys l) (n l)) (replicate 66 𝟎) k nan inside
+
+    pub drawn : sampleOf kind l S v
+        ≡ clamped (heightOf (formOf kind) (record {
+          a = a l S v;
+          b = b l S v;
+          p = numbersAt kind (xs l) (ys l) (n l) (i l S v);
+          q = numbersAt kind (xs l) (ys l) (n l) (i l S v + 1);
+        }) (x l S v))
+    unfolding sampleOf sampled unclampedAt heightAt
+    drawn = rw (number (i l S v) (omega (arith, right-end)), number (i l S v + 1) right-end)
