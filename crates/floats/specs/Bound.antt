@@ -5,7 +5,7 @@ use mathlib.Core.Path.{_≡_, refl, sym, _∙_}
 use Prim.Native.Nat.{ℕ, _+_, _-_, _*_, _≤_, _<_}
 use native.Mathlib.Nat.{lt-of-lt-of-le, le-trans, le-of-eq, mul-comm, mul-mul-mul-comm, mul-pos, mul-le-mul, mul-le-mul-right}
 use native.Mathlib.Omega.{arith}
-use mathlib.Core.Bool.{Bool, true, false, true≢false, not, _&&_, cond, Bool·beq}
+use mathlib.Core.Bool.{Bool, true, false, true≢false, _&&_, cond, Bool·beq}
 use lib.Dec.{T, ltb, lit<}
 use lib.Ieee.{Float, nan, inf, fin, Format, up, down, unlike, round, neg, sum, add, sub, mul, div, lt, le}
 use lib.Ieee.Fits.{down-pos}
@@ -14,13 +14,11 @@ use lib.Ieee.Order.{round-mono}
 use lib.Ieee.Scale.{finite}
 use lib.Ieee.Positive.{num, den, den-pos, first-pos, through}
 use borrow.Author.Tests.{ltb-false}
-use Rattle.floats.specs.Value.{Is, own, is-of-pos, is-of-le, Apart, size-is, sign, sign-neg, unsigned, absolute}
+use Rattle.floats.specs.Value.{Is, own, is-of-pos, is-of-le, Apart, size-is, sign, unsigned, absolute}
 use Rattle.floats.specs.Order.{over-top}
 use Rattle.floats.specs.Round.{round-neg, round-unsigned}
 use Rattle.floats.specs.Exact.{Rep, round-rep}
 use Rattle.floats.specs.Ops.{add-is, sub-is, mul-is, div-is}
-use Rattle.floats.specs.Frac.{Sized}
-use Rattle.floats.specs.Calc.{val}
 
 -- |x| ≤ a / c
 pub record AtMost (a c : ℕ) (x : Float) : Type 0 where
@@ -38,26 +36,12 @@ pub record AtLeast (a c : ℕ) (x : Float) : Type 0 where
 pub at-most-is : (x : Float) (p n c a : ℕ) → 0 < c → Is x p n c → Apart p n a → AtMost a c x
 at-most-is x p n c a C h e = record { fin = h .0; unit = C; most = le-of-eq (size-is x p n c a h e) }
 
-pub at-least-is : (x : Float) (p n c a : ℕ) → 0 < c → Is x p n c → Apart p n a → AtLeast a c x
-at-least-is x p n c a C h e = record { fin = h .0; unit = C; least = le-of-eq (sym (size-is x p n c a h e)) }
-
 pub at-least-zero : (x : Float) → T (finite x) → AtLeast 0 1 x
 at-least-zero x p = record { fin = p; unit = lit< tt; least = omega arith }
 
 -- a / c ≤ b / d
 pub at-most-more : {a c : ℕ} {x : Float} (b d : ℕ) → 0 < d → a * d ≤ b * c → AtMost a c x → AtMost b d x
 at-most-more {a} {c} {x} b d D l h = record { fin = h .fin; unit = D; most = through (num x) a b (den x) c d (h .unit) (h .most) l }
-
--- b / d ≤ a / c
-pub at-least-less : {a c : ℕ} {x : Float} (b d : ℕ) → 0 < d → b * c ≤ a * d → AtLeast a c x → AtLeast b d x
-at-least-less {a} {c} {x} b d D l h = record { fin = h .fin; unit = D; least = through b a (num x) d c (den x) (h .unit) l (h .least) }
-
--- in the form of `Frac`
-pub at-most-sized : {a c : ℕ} {x : Float} → AtMost a c x → Sized c a (val x)
-at-most-sized {x = nan} h = absurd (h .fin)
-at-most-sized {x = inf s} h = absurd (h .fin)
-at-most-sized {x = fin false m e} h = (omega (arith, h .most), omega arith)
-at-most-sized {x = fin true m e} h = (omega arith, omega (arith, h .most))
 
 -- ---- rounding
 most-of-le : (x y : Float) (a d : ℕ) → 0 < d → T (unsigned x) → HasValue y false a d → T (le x y) → AtMost a d x
@@ -174,12 +158,6 @@ at-least-add f {a} {c} {b} {d} {x} {y} r e E R h g z l w =
     (through r (a * d + b * c) p e (c * d) u (mul-pos (h .unit) (g .unit)) l (plus-le a c (num x) (den x) b d (num y) (den y) (h .least) (g .least)))
     (rw is at w))
 
--- of two with opposite signs
-pub at-least-sub : (f : Format) {a c b d : ℕ} {x y : Float} (r e : ℕ) → 0 < e → Rep f r e → AtLeast a c x → AtLeast b d y → sign x ≡ not (sign y)
-    → r * (c * d) ≤ (a * d + b * c) * e → T (finite (sub f x y)) → AtLeast r e (sub f x y)
-at-least-sub f {y = y} r e E R h g z l w =
-    rw sub-is (at-least-add f r e E R h (at-least-neg g) (z ∙ sym (sign-neg y (g .fin))) l (rw sub-is at w))
-
 -- ---- products: the exact bound is a * b / (c * d)
 times-le : (p q a c s t b d : ℕ) → p * c ≤ a * q → s * d ≤ b * t → p * s * (c * d) ≤ a * b * (q * t)
 times-le p q a c s t b d h g = le-trans (le-of-eq (mul-mul-mul-comm p s c d)) (le-trans (mul-le-mul h g) (le-of-eq (mul-mul-mul-comm a q b t)))
@@ -213,16 +191,6 @@ at-most-div f {a} {c} {b} {d} {x} {y} r e E R h g B l =
     (round-at-most f (unlike (sign x) (sign y)) (num x * den y) (num y * den x) r e (mul-pos N (den-pos x)) E R
     (through (num x * den y) (a * d) r (num y * den x) (c * b) e (mul-pos (h .unit) B)
     (over-le (num x) (den x) a c (num y) (den y) b d (h .most) (g .least)) l))
-
-pub at-least-div : (f : Format) {a c b d : ℕ} {x y : Float} (r e : ℕ) → 0 < e → Rep f r e → AtLeast a c x → AtMost b d y → 0 < num y
-    → r * (c * b) ≤ a * d * e → T (finite (div f x y)) → AtLeast r e (div f x y)
-at-least-div f {a} {c} {b} {d} {x} {y} r e E R h g N l w =
-    let B : 0 < b = first-pos b (den y) (lt-of-lt-of-le (mul-pos N (g .unit)) (g .most)) in
-    let is = div-is f x y (h .fin) N in
-    rw is
-    (round-at-least f (unlike (sign x) (sign y)) (num x * den y) (num y * den x) r e (mul-pos N (den-pos x)) E R
-    (through r (a * d) (num x * den y) e (c * b) (num y * den x) (mul-pos (h .unit) B) l
-    (omega (arith, over-le a c (num x) (den x) b d (num y) (den y) (h .least) (g .most)))) (rw is at w))
 
 -- ---- a test of the size: what is not below a guard is at least what the guard is
 pub at-least-guarded : {a c : ℕ} {x guard : Float} → T (finite x) → T (unsigned guard) → AtLeast a c guard → lt (absolute x) guard ≡ false

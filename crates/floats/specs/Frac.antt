@@ -3,11 +3,11 @@
 use mathlib.Core.Path.{_≡_, subst, subst₂}
 use mathlib.Core.Logic.{_⊎_, inl, inr}
 use Prim.Native.Nat.{ℕ, _+_, _-_, _*_, _≤_, _<_}
-use native.Mathlib.Nat.{le-trans, le-refl, le-of-lt, lt-of-not-le, zero-add, add-comm, mul-comm, add-sub-of-le}
+use native.Mathlib.Nat.{le-trans, le-of-lt, lt-of-not-le, add-comm, mul-comm, add-sub-of-le}
 use native.Mathlib.Nat.{mul-pos, mul-le-mul-left, mul-le-mul-right, le-of-mul-le-mul-right}
 use native.Mathlib.Decide.{decLe}
 use native.Mathlib.Omega.{arith}
-use Rattle.floats.specs.Signed.{Le, Up, poly, le→up, up-through, le-up, up-le, up-flip, up-more}
+use Rattle.floats.specs.Signed.{Le, Up, poly, up-through, le-up, up-le, up-flip, up-more}
 
 -- (p - n) / c
 pub record Frac : Type 0 where
@@ -106,12 +106,6 @@ upto-plus i j k x z y w h g =
 pub close-plus : (i j k : ℕ) (x z y w : Frac) → Close i k x z → Close j k y w → Close (i + j) k (plus x y) (plus z w)
 close-plus i j k x z y w h g = (upto-plus i j k x z y w (h .0) (g .0), upto-plus i j k z x w y (h .1) (g .1))
 
-pub close-plus-left : (i k : ℕ) (r x y : Frac) → Close i k x y → Close i k (plus r x) (plus r y)
-close-plus-left i k r x y h = rw zero-add at (close-plus 0 i k r r x y (same, same) h)
-  where
-    same : Upto 0 k r r
-    same = le→up 0 k (r .p) (r .n) (r .c) (r .p) (r .n) (r .c) (le-refl (r .p * r .c + r .n * r .c))
-
 close-opposite : (i k : ℕ) (x y : Frac) → Close i k x y → Close i k (opposite x) (opposite y)
 close-opposite i k x y h = (
   up-flip i k (y .p) (y .n) (y .c) (x .p) (x .n) (x .c) (h .1),
@@ -169,21 +163,11 @@ close-times i j k b a x z y w Z Y s t h g =
     (close-times-right i k b y x z s h) (close-times-left j k a z y w t g)
 
 -- ---- sizes
-pub size-more : (a b : ℕ) (x : Frac) → a ≤ b → Size a x → Size b x
-size-more a b x l h = let m = mul-le-mul-right (x .c) l in (omega (arith, h .0), omega (arith, h .1))
-
--- i * |x| ≤ j gives (g * i) * |x| ≤ g * j
-pub sized-more : (g i j : ℕ) (x : Frac) → Sized i j x → Sized (g * i) (g * j) x
-sized-more g i j x h = (omega (arith, mul-le-mul-left g (h .0)), omega (arith, mul-le-mul-left g (h .1)))
-
 pub size-plus : (a b : ℕ) (x y : Frac) → Size a x → Size b y → Size (a + b) (plus x y)
 size-plus a b x y h g = (
   omega (arith, mul-le-mul-right (y .c) (h .0), mul-le-mul-right (x .c) (g .0)),
   omega (arith, mul-le-mul-right (y .c) (h .1), mul-le-mul-right (x .c) (g .1)),
 )
-
-pub size-minus : (a b : ℕ) (x y : Frac) → Size a x → Size b y → Size (a + b) (minus x y)
-size-minus a b x y h g = size-plus a b x (opposite y) h (g .1, g .0)
 
 -- u ≤ a * e and a * w ≤ b * d give u / e * w / d ≤ b
 part : (a b e d u w : ℕ) → u ≤ a * e → a * w ≤ b * d → u * w ≤ b * (e * d)

@@ -1,9 +1,9 @@
 -- The laws of single precision, in reading order. A finite float is a signed fraction of natural numbers (Signed, Value), so few laws have a case
 -- for each sign; Order adds the infinities. Round says which float a fraction is rounded to and that rounding keeps the order, Exact that it
 -- leaves a value of the format as it is, Unique that such a value is known by its fraction. Ops says what each operation rounds; from that follow
--- the signs (Sign), the order (Mono), zeros and one as operands (Zero), exact results (Small). Error bounds the error of one rounding; Frac and
--- Same reckon with fractions, and Calc and Approx add up the errors of a chain of operations. Bound says how large a result is, Within the same
--- by powers of two, Bounded by whole numbers. Whole has the whole numbers, and the nearest one by two sums.
+-- the signs (Sign), the order (Mono), zeros and one as operands (Zero), exact results (Small). Error bounds the error of one rounding; Frac
+-- reckons with fractions, and Calc and Approx add up the errors of a chain of operations. Bound says how large a result is, Within the same
+-- by powers of two. Whole has the whole numbers, and the nearest one by two sums.
 -- The last six are about the pieces between two knots. Line has the straight piece as the program computes it, Minus and Position the part of the way
 -- gone, Segment how near it is to the exact line and that it keeps the order, Nearest what that means for the nearest whole number; Cubic says that
 -- a cubic piece has the knot's height at either end.
@@ -21,12 +21,10 @@ pub mod Zero
 pub mod Small
 pub mod Error
 pub mod Frac
-pub mod Same
 pub mod Calc
 pub mod Approx
 pub mod Bound
 pub mod Within
-pub mod Bounded
 pub mod Whole
 pub mod Line
 pub mod Minus

@@ -12,7 +12,7 @@ use Rattle.floats.specs.Value.{top, bot, Is, own, is-neg, le-of, of-le}
 use Rattle.floats.specs.Order.{finite-between}
 use Rattle.floats.specs.Round.{Rounds, rounds-mono}
 use Rattle.floats.specs.Unique.{rounds-own}
-use Rattle.floats.specs.Ops.{add-own, mul-rounds, div-rounds, div-neg-neg}
+use Rattle.floats.specs.Ops.{add-own, mul-rounds, div-rounds}
 
 -- ---- the sum grows with each term
 pub add-mono : (f : Format) (x z y w : Float) → T (finite x) → T (finite z) → T (finite y) → T (finite w) → T (le x z) → T (le y w)
@@ -57,19 +57,13 @@ mul-anti-left f d x y q e E D p r h =
     (mul-rounds f d x 0 q e (top x) (bot x) (den x) E (den-pos x) D (own x p))
     (scale-ge q e (top x) (bot x) (den x) (top y) (bot y) (den y) (of-le x y p r h))
 
--- ---- the quotient by a divisor above zero grows with what is divided, and by one below zero falls
+-- ---- the quotient by a divisor above zero grows with what is divided
 pub div-mono-left : (f : Format) (x z y : Float) (p n c r l e q d : ℕ) → 0 < c → 0 < e → 0 < d → 0 < q
     → Is x p n c → Is z r l e → Is y q 0 d → Le p n c r l e → T (le (div f x y) (div f z y))
 div-mono-left f x z y p n c r l e q d C E D Q h g k i =
     rounds-mono f (div f x y) (div f z y) (p * d) (n * d) (c * q) (r * d) (l * d) (e * q) (mul-pos C Q) (mul-pos E Q)
     (div-rounds f x y p n c q d C D Q h k) (div-rounds f z y r l e q d E D Q g k)
     (let j = simp poly at (mul-le-mul-left (d * q) i) in simp poly (omega arith))
-
-pub div-anti-left : (f : Format) (x z y : Float) (p n c r l e q d : ℕ) → 0 < c → 0 < e → 0 < d → 0 < q
-    → Is x p n c → Is z r l e → Is y 0 q d → Le p n c r l e → T (le (div f z y) (div f x y))
-div-anti-left f x z y p n c r l e q d C E D Q h g k i =
-    rw (← div-neg-neg f x y, ← div-neg-neg f z y)
-    (div-mono-left f (neg z) (neg x) (neg y) l r e n p c q d E C D Q (is-neg z r l e g) (is-neg x p n c h) (is-neg y 0 q d k) (omega arith))
 
 -- ---- a fraction between two values of the format rounds to a value between them, which is finite
 pub rounds-between : (f : Format) (lo z hi : Float) (p n c : ℕ) → 0 < c → T (fits f lo) → T (fits f hi) → T (finite lo) → T (finite hi)

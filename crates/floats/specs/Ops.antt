@@ -6,7 +6,6 @@ use native.Mathlib.Nat.{zero-add, add-comm, mul-comm, mul-pos, ne-of-gt}
 use native.Mathlib.Omega.{arith}
 use mathlib.Core.Bool.{Bool, true, false, not, cond}
 use lib.Dec.{T, ltb, eqb, ltb→lt, nltb→le}
-use lib.IntN.{pos}
 use lib.Ieee.{Float, nan, inf, fin, Format, up, down, unlike, round, neg, sum, add, sub, mul, div}
 use lib.Ieee.Scale.{finite}
 use lib.Ieee.Positive.{num, den, den-pos, first-pos}
@@ -21,12 +20,6 @@ unlike-swap true true = refl
 unlike-swap true false = refl
 unlike-swap false true = refl
 unlike-swap false false = refl
-
-unlike-not : (s t : Bool) → unlike (not s) (not t) ≡ unlike s t
-unlike-not true true = refl
-unlike-not true false = refl
-unlike-not false true = refl
-unlike-not false false = refl
 
 pub unlike-self : (s : Bool) → unlike s s ≡ false
 unlike-self true = refl
@@ -193,20 +186,3 @@ div-rounds f x y p n c q d C D Q h k =
     rounds-same f (div f x y) (top x * den y) (bot x * den y) (num y * den x) (p * d) (n * d) (c * q) (mul-pos N (den-pos x)) (mul-pos C Q)
     (rw (div-is f x y (h .0) N, sign-is y q 0 d k Q, unlike-plus) (scaled f x (den y) (num y * den x) (h .0)))
     (quotient-same (top x) (bot x) (den x) (num y) (den y) p n c q d (h .1) (size-is y q 0 d q k apart))
-
--- both signs changed
-pub div-neg-neg : (f : Format) (x y : Float) → div f (neg x) (neg y) ≡ div f x y
-unfolding div neg
-div-neg-neg f nan y = refl
-div-neg-neg f (inf s) nan = refl
-div-neg-neg f (inf s) (inf t) = refl
-div-neg-neg f (inf s) (fin t n d) = ap inf (unlike-not s t)
-div-neg-neg f (fin s m e) nan = refl
-div-neg-neg f (fin s m e) (inf t) = ap (λ (u : Bool). fin u 0 (pos 0)) (unlike-not s t)
-div-neg-neg f (fin s m e) (fin t n d) =
-    ap (λ (u : Bool). cond (eqb n 0) (cond (eqb m 0) nan (inf u)) (round f u (m * up e * down d) (n * up d * down e))) (unlike-not s t)
-
-pub div-rounds-neg : (f : Format) (x y : Float) (p n c q d : ℕ) → 0 < c → 0 < d → 0 < q → Is x p n c → Is y 0 q d
-    → Rounds f (div f x y) (n * d) (p * d) (c * q)
-div-rounds-neg f x y p n c q d C D Q h k =
-    rw (← div-neg-neg) (div-rounds f (neg x) (neg y) n p c q d C D Q (is-neg x p n c h) (is-neg y 0 q d k))

@@ -163,9 +163,6 @@ module _ {x0 y0 x1 y1 : Float} {a0 n0 a1 n1 : ℕ} (s : Segment x0 y0 x1 y1 a0 n
   pub line-rises : {v w : Float} {k h j g : ℕ} → Position x0 x1 v k h → Position x0 x1 w j g → n0 ≤ n1 → T (le v w) → T (le (height v) (height w))
   line-rises at to n l = up at to n (part-order at to (s .x0-is .0) l)
 
-  pub line-falls : {v w : Float} {k h j g : ℕ} → Position x0 x1 v k h → Position x0 x1 w j g → n1 ≤ n0 → T (le v w) → T (le (height w) (height v))
-  line-falls at to n l = down to at n (part-order at to (s .x0-is .0) l)
-
   -- ---- within the heights of the knots
   first : Position x0 x1 x0 0 (a1 - a0)
   first = at-start x0 (s .x0-is)
@@ -200,11 +197,3 @@ line-across {y1 = y1} {y2 = y2} {v = v} {w = w} {n1 = n1} {n2 = n2} s t at to l 
     le-trans (height s v) y1 (height t w) (rising-within s at l .1)
     (le-trans y1 y2 (height t w)
     (le-of-is y1 y2 n1 0 256 n2 0 256 (lit< tt) (lit< tt) (s .y1-is) (t .y0-is) (omega arith)) (rising-within t to n .0))
-
--- whole heights: within 1 / 16,384 of (m0 * h + (m1 - m0) * k) / h
-pub line-near-whole : (m0 m1 : ℕ) {x0 y0 x1 y1 v : Float} {a0 a1 k h : ℕ}
-    (s : Segment x0 y0 x1 y1 a0 (256 * m0) a1 (256 * m1)) → Position x0 x1 v k h
-    → Close 1 16384 (val (height s v)) (frac (m0 * h + m1 * k) (m0 * k) h)
-line-near-whole m0 m1 {v = v} {k = k} {h = h} s at =
-    close-same 1 16384 (val (height s v)) (frac (256 * m0 * h + 256 * m1 * k) (256 * m0 * k) (256 * h)) (frac (m0 * h + m1 * k) (m0 * k) h)
-    (mul-pos (lit< tt) (at .some)) (line-near s at) (omega arith) (omega arith)

@@ -1,11 +1,10 @@
 -- A value of the format is known by its sign and its fraction, so a fraction that it has rounds to it and to nothing else.
 use mathlib.Core.Path.{_≡_, refl, sym, ap, ap₂, _∙_}
 use Prim.Native.Nat.{ℕ, _+_, _-_, _*_, _/_, _^_, _<_}
-use native.Mathlib.Nat.{mul-pos, eq-of-mul-eq-mul-right}
+use native.Mathlib.Nat.{eq-of-mul-eq-mul-right}
 use native.Mathlib.Omega.{arith}
 use mathlib.Core.Bool.{Bool, true, false, cond}
-use mathlib.Core.Logic.{inl}
-use lib.Dec.{T, lit<}
+use lib.Dec.{T}
 use lib.Ieee.{Float, nan, inf, fin, Format, prec, low, hid, up, down, size, round, fits, toBits, ofBits}
 use lib.Ieee.Fits.{down-pos, round-fits}
 use lib.Ieee.Exact.{HasValue}
@@ -13,7 +12,7 @@ use lib.Ieee.Bits.{ofBits-toBits}
 use lib.Ieee.Nearest.{div-same}
 use lib.Ieee.Scale.{finite, round-same}
 use lib.Ieee.Positive.{num, den, den-pos}
-use Rattle.floats.specs.Value.{top, bot, Is, is-same, sign, nought, value-is}
+use Rattle.floats.specs.Value.{top, bot, sign, nought}
 use Rattle.floats.specs.Round.{Rounds, over, under}
 use Rattle.floats.specs.Exact.{fits-rep, round-rep}
 
@@ -59,26 +58,7 @@ rounds-own f (inf s) p t = absurd p
 rounds-own f (fin false m e) p t = over (m * up e) (omega arith) (sym (round-own f (fin false m e) p t))
 rounds-own f (fin true m e) p t = under (m * up e) (omega arith) (sym (round-own f (fin true m e) p t))
 
--- ---- a value that is no zero is known by its fraction alone, and a zero by its sign
-same-own : (f : Format) (x y : Float) → T (fits f x) → T (fits f y) → 0 < num y → Is x (top y) (bot y) (den y) → x ≡ y
-same-own f nan y p q N h = absurd (h .0)
-same-own f (inf s) y p q N h = absurd (h .0)
-same-own f (fin s m e) nan p q N h = let none : ⊥ = omega arith in absurd none
-same-own f (fin s m e) (inf t) p q N h = let none : ⊥ = omega arith in absurd none
-same-own f (fin false m e) (fin false n d) p q N h =
-    value-unique f (fin false m e) (fin false n d) false (n * up d) (down d) (down-pos d) p q (refl, omega (arith, h .1)) (refl, refl)
-same-own f (fin false m e) (fin true n d) p q N h = let none : ⊥ = omega (arith, mul-pos N (down-pos e), h .1) in absurd none
-same-own f (fin true m e) (fin false n d) p q N h = let none : ⊥ = omega (arith, mul-pos N (down-pos e), h .1) in absurd none
-same-own f (fin true m e) (fin true n d) p q N h =
-    value-unique f (fin true m e) (fin true n d) true (n * up d) (down d) (down-pos d) p q (refl, omega (arith, h .1)) (refl, refl)
-
-pub is-unique : (f : Format) (x y : Float) (p n c : ℕ) → 0 < c → T (fits f x) → T (fits f y) → 0 < num y → Is x p n c → Is y p n c → x ≡ y
-is-unique f x y p n c C t u N h k = same-own f x y t u N (is-same x p n c (top y) (bot y) (den y) C h (sym (k .1)))
-
+-- ---- zeros are values of every format
 pub nought-fits : (f : Format) (s : Bool) → T (fits f (nought s))
 unfolding fits
 nought-fits f s = tt
-
-pub nought-unique : (f : Format) (x : Float) → T (fits f x) → Is x 0 0 1 → x ≡ nought (sign x)
-nought-unique f x t h =
-    value-unique f x (nought (sign x)) (sign x) 0 1 (lit< tt) t (nought-fits f (sign x)) (value-is x 0 0 1 0 h (inl refl)) (refl, refl)

@@ -65,19 +65,8 @@ size-is (fin true m k) p n c a h (inl e) = omega (arith, h .1, ap (λ (z : ℕ).
 size-is (fin true m k) p n c a h (inr e) = omega (arith, h .1, ap (λ (z : ℕ). z * down k) e)
 
 -- 0 < num x says that x is finite and no zero
-pub nonzero-finite : (x : Float) → 0 < num x → T (finite x)
-nonzero-finite nan h = let none : ⊥ = omega arith in none
-nonzero-finite (inf s) h = let none : ⊥ = omega arith in none
-nonzero-finite (fin s m e) h = tt
-
 pub nonzero-is : (x : Float) (p n c a : ℕ) → Is x p n c → Apart p n a → 0 < a → 0 < num x
 nonzero-is x p n c a h e A = first-pos (num x) c (rw (size-is x p n c a h e) (mul-pos A (den-pos x)))
-
-pub num-neg : (x : Float) → num (neg x) ≡ num x
-unfolding neg
-num-neg nan = refl
-num-neg (inf s) = refl
-num-neg (fin s m e) = refl
 
 -- ---- sign
 -- the sign bit, which a NaN has not
@@ -119,12 +108,6 @@ sign-is nan p n c h l = refl
 sign-is (inf s) p n c h l = absurd (h .0)
 sign-is (fin false m e) p n c h l = refl
 sign-is (fin true m e) p n c h l = let none : ⊥ = omega (arith, h .1, mul-lt-mul-of-pos-right l (down-pos e)) in absurd none
-
-pub sign-neg : (x : Float) → T (finite x) → sign (neg x) ≡ not (sign x)
-unfolding neg
-sign-neg nan p = absurd p
-sign-neg (inf s) p = absurd p
-sign-neg (fin s m e) p = refl
 
 -- ---- the library's `HasValue x s a c`: x is finite, has the sign s, and is a / c in size
 pub is-of-pos : (x : Float) (a c : ℕ) → HasValue x false a c → Is x a 0 c
@@ -263,10 +246,6 @@ of-lt (fin true m e) nan p q h = absurd q
 of-lt (fin true m e) (inf t) p q h = absurd q
 of-lt (fin true m e) (fin false n d) p q h = omega (arith, ltb→lt)
 of-lt (fin true m e) (fin true n d) p q h = omega (arith, ltb→lt)
-
-pub lt-of-nle : (x y : Float) → T (finite x) → T (finite y) → T (not (le x y)) → Lt (top y) (bot y) (den y) (top x) (bot x) (den x)
-lt-of-nle x y p q h =
-    omega (arith, lt-of-not-le (λ (l : Le (top x) (bot x) (den x) (top y) (bot y) (den y)). T-not (le x y) h (le-of x y p q l)))
 
 pub le-of-nlt : (x y : Float) → T (finite x) → T (finite y) → T (not (lt x y)) → T (le y x)
 le-of-nlt x y p q h =

@@ -8,13 +8,13 @@ use native.Mathlib.Omega.{arith}
 use mathlib.Core.Bool.{Bool, true, false, cond}
 use lib.Dec.{T, lit<}
 use lib.Pow.{pow-add, pow-pos, pow-mono}
-use lib.Ieee.{Float, binary32, neg, lt}
+use lib.Ieee.{Float, binary32, lt}
 use lib.Ieee.Scale.{finite}
 use lib.Ieee.Positive.{num, den}
 use Rattle.floats.specs.Notation.{_⊕_, _⊖_, _⊗_, _⊘_}
 use Rattle.floats.specs.Value.{Is, Apart, sign, unsigned, absolute}
 use Rattle.floats.specs.Exact.{rep-power}
-use Rattle.floats.specs.Bound.{AtMost, AtLeast, at-most-is, at-least-zero, at-most-more, at-most-neg, at-least-guarded}
+use Rattle.floats.specs.Bound.{AtMost, AtLeast, at-most-is, at-least-zero, at-most-more, at-least-guarded}
 use Rattle.floats.specs.Bound.{at-most-add, at-most-sub, at-most-mul, at-most-div, at-least-add, at-least-mul}
 
 pub record Within (x : Float) (k : ℕ) : Type 0 where
@@ -64,9 +64,6 @@ within-cond false v w = w
 pub within-test : (b : Bool) {x y : Float} {k : ℕ} → Within x k → (b ≡ false → Within y k) → Within (cond b x y) k
 within-test true v w = v
 within-test false v w = w refl
-
-pub within-neg : {x : Float} {k : ℕ} → Within x k → Within (neg x) k
-within-neg w = record { most = at-most-neg (w .most) }
 
 pub within-add : {x y : Float} {k : ℕ} → Within x k → Within y k → k < 276 → Within (x ⊕ y) (suc k)
 within-add {k = k} v w K =

@@ -1,11 +1,9 @@
 -- The tables chosen by the code are those of the definition.
 use mathlib.Core.Path.{_≡_, refl, sym, _∙_}
-use mathlib.Core.Logic.{inl, inr}
 use mathlib.Core.Bool.{Bool, true, false, cond, _&&_, true≢false}
 use mathlib.Core.List.{List}
 use mathlib.Core.Option.{none, some}
 use Prim.Native.Nat.{ℕ, _*_, _≤_}
-use native.Mathlib.Omega.{arith}
 use Rattle.answers.specs.declared.Answer.the-variants.{Done}
 use Rattle.lists.specs.Tabulate.{filled}
 use Rattle.points.specs.declared.Point.{Point}
@@ -18,10 +16,9 @@ use Rattle.sets.specs.declared.Colour.the-variants.{Red, Green, Blue}
 use Rattle.sets.specs.Sets.{View, colourOf, channelOf, channelAnswer, chosen, ownOrMaster}
 use Rattle.sets.specs.Legal.{passed-count}
 use Rattle.rows.specs.Bytes.{three, rowByte}
-use Rattle.rows.specs.Places.{mul-bound}
-use Rattle.rows.specs.Rows.{tightByte, InPlace, Tight, alphaOf}
+use Rattle.rows.specs.Rows.{tightByte, alphaOf}
 use Rattle.formats.specs.declared.PixelFormat.{PixelFormat}
-use Rattle.formats.specs.Formats.{bytesAPixel, keptOf, byColour}
+use Rattle.formats.specs.Formats.{bytesAPixel, byColour}
 use Rattle.formats.specs.Checks.{Supported}
 use Rattle.formats.specs.FormatLaws.{tight}
 use Rattle.pictures.specs.Runs.{tablesOf, tightRows}

@@ -1,19 +1,17 @@
 -- What is known once the set call is done, and that the table of "the list that tones a byte" tones it.
-use Prim.Native.Nat.{ℕ, zero, suc, _*_, _≤_}
+use Prim.Native.Nat.{ℕ, zero, suc, _≤_}
 use mathlib.Core.Path.{_≡_, refl}
-use mathlib.Core.Bool.{Bool, true, false, cond, _||_, true≢false}
+use mathlib.Core.Bool.{true}
 use lib.Dec.{ltb}
 use lib.ListN.{length}
-use borrow.Author.Tests.{ltb-false, eqb-true, eqb-false}
-use Rattle.answers.specs.declared.Answer.{Answer}
-use Rattle.answers.specs.declared.Answer.the-variants.{Done, UnsupportedFormat, PictureTooLarge, MissingPlane, RowStep, PlaneTooShort, OutputTooSmall}
+use borrow.Author.Tests.{ltb-false, eqb-false}
+use Rattle.answers.specs.declared.Answer.the-variants.{Done, UnsupportedFormat, PictureTooLarge, MissingPlane, OutputTooSmall}
 use Rattle.answers.specs.Numbers.{both-done}
 use Rattle.tables.specs.Tables.{byteTable}
 use Rattle.sets.specs.Sets.{View, viewOf, setAnswer}
 use Rattle.sets.specs.Legal.{Legal, legal-view}
-use Rattle.rows.specs.Rows.{Rows, needed}
 use Rattle.formats.specs.declared.PixelFormat.{PixelFormat}
-use Rattle.formats.specs.Formats.{bytesAPixel, planesRead}
+use Rattle.formats.specs.Formats.{planesRead}
 use Rattle.formats.specs.Checks.{Supported, planeAnswer, pictureAnswer}
 use Rattle.formats.specs.CheckLaws.{passed, neither, GoodPlane, good-plane}
 use Rattle.pictures.specs.Runs.{Run, rowBytes, size, hasChroma, answer, tonedBy, tablesOf}

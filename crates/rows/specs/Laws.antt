@@ -1,14 +1,13 @@
 -- What stands at each place of a plane and of tight rows: for any function of a place and a byte, and for tables.
 -- Byte c of row y is at y × step + c in the plane, and at y × row + c in tight rows.
-use mathlib.Core.Path.{_≡_, sym, _∙_, subst}
-use mathlib.Core.Bool.{true, false, and-false}
+use mathlib.Core.Path.{_≡_, sym, _∙_}
+use mathlib.Core.Bool.{false, and-false}
 use mathlib.Core.List.{List}
 use Prim.Native.Nat.{ℕ, _+_, _-_, _*_, _/_, _%_, _≤_, _<_}
 use native.Mathlib.Decide.{decLt}
-use native.Mathlib.Nat.{div-add-mod', le-div-iff-mul-le, mul-le-mul-right, mod-lt}
+use native.Mathlib.Nat.{le-div-iff-mul-le, mul-le-mul-right, mod-lt}
 use native.Mathlib.Omega.{arith}
 use borrow.Author.Tests.{lt-ltb, le-ltb, eq-eqb, ne-eqb}
-use lib.Dec.{T}
 use lib.ListN.{length, getD, List·getD-eq-default}
 use Rattle.lists.specs.Each.{each, getD-each, length-each}
 use Rattle.lists.specs.Tabulate.{filled, getD-filled}
@@ -77,21 +76,6 @@ pub tight-row : (row step : ℕ) (g : ℕ → ℕ → ℕ) (plane : List ℕ) (y
     → tightByte row step g plane (y * row + c) ≡ g c (getD plane (y * step + c) 0)
 unfolding tightByte
 tight-row row step g plane y c h = rw (place-row y row c h, place-in y row c h)
-
--- an index that lies in a row: which row, and where in it
-pub row-place : (row h step k : ℕ) → inRow row h step k ≡ true → (k / step < h) × (k % step < row) × (k / step * step + k % step ≡ k)
-unfolding inRow
-row-place row h step k e =
-    elim (decLt (k / step) h) [
-      | yes below ↦ elim (decLt (k % step) row) [
-        | yes inside ↦ (below, inside, div-add-mod' k step)
-        | no past ↦ absurd (no-test (rw (le-ltb (k % step) row (omega arith), and-false) at e))
-      ]
-      | no past ↦ absurd (no-test (rw (le-ltb (k / step) h (omega arith)) at e))
-    ]
-  where
-    no-test : false ≡ true → ⊥
-    no-test e = subst T (sym e) tt
 
 -- What the toned list holds: channel j of the pixel at row y and column x, in the plane and in tight rows, and all else.
 module _ (w h step p kept : ℕ) (tables : ℕ → List ℕ) where

@@ -50,7 +50,6 @@ use Rattle.records.specs.Format.{
   readFields,
   readRecord,
 }
-use Rattle.records.specs.Legal.{AllBytes, read-legal}
 use Rattle.writing.specs.Encode.{
   pairBytes,
   fieldBytes,
@@ -172,10 +171,6 @@ round-trip v h legal =
       colour-back (v .green),
       colour-back (v .blue),
     )
-
--- the set of any record, accepted or not, is one that the writer takes: its record is read as that set again
-pub read-again : (s : List ℕ) → AllBytes s → readRecord (encode (readRecord s .set)) ≡ record { answer = Done; set = readRecord s .set }
-read-again s bytes = let l = read-legal s bytes in round-trip (readRecord s .set) (l .lists) (l .kind)
 
 -- what the writer leaves in the buffer, read up to the length written
 pub written-back : (s : Curves) (buffer : List ℕ) → LegalKind (s .interpolation) → writeRecord s buffer .answer ≡ Done

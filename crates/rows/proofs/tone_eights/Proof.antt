@@ -2,7 +2,7 @@
 use native.Mathlib.Omega.{arith}
 use borrow.Author.Needs.{needs}
 use mathlib.Core.Path.{_≡_, refl}
-use Prim.Native.Nat.{_-_, _+_, _%_}
+use Prim.Native.Nat.{_+_, _%_}
 use lib.ListN.{length}
 use Rattle.lists.specs.Replaced.{Replaced, replaced-none, replaced-then, replaced-end}
 use Rattle.rows.specs.Bytes.{plainByte}
