@@ -1,17 +1,16 @@
 -- The exact broken line of a kept list: it is there at every byte, has one value there, also where two pieces meet,
 -- and at a knot's x it is the knot's y.
 use mathlib.Core.Path.{_≡_, refl, sym, ap, _∙_}
-use mathlib.Core.List.{List, List·Memᴰ}
+use mathlib.Core.List.{List}
 use Prim.Native.Nat.{ℕ, zero, suc, _+_, _-_, _*_, _≤_, _<_}
 use native.Mathlib.Nat.{le-refl, mul-right-comm}
 use native.Mathlib.Decide.{ℕ-discrete, decLe, decLt}
 use native.Mathlib.Omega.{arith}
 use lib.ListN.{length}
 use Rattle.points.specs.declared.Point.{Point}
-use Rattle.points.specs.Points.{nth}
 use Rattle.points.specs.Knots.{knots, xOf, yOf, OnLine}
-use Rattle.points.specs.Order.{IsKept, mem-at, rising-to}
-use Rattle.points.specs.Shape.{Shape, knots-shape, knots-mem}
+use Rattle.points.specs.Order.{IsKept, rising-to}
+use Rattle.points.specs.Shape.{Shape, knots-shape}
 
 -- some neighbours among f 0, .., f (n + 1) have v between them
 between : (f : ℕ → ℕ) (v n : ℕ) → f 0 ≤ v → v ≤ f (suc n) → (i : ℕ) × (i ≤ n) × (f i ≤ v) × (v ≤ f (suc i))
@@ -84,13 +83,6 @@ module _ (l : List Point) (is-kept : IsKept l) where
             let next : j ≡ suc i = omega arith in
             rw next (at-right n (yOf ks i) (yOf ks (suc i)) d (v - xOf ks i) (omega (arith, ap (xOf ks) next)) (o .height))
       ]
-
-  -- so it passes through the list's points
-  pub line-at-point : (p : Point) → List·Memᴰ p l → (n d : ℕ) → OnLine l (p .x) n d → n ≡ p .y * d
-  line-at-point p m n d o =
-      let r = mem-at ks p (knots-mem l p m) in
-      let k : nth ks (r .0) ≡ p = r .2 in
-      line-at-knot (p .x) n d o (r .0) (r .1) (ap (λ (q : Point). q .x) k) ∙ ap (λ (q : Point). q .y * d) k
 
   -- two pieces meet at a knot
   meet : (v n d m e : ℕ) (o : OnLine l v n d) (p : OnLine l v m e) → o .i < p .i → n * e ≡ m * d
