@@ -105,11 +105,6 @@ pub byte-small : (x : Float) → byteOf x ≤ 255
 unfolding byteOf
 byte-small x = whole-small nearestWhole 255 x
 
--- by any fraction that x equals; with `own x`, by x's own
-pub byte-value : (x : Float) (p n d : ℕ) → 0 < d → Is x p n d → byteOf x ≡ min (nearestWhole (p - n) d) 255
-unfolding byteOf
-byte-value x p n d D i = whole-value nearestWhole 255 nearest-rule x p n d D i
-
 -- from 0 to 255 nothing is cut off
 pub byte-nearest : (x : Float) (s d : ℕ) → 0 < d → s ≤ 255 * d → Is x s 0 d → byteOf x ≡ nearestWhole s d
 unfolding byteOf

@@ -4,18 +4,16 @@ use mathlib.Core.Path.{_≡_, refl, sym, ap, subst}
 use mathlib.Core.Logic.{_↔_}
 use mathlib.Core.Bool.{Bool, true, false, not}
 use Prim.Native.Nat.{ℕ, _+_, _-_, _*_, _^_, _≤_, _<_}
-use native.Mathlib.Nat.{le-trans, not-le-of-lt, lt-of-not-le, add-comm, add-sub-of-le, le-of-mul-le-mul-right, eq-of-mul-eq-mul-right}
+use native.Mathlib.Nat.{le-trans, not-le-of-lt, lt-of-not-le, add-comm, add-sub-of-le, le-of-mul-le-mul-right}
 use native.Mathlib.Omega.{arith}
 use lib.Dec.{T, lit<}
 use lib.Ieee.{Float, nan, inf, fin, binary32, up, down, isNan, lt, le, ofInt, ofBits}
 use lib.Ieee.Back.{round-whole}
-use lib.Ieee.Bits.{is-true}
 use lib.Ieee.Fits.{down-pos}
 use lib.Ieee.Scale.{finite}
-use lib.Ieee.Positive.{den, den-pos}
 use Rattle.floats.specs.Notation.{_⊘_}
 use Rattle.floats.specs.Signed.{Le, Lt}
-use Rattle.floats.specs.Value.{Is, absolute, top, bot, is-of-pos, of-lt, of-le, le-of-nlt, is-of-le, le-of-is}
+use Rattle.floats.specs.Value.{Is, absolute, is-of-pos, of-lt, of-le, le-of-nlt, is-of-le, le-of-is}
 use Rattle.single.specs.Constants.{𝟎, 𝟏, 𝟐𝟓𝟓, 𝟒𝟎𝟗𝟒, 𝟎-is, 𝟐𝟓𝟓-is}
 use Rattle.single.specs.Rules.{float, clamped, guardedQuotient}
 use Rattle.floats.specs.Order as Order
@@ -45,14 +43,6 @@ module _ (x y : Float) (p n c q m d : ℕ) (C : 0 < c) (D : 0 < d) (i : Is x p n
 pub float-is : (n : ℕ) → n ≤ 2 ^ 24 → Is (float n) n 0 1
 unfolding ofInt
 float-is n h = is-of-pos (float n) n 1 (round-whole binary32 false n h)
-
-pub float-injective : (m n : ℕ) → m ≤ 2 ^ 24 → n ≤ 2 ^ 24 → float m ≡ float n → m ≡ n
-float-injective m n h k e =
-    let x = float n in
-    same (top x) (bot x) (den x) (den-pos x) (subst (λ (z : Float). Is z m 0 1) e (float-is m h) .1) (float-is n k .1)
-  where
-    same : (t b d : ℕ) → 0 < d → t * 1 + 0 * d ≡ m * d + b * 1 → t * 1 + 0 * d ≡ n * d + b * 1 → m ≡ n
-    same t b d D i j = eq-of-mul-eq-mul-right d D m n (omega arith)
 
 pub float-le : (m n : ℕ) → m ≤ n → n ≤ 2 ^ 24 → T (le (float m) (float n))
 float-le m n h k = le-of-is (float m) (float n) m 0 1 n 0 1 (lit< tt) (lit< tt) (float-is m (le-trans h k)) (float-is n k) (omega arith)
@@ -141,10 +131,6 @@ clamped-le x y h =
     (λ e g. below-clamped x y h (le-of-not-lt 𝟐𝟓𝟓 x tt (numbers .0) g))
 
 -- ---- the guarded quotient
-pub guarded-zero : (a b tiny : Float) → T (lt (absolute b) tiny) → guardedQuotient a b tiny ≡ 𝟎
-unfolding guardedQuotient
-guarded-zero a b tiny h = rw (is-true (lt (absolute b) tiny) h)
-
 pub guarded-plain : (a b tiny : Float) → T (le tiny (absolute b)) → guardedQuotient a b tiny ≡ a ⊘ b
 unfolding guardedQuotient
 guarded-plain a b tiny h = rw (not-lt-of-le tiny (absolute b) h)

@@ -3,7 +3,7 @@ ghost use mathlib.Core.Path.{_≡_};
 ghost use Prim.Native.Nat.{_+_, _*_, _^_, _≤_, _<_};
 ghost use Rattle.single.specs.Root.{rootOf, rootOfUnits};
 
-// A line that falls from c by d while z goes from 0 to 2 ^ 23: one step of Horner's rule.
+// A line that falls from c by d while z goes from 0 to 2 ^ 23.
 fn falling(c: u64, d: u64, z: u64) -> u64
     requires { ⌜ (d ≤ c) × (c < 2 ^ 24) × (z < 2 ^ 23) ⌝ }
     ensures { λ r. ⌜ r ≤ c ⌝ }
@@ -11,32 +11,41 @@ fn falling(c: u64, d: u64, z: u64) -> u64
     c - d * z / 8388608
 }
 
-// About 2 ^ 24 over the root of 1 + z / 2 ^ 23, by a polynomial of degree 5 that stays below it, by 31 parts in a million at most.
-// Only its range is proved: a guess needs no more.
+// One that rises.
+fn rising(c: u64, d: u64, z: u64) -> u64
+    requires { ⌜ (c < 2 ^ 24) × (d < 2 ^ 24) × (z < 2 ^ 23) ⌝ }
+    ensures { λ r. ⌜ r ≤ c + d ⌝ }
+{
+    c + d * z / 8388608
+}
+
+// About 2 ^ 23 over the root of 1 + z / 2 ^ 23, by a polynomial of degree 5 that stays below it, by 31 parts in a million at most. Three lines are
+// joined by the square of z (Estrin's scheme): Horner's five steps would wait for each other. Only its range is proved: a guess needs no more.
 fn inverse_root(z: u64) -> u64
     requires { ⌜ z < 2 ^ 23 ⌝ }
-    ensures { λ r. ⌜ r < 2 ^ 24 ⌝ }
+    ensures { λ r. ⌜ r < 3 * 2 ^ 22 ⌝ }
 {
-    let fourth = falling(2171612, 526870, z);
-    let third = falling(4283793, fourth, z);
-    let second = falling(6098793, third, z);
-    let first = falling(8373617, second, z);
-    falling(16776800, first, z)
+    let square = z * z / 8388608;
+    let low = falling(8388400, 4186808, z);
+    let middle = falling(3049396, 2141896, z);
+    let high = falling(1085806, 263435, z);
+    rising(low, rising(middle, high, square), square)
 }
 
 // A number near the root of m, which is a * 2 ^ 23, doubled where odd is 1: s + (m - s * s) / (2 * s), Heron's step from an s just below the root.
-// Only its range is proved: `raised` and `lowered` make any guess right. After this one they take a step for one m in a hundred.
+// Only its range is proved: `raised` and `lowered` make any guess right. After this one they take a step for one m in seventy.
 fn guess(a: u64, odd: u64, m: u64) -> u64
     requires { ⌜ (2 ^ 23 ≤ a) × (a < 2 ^ 24) × (odd < 2) × (m < 2 ^ 48) ⌝ }
     ensures { λ r. ⌜ r ≤ 2 ^ 26 ⌝ }
 {
-    // the root of 2 is about 46341 / 32768
-    let y = inverse_root(a - 8388608) * (32768 + 13573 * odd);
-    let s = a * y / 549755813888;
+    // the root of 2 is about 46341 / 32768, one over it 23170 / 32768
+    let y = inverse_root(a - 8388608);
+    let s = a * (32768 + 13573 * odd) * y / 274877906944;
     if m < s * s {
         return s;
     }
-    s + ((m - s * s) * ((y / 16777216) >> odd) + 274877906944) / 549755813888
+    let inverse = y / 256 * (32768 - 9598 * odd) / 32768;
+    s + ((m - s * s) * inverse + 274877906944) / 549755813888
 }
 
 // The first number from p on that is not too small: the root of m is not past the half-way to the next.

@@ -1,6 +1,6 @@
 -- `guess` meets its contract, which is its range: every product is held by the most that its factors can be.
 use Prim.Native.Nat.{ℕ, _+_, _-_, _*_, _/_, _^_, _≤_}
-use native.Mathlib.Nat.{le-trans, le-of-lt, sub-le, div-le-self, mul-le-mul}
+use native.Mathlib.Nat.{le-trans, le-of-lt, sub-le, mul-le-mul}
 use native.Mathlib.Omega.{arith}
 use borrow.Author.Needs.{needs}
 use lib.Dec.{lit≤}
@@ -8,58 +8,68 @@ use mir.Facts.{fits-below}
 use Rattle.single.proofs.root.guess.Statement.{statement}
 use Rattle.single.proofs.root.guess.Tie as tie
 
--- y, s and the numerator of the step
-abbrev Y : tie.After-inverse-root → ℕ
-Y c = c .inverse-root .result * (32768 + 13573 * c .before .args .odd)
+-- what is divided to s, and s; what is divided to the inverse, and the inverse; the numerator of the step
+abbrev Product : tie.After-inverse-root → ℕ
+Product c = c .before .args .a * (32768 + 13573 * c .before .args .odd) * c .inverse-root .result
 
 abbrev S : tie.After-inverse-root → ℕ
-S c = c .before .args .a * Y c / 549755813888
+S c = Product c / 274877906944
+
+abbrev Scaled : tie.After-inverse-root → ℕ
+Scaled c = c .inverse-root .result / 256 * (32768 - 9598 * c .before .args .odd)
 
 abbrev Step : tie.After-inverse-root → ℕ
-Step c = (c .before .args .m - S c * S c) * (Y c / 16777216 / 2 ^ c .before .args .odd)
+Step c = (c .before .args .m - S c * S c) * (Scaled c / 32768)
 
-y-most : (c : tie.After-inverse-root) → Y c ≤ 2 ^ 24 * 46341
-y-most c = let h : 32768 + 13573 * c .before .args .odd ≤ 46341 = omega arith in mul-le-mul (le-of-lt (c .inverse-root .ensures)) h
+first-most : (c : tie.After-inverse-root) → c .before .args .a * (32768 + 13573 * c .before .args .odd) ≤ 2 ^ 24 * 46341
+first-most c = let h : 32768 + 13573 * c .before .args .odd ≤ 46341 = omega arith in mul-le-mul (le-of-lt (c .before .pre .1)) h
 
-product-most : (c : tie.After-inverse-root) → c .before .args .a * Y c ≤ 2 ^ 24 * (2 ^ 24 * 46341)
-product-most c = mul-le-mul (le-of-lt (c .before .pre .1)) (y-most c)
+product-most : (c : tie.After-inverse-root) → Product c ≤ 2 ^ 24 * 46341 * (3 * 2 ^ 22)
+product-most c = mul-le-mul (first-most c) (le-of-lt (c .inverse-root .ensures))
 
-s-most : (c : tie.After-inverse-root) → S c ≤ 23726592
-s-most c = go (c .before .args .a * Y c) (product-most c)
+s-most : (c : tie.After-inverse-root) → S c ≤ 35589888
+s-most c = go (Product c) (product-most c)
   where
-    go : (x : ℕ) → x ≤ 2 ^ 24 * (2 ^ 24 * 46341) → x / 549755813888 ≤ 23726592
+    go : (x : ℕ) → x ≤ 2 ^ 24 * 46341 * (3 * 2 ^ 22) → x / 274877906944 ≤ 35589888
     go x h = omega arith
 
-step-most : (c : tie.After-inverse-root) → Step c ≤ 2 ^ 48 * 46341
-step-most c =
-    mul-le-mul (le-trans (sub-le (c .before .args .m) (S c * S c)) (le-of-lt (c .before .pre .3)))
-    (le-trans (div-le-self (Y c / 16777216) (2 ^ c .before .args .odd)) (go (Y c) (y-most c)))
-  where
-    go : (y : ℕ) → y ≤ 2 ^ 24 * 46341 → y / 16777216 ≤ 46341
-    go y h = omega arith
+scaled-most : (c : tie.After-inverse-root) → Scaled c ≤ 49152 * 32768
+scaled-most c =
+    let y : c .inverse-root .result / 256 ≤ 49152 = omega (arith, c .inverse-root .ensures) in
+    mul-le-mul y (sub-le 32768 (9598 * c .before .args .odd))
 
-sum-most : (s w : ℕ) → s ≤ 23726592 → w ≤ 2 ^ 48 * 46341 → s + (w + 274877906944) / 549755813888 ≤ 2 ^ 26
+step-most : (c : tie.After-inverse-root) → Step c ≤ 2 ^ 48 * 49152
+step-most c =
+    mul-le-mul (le-trans (sub-le (c .before .args .m) (S c * S c)) (le-of-lt (c .before .pre .3))) (go (Scaled c) (scaled-most c))
+  where
+    go : (x : ℕ) → x ≤ 49152 * 32768 → x / 32768 ≤ 49152
+    go x h = omega arith
+
+sum-most : (s w : ℕ) → s ≤ 35589888 → w ≤ 2 ^ 48 * 49152 → s + (w + 274877906944) / 549755813888 ≤ 2 ^ 26
 sum-most s w a b = omega arith
 
-mul-y-2 : tie.Need-mul-y-2
-mul-y-2 c = fits-below {n = 2 ^ 24 * 46341} tt (y-most c)
+mul-s-2 : tie.Need-mul-s-2
+mul-s-2 c = fits-below {n = 2 ^ 24 * 46341} tt (first-most c)
 
-mul-s : tie.Need-mul-s
-mul-s c = fits-below {n = 2 ^ 24 * (2 ^ 24 * 46341)} tt (product-most c)
+mul-s-3 : tie.Need-mul-s-3
+mul-s-3 c = fits-below {n = 2 ^ 24 * 46341 * (3 * 2 ^ 22)} tt (product-most c)
 
 mul-if1 : tie.Need-mul-if1
-mul-if1 c = fits-below {n = 23726592 * 23726592} tt (mul-le-mul (s-most c) (s-most c))
+mul-if1 c = fits-below {n = 35589888 * 35589888} tt (mul-le-mul (s-most c) (s-most c))
 
 returns : tie.Need-returns
 returns c = le-trans (s-most (c .before)) (lit≤ tt)
 
+mul-inverse-2 : tie.Need-mul-inverse-2
+mul-inverse-2 c = fits-below {n = 49152 * 32768} tt (scaled-most (c .before))
+
 mul-result-2 : tie.Need-mul-result-2
-mul-result-2 c = fits-below {n = 2 ^ 48 * 46341} tt (step-most (c .before))
+mul-result-2 c = fits-below {n = 2 ^ 48 * 49152} tt (step-most (c .before))
 
 add-result : tie.Need-add-result
-add-result c = fits-below {n = 2 ^ 48 * 46341 + 274877906944} tt (go (Step (c .before)) (step-most (c .before)))
+add-result c = fits-below {n = 2 ^ 48 * 49152 + 274877906944} tt (go (Step (c .before)) (step-most (c .before)))
   where
-    go : (w : ℕ) → w ≤ 2 ^ 48 * 46341 → w + 274877906944 ≤ 2 ^ 48 * 46341 + 274877906944
+    go : (w : ℕ) → w ≤ 2 ^ 48 * 49152 → w + 274877906944 ≤ 2 ^ 48 * 49152 + 274877906944
     go w h = omega arith
 
 add-result-2 : tie.Need-add-result-2
@@ -76,11 +86,13 @@ guess-spec =
     (λ c κs. search needs)
     (λ c. search needs)
     (λ c. search needs)
-    mul-y-2
-    mul-s
+    mul-s-2
+    mul-s-3
     mul-if1
     returns
     (λ c. search needs)
+    (λ c. search needs)
+    mul-inverse-2
     (λ c. search needs)
     (λ c. search needs)
     mul-result-2
