@@ -13,14 +13,18 @@ use Rattle.single.specs.Root.{rootOf}
 use Rattle.points.specs.declared.Knot.{Knot}
 use Rattle.points.specs.Knots.{knotAt}
 use Rattle.hermite.specs.CatmullRom.{before, after}
+use Rattle.hermite.specs.Segments.{at}
+
+-- the distance of a and b
+unfoldable pub chord : Knot → Knot → Float
+chord a b =
+    let dx = b .x ⊖ a .x in
+    let dy = b .y ⊖ a .y in
+    rootOf (dx ⊗ dx ⊕ dy ⊗ dy)
 
 -- the parameter's way from a to b: the chord, and for the centripetal kind its root, which is what `powf(0.5)` is here
 unfoldable pub spacing : Bool → Knot → Knot → Float
-spacing centripetal a b =
-    let dx = b .x ⊖ a .x in
-    let dy = b .y ⊖ a .y in
-    let chord = rootOf (dx ⊗ dx ⊕ dy ⊗ dy) in
-    cond centripetal (rootOf chord) chord
+spacing centripetal a b = cond centripetal (rootOf (chord a b)) (chord a b)
 
 abbrev pub tiny : Float → Bool
 tiny d = lt (absolute d) nano
@@ -46,3 +50,13 @@ alphaTangent centripetal first last l c r =
 unfoldable pub alphaAt : Bool → List Float → List Float → ℕ → ℕ → Float
 alphaAt centripetal xs ys n i =
     alphaTangent centripetal (eqb i 0) (eqb (i + 1) n) (knotAt xs ys (before i)) (knotAt xs ys i) (knotAt xs ys (after n i))
+
+-- ---- the rows that the code makes of the segments: chords, the roots of a row, spacings
+unfoldable pub chordAt : List Float → List Float → ℕ → Float
+chordAt xs ys i = chord (knotAt xs ys i) (knotAt xs ys (i + 1))
+
+unfoldable pub rootAt : List Float → ℕ → Float
+rootAt row i = rootOf (at row i)
+
+unfoldable pub spacingAt : Bool → List Float → List Float → ℕ → Float
+spacingAt centripetal xs ys i = spacing centripetal (knotAt xs ys i) (knotAt xs ys (i + 1))

@@ -12,6 +12,7 @@ use Rattle.single.specs.Root.{rootOf}
 use Rattle.hermite.specs.declared.tangents.Tangents.{Tangents}
 use Rattle.points.specs.Knots.{knotAt}
 use Rattle.hermite.specs.CatmullRom.{slope}
+use Rattle.hermite.specs.Segments.{at}
 
 -- the secant of the segment i
 unfoldable pub secantAt : List Float → List Float → ℕ → Float
@@ -57,3 +58,10 @@ unfoldable pub monotoneAt : Bool → List Float → List Float → ℕ → ℕ �
 monotoneAt box xs ys n i =
     cond (eqb (i + 1) n) (reached box xs ys n i)
     (adjusted box (secantAt xs ys i) (reached box xs ys n i) (meanAt xs ys n (i + 1)) .left)
+
+-- ---- the rows that the code makes of the segments, by the row of secants ds: the first tangent at the right knot of the segment i, and that over its secant
+unfoldable pub rightMean : List Float → ℕ → ℕ → Float
+rightMean ds n i = cond (eqb (i + 2) n) (at ds i) (½ ⊗ (at ds i ⊕ at ds (i + 1)))
+
+unfoldable pub quotientOf : List Float → List Float → ℕ → Float
+quotientOf rs ds i = at rs i ⊘ at ds i

@@ -1,9 +1,9 @@
 // The tangents at the knots, for the six Hermite kinds. n knots stand in the rows xs and ys; what stands behind them is not read.
 // A row of tangents has zeros behind its first n.
 ghost use mathlib.Core.Path.{_≡_};
-ghost use Prim.Native.Nat.{_≤_, _<_};
+ghost use Prim.Native.Nat.{_-_, _≤_, _<_};
 ghost use lib.ListN.{replicate};
-ghost use Rattle.floats.specs.Notation.{_⊖_};
+ghost use Rattle.floats.specs.Notation.{_⊖_, _⊘_};
 ghost use Rattle.lists.specs.Tabulate.{filled};
 ghost use Rattle.single.specs.Constants.{𝟎};
 ghost use Rattle.hermite.specs.CatmullRom as CatmullRom;
@@ -113,22 +113,23 @@ fn capped(m: f32, q: f32, d: f32) -> f32
     if q > 3.0 { 3.0 * d } else { nonnegative(m, q) }
 }
 
-// The tangents l and r of a segment with the secant d, each capped by itself.
-fn by_box(d: f32, l: f32, r: f32) -> Tangents
+// The tangents l and r of a segment with the secant d, each capped by itself; b is r over d.
+fn by_box(d: f32, l: f32, r: f32, b: f32) -> Tangents
+    requires { ⌜ b ≡ r ⊘ d ⌝ }
     ensures { λ t. ⌜ t ≡ Monotone.boxed d l r ⌝ }
 {
     Tangents {
         left: capped(l, l / d, d),
-        right: capped(r, r / d, d),
+        right: capped(r, b, d),
     }
 }
 
 // The same tangents, both drawn back to the circle where they lie outside it, by a and b as they are before the zeroing.
-fn by_circle(d: f32, l: f32, r: f32) -> Tangents
+fn by_circle(d: f32, l: f32, r: f32, b: f32) -> Tangents
+    requires { ⌜ b ≡ r ⊘ d ⌝ }
     ensures { λ t. ⌜ t ≡ Monotone.circled d l r ⌝ }
 {
     let a = l / d;
-    let b = r / d;
     let left = nonnegative(l, a);
     let right = nonnegative(r, b);
     let s = a * a + b * b;
@@ -149,8 +150,9 @@ fn tiny(d: f32) -> bool
     abs(d) < 0.000000001
 }
 
-// The tangents l and r at the ends of a segment with the secant d, as the segment leaves them.
-fn adjusted(boxed: bool, d: f32, l: f32, r: f32) -> Tangents
+// The tangents l and r at the ends of a segment with the secant d, as the segment leaves them; b is r over d.
+fn adjusted(boxed: bool, d: f32, l: f32, r: f32, b: f32) -> Tangents
+    requires { ⌜ b ≡ r ⊘ d ⌝ }
     ensures { λ t. ⌜ t ≡ Monotone.adjusted boxed d l r ⌝ }
 {
     if tiny(d) {
@@ -160,45 +162,122 @@ fn adjusted(boxed: bool, d: f32, l: f32, r: f32) -> Tangents
         };
     }
     if boxed {
-        by_box(d, l, r)
+        by_box(d, l, r, b)
     } else {
-        by_circle(d, l, r)
+        by_circle(d, l, r, b)
     }
 }
 
-// The tangents of MonotoneCubic, or where boxed of MonotoneCubicBox, segment by segment from the left.
-// d is the secant of the segment i, m the tangent of knot i as the segments before it leave it.
+// The secants of the segments between n knots.
+fn secants(xs: &[f32; 66], ys: &[f32; 66], n: usize) -> [f32; 66]
+    requires { ⌜ (2 ≤ n) × (n ≤ 66) ⌝ }
+    ensures { λ r. ⌜ r ≡ filled (n - 1) (Monotone.secantAt (now (xs .entry)) (now (ys .entry))) (replicate 66 𝟎) ⌝ }
+{
+    let mut ds = [0.0; 66];
+    let mut i: usize = 0;
+    while i + 1 < n {
+        ds[i] = secant(xs, ys, i);
+        i += 1;
+    }
+    ds
+}
+
+// The first tangents at their right knots.
+fn means(ds: &[f32; 66], n: usize) -> [f32; 66]
+    requires { ⌜ (2 ≤ n) × (n ≤ 66) ⌝ }
+    ensures { λ r. ⌜ r ≡ filled (n - 1) (Monotone.rightMean (now (ds .entry)) n) (replicate 66 𝟎) ⌝ }
+{
+    let mut rs = [0.0; 66];
+    let mut i: usize = 0;
+    while i + 2 < n {
+        rs[i] = 0.5 * (ds[i] + ds[i + 1]);
+        i += 1;
+    }
+    rs[i] = ds[i];
+    rs
+}
+
+// These over the secants.
+fn quotients(rs: &[f32; 66], ds: &[f32; 66], n: usize) -> [f32; 66]
+    requires { ⌜ (2 ≤ n) × (n ≤ 66) ⌝ }
+    ensures { λ r. ⌜ r ≡ filled (n - 1) (Monotone.quotientOf (now (rs .entry)) (now (ds .entry))) (replicate 66 𝟎) ⌝ }
+{
+    let mut bs = [0.0; 66];
+    let mut i: usize = 0;
+    while i + 1 < n {
+        bs[i] = rs[i] / ds[i];
+        i += 1;
+    }
+    bs
+}
+
+// The tangents of MonotoneCubic, or where boxed of MonotoneCubicBox, segment by segment from the left. m is the tangent of knot i as the segments before
+// it leave it. What does not wait for m is found before, in rows: with m / d and r / d in one turn LLVM makes one vector of them, and each turn waits for
+// the one before it.
 pub fn monotone(boxed: bool, xs: &[f32; 66], ys: &[f32; 66], n: usize) -> [f32; 66]
     requires { ⌜ (2 ≤ n) × (n ≤ 66) ⌝ }
     ensures { λ r. ⌜ r ≡ filled n (Monotone.monotoneAt boxed (now (xs .entry)) (now (ys .entry)) n) (replicate 66 𝟎) ⌝ }
 {
+    let ds = secants(xs, ys, n);
+    let rs = means(&ds, n);
+    let bs = quotients(&rs, &ds, n);
     let mut tangents = [0.0; 66];
-    let mut d = secant(xs, ys, 0);
-    let mut m = d;
+    let mut m = ds[0];
     let mut i: usize = 0;
-    while i + 2 < n {
-        let next = secant(xs, ys, i + 1);
-        let t = adjusted(boxed, d, m, 0.5 * (d + next));
+    while i + 1 < n {
+        let t = adjusted(boxed, ds[i], m, rs[i], bs[i]);
         tangents[i] = t.left;
         m = t.right;
-        d = next;
         i += 1;
     }
-    let t = adjusted(boxed, d, m, d);
-    tangents[i] = t.left;
-    tangents[i + 1] = t.right;
+    tangents[i] = m;
     tangents
 }
 
-// The spacing of a and b: the chord, or where centripetal its root.
-fn spacing(centripetal: bool, a: Knot, b: Knot) -> f32
-    ensures { λ r. ⌜ r ≡ Alpha.spacing centripetal a b ⌝ }
+// The chord from a to b.
+fn chord(a: Knot, b: Knot) -> f32
+    ensures { λ r. ⌜ r ≡ Alpha.chord a b ⌝ }
 {
     let dx = b.x - a.x;
     let dy = b.y - a.y;
-    let square = dx * dx + dy * dy;
-    let chord = sqrt(square);
-    if centripetal { sqrt(chord) } else { chord }
+    sqrt(dx * dx + dy * dy)
+}
+
+// The chords of the segments between n knots.
+fn chords(xs: &[f32; 66], ys: &[f32; 66], n: usize) -> [f32; 66]
+    requires { ⌜ (2 ≤ n) × (n ≤ 66) ⌝ }
+    ensures { λ r. ⌜ r ≡ filled (n - 1) (Alpha.chordAt (now (xs .entry)) (now (ys .entry))) (replicate 66 𝟎) ⌝ }
+{
+    let mut row = [0.0; 66];
+    let mut i: usize = 0;
+    while i + 1 < n {
+        row[i] = chord(knot_at(xs, ys, i), knot_at(xs, ys, i + 1));
+        i += 1;
+    }
+    row
+}
+
+// The roots of them. In a loop of their own: two roots one after the other would leave the processor waiting.
+fn roots(row: &[f32; 66], n: usize) -> [f32; 66]
+    requires { ⌜ (2 ≤ n) × (n ≤ 66) ⌝ }
+    ensures { λ r. ⌜ r ≡ filled (n - 1) (Alpha.rootAt (now (row .entry))) (replicate 66 𝟎) ⌝ }
+{
+    let mut roots = [0.0; 66];
+    let mut i: usize = 0;
+    while i + 1 < n {
+        roots[i] = sqrt(row[i]);
+        i += 1;
+    }
+    roots
+}
+
+// The spacings of n knots: the chords, or where centripetal their roots.
+fn spacings(centripetal: bool, xs: &[f32; 66], ys: &[f32; 66], n: usize) -> [f32; 66]
+    requires { ⌜ (2 ≤ n) × (n ≤ 66) ⌝ }
+    ensures { λ r. ⌜ r ≡ filled (n - 1) (Alpha.spacingAt centripetal (now (xs .entry)) (now (ys .entry))) (replicate 66 𝟎) ⌝ }
+{
+    let row = chords(xs, ys, n);
+    if centripetal { roots(&row, n) } else { row }
 }
 
 // p over d, and 0 for a tiny d.
@@ -233,27 +312,24 @@ fn inner(l: Knot, c: Knot, r: Knot, dl: f32, ds: f32, dr: f32) -> f32
     over(rise, over(r.x - l.x, ds))
 }
 
-// The tangents of ChordalCatmullRom, or where centripetal of CentripetalCatmullRom. Roots are dear: the spacing to a knot's right
-// is carried to the next knot, where it is the one to the left.
+// The tangents of ChordalCatmullRom, or where centripetal of CentripetalCatmullRom.
 pub fn alpha(centripetal: bool, xs: &[f32; 66], ys: &[f32; 66], n: usize) -> [f32; 66]
     requires { ⌜ (2 ≤ n) × (n ≤ 66) ⌝ }
     ensures { λ r. ⌜ r ≡ filled n (Alpha.alphaAt centripetal (now (xs .entry)) (now (ys .entry)) n) (replicate 66 𝟎) ⌝ }
 {
+    let ways = spacings(centripetal, xs, ys, n);
     let mut tangents = [0.0; 66];
-    let mut l = knot_at(xs, ys, 0);
-    let mut c = knot_at(xs, ys, 1);
-    let mut dl = spacing(centripetal, l, c);
-    tangents[0] = one_sided(l, c, dl);
+    tangents[0] = one_sided(knot_at(xs, ys, 0), knot_at(xs, ys, 1), ways[0]);
     let mut i: usize = 1;
     while i + 1 < n {
+        let dl = ways[i - 1];
+        let dr = ways[i];
+        let l = knot_at(xs, ys, i - 1);
+        let c = knot_at(xs, ys, i);
         let r = knot_at(xs, ys, i + 1);
-        let dr = spacing(centripetal, c, r);
         tangents[i] = inner(l, c, r, dl, dl + dr, dr);
-        l = c;
-        c = r;
-        dl = dr;
         i += 1;
     }
-    tangents[i] = one_sided(l, c, dl);
+    tangents[i] = one_sided(knot_at(xs, ys, i - 1), knot_at(xs, ys, i), ways[i - 1]);
     tangents
 }

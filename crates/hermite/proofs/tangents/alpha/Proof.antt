@@ -1,21 +1,22 @@
--- `tangents::alpha`: the spacing to the right of one knot is carried to the next, where it is the one to the left.
-use mathlib.Core.Path.{_≡_, refl}
-use mathlib.Core.Bool.{Bool, true, false}
+-- `tangents::alpha`: the first tangent, the loop's, and the last, by the row of spacings.
+use mathlib.Core.Path.{_≡_, refl, _∙_}
+use mathlib.Core.Bool.{Bool}
 use mathlib.Core.List.{List}
 use Prim.Native.Nat.{ℕ, _+_, _-_, _≤_, _<_}
 use native.Mathlib.Omega.{arith}
 use borrow.Author.Needs.{needs}
 use borrow.Author.Tests.{eq-eqb, ne-eqb}
-use lib.Ieee.{Float}
-use lib.ListN.{set, replicate}
+use lib.Ieee.{Float, nan}
+use lib.ListN.{replicate}
 use Rattle.floats.specs.Notation.{_⊕_, _⊖_}
-use Rattle.lists.specs.Tabulate.{filled}
+use Rattle.lists.specs.Tabulate.{filled, getD-filled}
 use Rattle.lists.specs.Stored.{Stored, stored-none, stored-next, stored-front}
 use Rattle.single.specs.Constants.{𝟎}
 use Rattle.points.specs.declared.Knot.{Knot}
 use Rattle.points.specs.Knots.{knotAt}
-use Rattle.hermite.specs.CatmullRom.{before, after}
-use Rattle.hermite.specs.Alpha.{spacing, over, threeTerms, alphaTangent, alphaAt}
+use Rattle.hermite.specs.Segments.{at}
+use Rattle.hermite.specs.CatmullRom.{after}
+use Rattle.hermite.specs.Alpha.{spacing, over, threeTerms, alphaTangent, alphaAt, spacingAt}
 use Rattle.hermite.proofs.tangents.alpha.Statement.{statement}
 use Rattle.hermite.proofs.tangents.alpha.Tie as tie
 
@@ -26,86 +27,81 @@ one-sided a b d = over (over (b .y ⊖ a .y) d) (over (b .x ⊖ a .x) d)
 abbrev inner : Knot → Knot → Knot → Float → Float → Float → Float
 inner l c r dl ds dr = over (threeTerms (r .y ⊖ c .y) (r .y ⊖ l .y) (c .y ⊖ l .y) dr ds dl) (over (r .x ⊖ l .x) ds)
 
--- at knot i, before its tangent is stored; k tells the centripetal kind
-record Turn (k : Bool) (xs ys : List Float) (n i : ℕ) (tangents : List Float) (l c : Knot) (dl : Float) : Type 0 where
-  pub low : 1 ≤ i
-  pub high : i < n
-  pub stored : Stored (alphaAt k xs ys n) 0 i (replicate 66 𝟎) tangents
-  pub left : l ≡ knotAt xs ys (before i)
-  pub here : c ≡ knotAt xs ys i
-  pub way : dl ≡ spacing k l c
+-- ---- the definition with its three cases told apart; k tells the centripetal kind
+module _ (k : Bool) (xs ys : List Float) (n : ℕ) (two : 2 ≤ n) {ways : List Float} (ways-is : ways ≡ filled (n - 1) (spacingAt k xs ys) (replicate 66 𝟎)) where
+  way : (i j : ℕ) → j ≡ i + 1 → j < n → at ways i ≡ spacing k (knotAt xs ys i) (knotAt xs ys j)
+  unfolding spacingAt
+  way i j e h = rw (ways-is, e) (getD-filled (n - 1) (spacingAt k xs ys) (replicate 66 𝟎) i nan (omega arith))
 
--- ---- the definition with its three cases told apart
-module _ (k : Bool) (l c r : Knot) where
-  at-first : alphaTangent k true false l c r ≡ one-sided c r (spacing k c r)
-  unfolding alphaTangent
-  at-first = refl
+  at-first : {a b : Knot} {m : Float} → a ≡ knotAt xs ys 0 → b ≡ knotAt xs ys 1 → m ≡ one-sided a b (at ways 0) → m ≡ alphaAt k xs ys n 0
+  unfolding alphaAt alphaTangent
+  at-first a-is b-is made =
+      let second : after n 0 ≡ 1 = omega arith in
+      made ∙ rw (second, a-is, b-is, way 0 1 (omega arith) (omega arith))
 
-  at-last : alphaTangent k false true l c r ≡ one-sided l c (spacing k l c)
-  unfolding alphaTangent
-  at-last = refl
+  module _ (i : ℕ) (low : 1 ≤ i) {l c : Knot} (l-is : l ≡ knotAt xs ys (i - 1)) (c-is : c ≡ knotAt xs ys i) {m : Float} where
+    at-last : i + 1 ≡ n → m ≡ one-sided l c (at ways (i - 1)) → m ≡ alphaAt k xs ys n i
+    unfolding alphaAt alphaTangent
+    at-last h made =
+        made ∙ rw (ne-eqb i 0 (λ z. omega arith), eq-eqb (i + 1) n h, l-is, c-is, way (i - 1) i (omega arith) (omega arith))
 
-  between : alphaTangent k false false l c r ≡ inner l c r (spacing k l c) (spacing k l c ⊕ spacing k c r) (spacing k c r)
-  unfolding alphaTangent
-  between = refl
-
-first-turn : (k : Bool) (xs ys : List Float) (n : ℕ) {a b : Knot} {d m : Float} → 2 ≤ n → a ≡ knotAt xs ys 0 → b ≡ knotAt xs ys 1
-    → d ≡ spacing k a b → m ≡ one-sided a b d → Turn k xs ys n 1 (set (replicate 66 𝟎) 0 m) a b d
-unfolding alphaAt
-first-turn k xs ys n h a-is b-is way e =
-    let second : after n 0 ≡ 1 = omega arith in
-    record {
-      low = omega arith;
-      high = omega arith;
-      stored = stored-next stored-none (rw (ne-eqb (0 + 1) n (λ z. omega arith), second, ← a-is, ← b-is, at-first, ← way) e);
-      left = a-is;
-      here = b-is;
-      way = way;
-    }
-
-module _ {k : Bool} {xs ys : List Float} {n i : ℕ} {tangents : List Float} {l c : Knot} {dl : Float} (t : Turn k xs ys n i tangents l c dl) where
-  next-turn : {r : Knot} {dr m : Float} → i + 1 < n → r ≡ knotAt xs ys (i + 1) → dr ≡ spacing k c r → m ≡ inner l c r dl (dl ⊕ dr) dr
-      → Turn k xs ys n (i + 1) (set tangents i m) c r dr
-  unfolding alphaAt
-  next-turn h r-is way e =
-      let next : after n i ≡ i + 1 = omega arith in
-      let one-less : before (i + 1) ≡ i = omega arith in
-      record {
-        low = omega arith;
-        high = h;
-        stored = stored-next (t .stored)
-            (rw (ne-eqb i 0 (λ z. omega arith), ne-eqb (i + 1) n (λ z. omega arith), next, ← t .left, ← t .here, ← r-is, between, ← t .way, ← way) e);
-        left = rw one-less (t .here);
-        here = r-is;
-        way = way;
-      }
-
-  last-turn : {m : Float} → i + 1 ≡ n → n ≤ 66 → m ≡ one-sided l c dl → set tangents i m ≡ filled n (alphaAt k xs ys n) (replicate 66 𝟎)
-  unfolding alphaAt
-  last-turn h most e =
-      let same : after n i ≡ i = omega arith in
-      stored-front
-      (stored-next (t .stored) (rw (ne-eqb i 0 (λ z. omega arith), eq-eqb (i + 1) n h, same, ← t .left, ← t .here, at-last, ← t .way) e))
-      h most
+    between : {r : Knot} → i + 1 < n → r ≡ knotAt xs ys (i + 1) → m ≡ inner l c r (at ways (i - 1)) (at ways (i - 1) ⊕ at ways i) (at ways i)
+        → m ≡ alphaAt k xs ys n i
+    unfolding alphaAt alphaTangent
+    between h r-is made =
+        let next : after n i ≡ i + 1 = omega arith in
+        made
+        ∙ rw (
+          ne-eqb i 0 (λ z. omega arith),
+          ne-eqb (i + 1) n (λ z. omega arith),
+          next,
+          l-is,
+          c-is,
+          r-is,
+          way (i - 1) i (omega arith) (omega arith),
+          way i (i + 1) refl h,
+        )
 
 abbrev Inv-loop : tie.InvT-loop
-Inv-loop centripetal xs ys n tangents₀ l₀ c₀ dl₀ i₀ tangents l c dl i = Turn centripetal xs ys n i tangents l c dl
+Inv-loop centripetal xs ys n ways tangents₀ i₀ tangents i = (1 ≤ i) × (i < n) × Stored (alphaAt centripetal xs ys n) 0 i (replicate 66 𝟎) tangents
 
 abbrev μ-loop : tie.MeasureT-loop
-μ-loop centripetal xs ys n tangents₀ l₀ c₀ dl₀ i₀ tangents l c dl i = n - i
+μ-loop centripetal xs ys n ways tangents₀ i₀ tangents i = n - i
 
 loop-holds : tie.Need-loop-holds Inv-loop μ-loop
 loop-holds c =
-    first-turn _ _ _ _ (omega arith) (c .before .before .before .knot-at .ensures) (c .before .before .knot-at2 .ensures)
-    (c .before .spacing .ensures) (c .one-sided .ensures)
+    let b = c .before in
+    let spacings = b .before .before .spacings .ensures in (
+      omega arith,
+      omega arith,
+      stored-next stored-none (at-first _ _ _ _ (omega arith) spacings (b .before .knot-at .ensures) (b .knot-at2 .ensures) (c .one-sided .ensures)),
+    )
 
 loop-again : tie.Need-loop-again Inv-loop μ-loop
 loop-again c =
-    next-turn (c .before .before .before .before .loop .inv) (omega arith)
-    (c .before .before .knot-at3 .ensures) (c .before .spacing2 .ensures) (c .inner .ensures)
+    let r = c .before in
+    let m = r .before in
+    let l = m .before in
+    let b = l .before .before in
+    let spacings = b .before .before .before .before .spacings .ensures in (
+      omega arith,
+      omega arith,
+      stored-next (b .loop .inv .2)
+          (between _ _ _ _ (omega arith) spacings _ (omega arith) (l .knot-at3 .ensures) (m .knot-at4 .ensures) (omega arith) (r .knot-at5 .ensures)
+          (c .inner .ensures)),
+    )
 
 returns : tie.Need-returns Inv-loop μ-loop
-returns c = last-turn (c .before .before .loop .inv) (omega arith) (search needs) (c .one-sided2 .ensures)
+returns c =
+    let m = c .before in
+    let l = m .before in
+    let b = l .before .before in
+    let start = b .before .before .before .before in
+    stored-front
+    (stored-next (b .loop .inv .2)
+    (at-last _ _ _ _ (omega arith) (start .spacings .ensures) _ (omega arith) (l .knot-at6 .ensures) (m .knot-at7 .ensures) (omega arith)
+    (c .one-sided2 .ensures)))
+    (omega arith) (start .before .pre .1)
 
 pub alpha-spec : {M : Type 1} → statement M
 alpha-spec =
@@ -113,23 +109,12 @@ alpha-spec =
     (tie.spec
     Inv-loop
     μ-loop
-    (λ c κs. search needs)
-    (λ c κs. search needs)
-    (λ c κs. search needs)
-    (λ c κs. search needs)
-    (λ c. search needs)
+    (λ c κs. search needs) (λ c κs. search needs) (λ c κs. search needs) (λ c. search needs) (λ c κs. search needs) (λ c. search needs)
     loop-holds
-    (λ c. search needs)
-    (λ c. search needs)
-    (λ c κs. search needs)
-    (λ c κs. search needs)
-    (λ c κs. search needs)
-    (λ c. search needs)
-    (λ c. search needs)
-    (λ c. search needs)
-    (λ c. search needs)
+    (λ c. search needs) (λ c. search needs) (λ c. search needs) (λ c. search needs) (λ c. search needs) (λ c. search needs)
+    (λ c. search needs) (λ c κs. search needs) (λ c κs. search needs) (λ c. search needs) (λ c κs. search needs) (λ c κs. search needs)
+    (λ c. search needs) (λ c. search needs) (λ c. search needs) (λ c. search needs)
     loop-again
-    (λ c κs. search needs)
-    (λ c. search needs)
-    (λ c. search needs)
+    (λ c. search needs) (λ c κs. search needs) (λ c κs. search needs) (λ c. search needs) (λ c. search needs) (λ c. search needs) (λ c κs. search needs)
+    (λ c. search needs) (λ c. search needs)
     returns)

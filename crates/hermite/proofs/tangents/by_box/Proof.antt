@@ -12,7 +12,7 @@ capped-requires-2 c κs = search needs
 
 returns : tie.Need-returns
 unfolding boxed
-returns c = rw (c .before .capped .ensures, c .capped2 .ensures)
+returns c = rw (c .before .capped .ensures, c .capped2 .ensures, c .before .before .pre)
 
 pub by-box-spec : {M : Type 1} → statement M
 by-box-spec = tie.close (tie.spec capped-requires capped-requires-2 returns)

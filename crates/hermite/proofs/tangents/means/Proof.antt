@@ -1,0 +1,40 @@
+-- `tangents::means`: the loop stores the rule's element at each place but the last, which comes behind it.
+use Prim.Native.Nat.{_≤_, _+_, _-_}
+use native.Mathlib.Omega.{arith}
+use borrow.Author.Needs.{needs}
+use borrow.Author.Tests.{eq-eqb, ne-eqb}
+use Rattle.lists.specs.Stored.{Stored, stored-none, stored-next, stored-front}
+use Rattle.hermite.specs.Monotone.{rightMean}
+use Rattle.hermite.proofs.tangents.means.Statement.{statement}
+use Rattle.hermite.proofs.tangents.means.Tie as tie
+
+abbrev Inv-loop : tie.InvT-loop
+Inv-loop ds n rs₀ i₀ rs i = (i + 2 ≤ n) × Stored (rightMean ds n) 0 i rs₀ rs
+
+abbrev μ-loop : tie.MeasureT-loop
+μ-loop ds n rs₀ i₀ rs i = n - i
+
+loop-again : tie.Need-loop-again Inv-loop μ-loop
+unfolding rightMean
+loop-again c =
+    let b = c .before .before .before in
+    (search needs, stored-next (b .loop .inv .1) (rw (ne-eqb (b .loop .i + 2) (b .before .args .n) (λ e. omega arith))))
+
+returns : tie.Need-returns Inv-loop μ-loop
+unfolding rightMean
+returns c =
+    let b = c .before .before in
+    stored-front (stored-next (b .loop .inv .1) (rw (eq-eqb (b .loop .i + 2) (b .before .args .n) (omega arith)))) (omega arith) (search needs)
+
+pub means-spec : {M : Type 1} → statement M
+means-spec =
+    tie.close
+    (tie.spec
+    Inv-loop
+    μ-loop
+    (λ c. (search needs, stored-none))
+    (λ c. search needs) (λ c. search needs) (λ c. search needs) (λ c. search needs) (λ c. search needs) (λ c. search needs) (λ c. search needs)
+    (λ c. search needs) (λ c. search needs) (λ c. search needs)
+    loop-again
+    (λ c. search needs) (λ c. search needs) (λ c. search needs) (λ c. search needs)
+    returns)
