@@ -6,13 +6,3 @@ pub mod Alpha
 pub mod Rows
 pub mod SegmentLaws
 pub mod Samples
-pub mod StraightLaws
-pub mod CubicLaws
-pub mod Sizes
-pub mod RootBounds
-pub mod SlopeBounds
-pub mod MonotoneBounds
-pub mod AlphaBounds
-pub mod CubicBounds
-pub mod HermiteKinds
-pub mod ListLaws

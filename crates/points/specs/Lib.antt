@@ -5,6 +5,5 @@ pub mod Order
 pub mod Kept
 pub mod Shape
 pub mod Rows
-pub mod Line
 pub mod Owned
 pub mod Examples

@@ -50,9 +50,9 @@ use Rattle.records.specs.Views.{HandedBack}
 use Rattle.writing.specs.declared.Written.{Written}
 use Rattle.writing.specs.Encode.{encode, roomAnswer}
 use Rattle.writing.specs.Contracts.{Wrote}
-use Rattle.writing.specs.RoundTrip as RoundTrip
-use Rattle.writing.specs.NotLonger as NotLonger
-use Rattle.writing.specs.Runs as Writing
+use Rattle.record_facts.specs.RoundTrip as RoundTrip
+use Rattle.record_facts.specs.NotLonger as NotLonger
+use Rattle.record_facts.specs.Runs as Writing
 use Rattle.formats.specs.declared.PixelFormat.{PixelFormat}
 use Rattle.pictures.specs.OneTable.{LutCall}
 use Rattle.promises.specs.Words.{Call, Accepted, ExactPicture}

@@ -19,7 +19,7 @@ use Rattle.points.specs.Points.{kept}
 use Rattle.points.specs.Knots.{OnLine}
 use Rattle.points.specs.Order.{All, Bytes, NeverFalls}
 use Rattle.points.specs.Kept.{kept-rising, rising-is-kept}
-use Rattle.points.specs.Line.{on-line, line-width, one-value}
+use Rattle.table_facts.specs.BrokenLine.{on-line, line-width, one-value}
 use Rattle.tables.specs.declared.CurveInterpolation.the-variants.{Linear}
 use Rattle.tables.specs.Tables.{entryOf}
 use Rattle.table_facts.specs.Near.{entry-near}

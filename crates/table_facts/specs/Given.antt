@@ -15,7 +15,7 @@ use Rattle.points.specs.Kept.{kept-is-kept}
 use Rattle.hermite.specs.Segments.{step, sampleAt}
 use Rattle.hermite.specs.Samples.{sample-byte}
 use Rattle.hermite.specs.Rows.{Rows, fineHeight}
-use Rattle.hermite.specs.ListLaws.{straightOf, knot-rows}
+use Rattle.table_facts.specs.ListLaws.{straightOf, knot-rows}
 use Rattle.tables.specs.declared.CurveInterpolation.the-variants.{Linear}
 use Rattle.sampling.specs.Pieces.{heightOf, heightAt}
 use Rattle.tables.specs.Tables.{unclampedAt}

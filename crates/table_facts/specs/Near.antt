@@ -23,13 +23,13 @@ use Rattle.points.specs.Points.{kept}
 use Rattle.points.specs.Knots.{knots, xOf, xRow, OnLine}
 use Rattle.points.specs.Order.{All, Bytes}
 use Rattle.points.specs.Kept.{kept-is-kept}
-use Rattle.points.specs.Line.{line-width}
+use Rattle.table_facts.specs.BrokenLine.{line-width}
 use Rattle.hermite.specs.Rows.{fineHeight, x-most}
 use Rattle.hermite.specs.Segments.{at}
 use Rattle.hermite.specs.SegmentLaws.{InRange, nonnegative-is}
 use Rattle.hermite.specs.Samples.{sample-256, sample-4096}
-use Rattle.hermite.specs.StraightLaws.{exactLine, straight-finite, straight-in-range, straight-close}
-use Rattle.hermite.specs.ListLaws.{straightOf}
+use Rattle.table_facts.specs.StraightLaws.{exactLine, straight-finite, straight-in-range, straight-close}
+use Rattle.table_facts.specs.ListLaws.{straightOf}
 use Rattle.tables.specs.declared.CurveInterpolation.the-variants.{Linear}
 use Rattle.sampling.specs.Pieces.{sampled}
 use Rattle.tables.specs.Tables.{unclampedAt, sampleOf, entryOf}

@@ -22,9 +22,9 @@ use Rattle.points.specs.Order.{All, Bytes, IsKept, all-mem}
 use Rattle.points.specs.Kept.{kept-is-kept}
 use Rattle.hermite.specs.Segments.{at}
 use Rattle.hermite.specs.SegmentLaws.{InRange}
-use Rattle.hermite.specs.StraightLaws.{straight-finite}
-use Rattle.hermite.specs.HermiteKinds.{HermiteRule, catmull-rom, cardinal, monotone, alpha, tangent-finite, kind-finite}
-use Rattle.hermite.specs.ListLaws.{cubicOf, straight-at-point, kind-at-point}
+use Rattle.table_facts.specs.StraightLaws.{straight-finite}
+use Rattle.table_facts.specs.HermiteKinds.{HermiteRule, catmull-rom, cardinal, monotone, alpha, tangent-finite, kind-finite}
+use Rattle.table_facts.specs.ListLaws.{cubicOf, straight-at-point, kind-at-point}
 use Rattle.tables.specs.declared.CurveInterpolation.{CurveInterpolation}
 use Rattle.tables.specs.declared.CurveInterpolation.the-variants.{
   Linear,

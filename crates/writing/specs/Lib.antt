@@ -2,8 +2,5 @@ pub mod Encode
 pub mod Cases
 pub mod Contracts
 pub mod Lengths
-pub mod NotLonger
 pub mod Map
-pub mod RoundTrip
-pub mod Runs
 pub mod Examples

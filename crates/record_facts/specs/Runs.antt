@@ -12,12 +12,12 @@ use Rattle.sets.specs.SameLaws.{view-same}
 use Rattle.records.specs.declared.RecordRead.{RecordRead}
 use Rattle.records.specs.Format.{readRecord}
 use Rattle.records.specs.Views.{HandedBack}
 use Rattle.writing.specs.declared.Written.{Written}
 use Rattle.writing.specs.Encode.{encode, roomAnswer}
 use Rattle.writing.specs.Cases.{write-answer, done-case}
 use Rattle.writing.specs.Contracts.{Wrote}
-use Rattle.writing.specs.NotLonger.{not-longer}
-use Rattle.writing.specs.RoundTrip.{written-back}
+use Rattle.record_facts.specs.NotLonger.{not-longer}
+use Rattle.record_facts.specs.RoundTrip.{written-back}
 
 module _ {set : Curves} {before after : List ℕ} {w : Written} {r : RecordRead} where
   -- "reading what the writer wrote gives the same set back": of a run that answers done, the bytes up to its length are read as the same set

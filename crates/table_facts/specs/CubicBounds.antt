@@ -13,13 +13,13 @@ use Rattle.floats.specs.Segment.{at-float}
 use Rattle.floats.specs.Within.{Within, widen, within-add, within-sub, within-mul}
 use Rattle.single.specs.Constants.{𝟎, 𝟏, 𝟎-is, 𝟏-is}
 use Rattle.points.specs.declared.Knot.{Knot}
 use Rattle.hermite.specs.Segments.{at, segment}
 use Rattle.hermite.specs.Pieces.{hermite}
 use Rattle.hermite.specs.Rows.{Rows, piece}
 use Rattle.hermite.specs.SegmentLaws.{InRange, nonnegative-is, segment-holds}
-use Rattle.hermite.specs.StraightLaws.{part-plain}
-use Rattle.hermite.specs.CubicLaws.{cubicAt}
-use Rattle.hermite.specs.Sizes.{most-within, one-within, two-within, three-within, Small, run-within, knot-small}
+use Rattle.table_facts.specs.StraightLaws.{part-plain}
+use Rattle.table_facts.specs.CubicLaws.{cubicAt}
+use Rattle.table_facts.specs.Sizes.{most-within, one-within, two-within, three-within, Small, run-within, knot-small}
 
 -- what is from 0 to 1
 unit-within : (t : Float) → T (finite t) → T (le 𝟎 t) → T (le t 𝟏) → Within t 149

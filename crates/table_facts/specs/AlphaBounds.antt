@@ -9,10 +9,10 @@ use Rattle.floats.specs.Notation.{_⊘_}
 use Rattle.floats.specs.Within.{Within, within-zero, widen, within-cond, within-test, within-add, within-sub, within-div}
 use Rattle.single.specs.Constants.{𝟎, 𝟎-is}
 use Rattle.points.specs.declared.Knot.{Knot}
 use Rattle.hermite.specs.Alpha.{chord, spacing, tiny, over, threeTerms, alphaTangent, alphaAt}
 use Rattle.hermite.specs.Rows.{Rows}
-use Rattle.hermite.specs.Sizes.{nano-guard, passed, guarded-within, Small, run-within, rise-within, knot-small, before-small, after-small}
-use Rattle.hermite.specs.RootBounds.{square-from-zero, sum-from-zero, root-from-zero}
+use Rattle.table_facts.specs.Sizes.{nano-guard, passed, guarded-within, Small, run-within, rise-within, knot-small, before-small, after-small}
+use Rattle.table_facts.specs.RootBounds.{square-from-zero, sum-from-zero, root-from-zero}
 
 -- ---- the ways between knots
 spacing-within : (centripetal : Bool) {a b : Knot} → Small a → Small b → Within (spacing centripetal a b) 159

@@ -8,17 +8,17 @@ use lib.Ieee.{Float}
 use lib.Ieee.Scale.{finite}
 use Rattle.floats.specs.Value.{Is}
 use Rattle.floats.specs.Within.{Within, widen}
 use Rattle.hermite.specs.Segments.{at}
 use Rattle.hermite.specs.CatmullRom.{catmullRomAt, cardinalAt}
 use Rattle.hermite.specs.Monotone.{monotoneAt}
 use Rattle.hermite.specs.Alpha.{alphaAt}
 use Rattle.hermite.specs.Rows.{Rows}
 use Rattle.hermite.specs.SegmentLaws.{InRange}
-use Rattle.hermite.specs.CubicLaws.{cubicAt, cubic-at-knot}
-use Rattle.hermite.specs.CubicBounds.{cubic-within}
-use Rattle.hermite.specs.SlopeBounds.{catmull-rom-within, cardinal-within}
-use Rattle.hermite.specs.MonotoneBounds.{monotone-within}
-use Rattle.hermite.specs.AlphaBounds.{alpha-within}
+use Rattle.table_facts.specs.CubicLaws.{cubicAt, cubic-at-knot}
+use Rattle.table_facts.specs.CubicBounds.{cubic-within}
+use Rattle.table_facts.specs.SlopeBounds.{catmull-rom-within, cardinal-within}
+use Rattle.table_facts.specs.MonotoneBounds.{monotone-within}
+use Rattle.table_facts.specs.AlphaBounds.{alpha-within}
 
 -- the tangent of knot i of the n knots in two rows
 abbrev pub TangentRule : Type 0

@@ -20,7 +20,7 @@ use Rattle.sets.specs.declared.Colour.{Colour}
 use Rattle.sets.specs.declared.Colour.the-variants.{Red, Green, Blue}
 use Rattle.sets.specs.Sets.{View, emptyView, default, withColour}
 use Rattle.points.specs.Points.{limit}
-use Rattle.records.specs.Legal as Read
+use Rattle.record_facts.specs.ReadLegal as Read
 use Rattle.records.specs.Format.{
   Parse,
   good,

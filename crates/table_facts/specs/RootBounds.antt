@@ -21,7 +21,7 @@ use Rattle.floats.specs.Sign.{add-unsigned, square-unsigned}
 use Rattle.floats.specs.Within.{Within, Beyond, within-of, beyond-of, within-zero, widen, within-add, within-mul, beyond-add}
 use Rattle.single.specs.Root.{rootOfUnits, rootOf}
 use Rattle.single.specs.RootUnits.{root-most, root-between}
-use Rattle.hermite.specs.Sizes.{Guard, passed}
+use Rattle.table_facts.specs.Sizes.{Guard, passed}
 
 -- ---- x is from +0 to 2 ^ k units
 pub record FromZero (x : Float) (k : ℕ) : Type 0 where

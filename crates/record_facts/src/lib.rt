@@ -1,0 +1,1 @@
+// What records owe stands in specs/: no code.
