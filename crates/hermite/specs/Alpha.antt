@@ -23,8 +23,11 @@ chord a b =
     rootOf (dx ⊗ dx ⊕ dy ⊗ dy)
 
 -- the parameter's way from a to b: the chord, and for the centripetal kind its root, which is what `powf(0.5)` is here
+abbrev pub spacingOf : Bool → Float → Float
+spacingOf centripetal chord = cond centripetal (rootOf chord) chord
+
 unfoldable pub spacing : Bool → Knot → Knot → Float
-spacing centripetal a b = cond centripetal (rootOf (chord a b)) (chord a b)
+spacing centripetal a b = spacingOf centripetal (chord a b)
 
 abbrev pub tiny : Float → Bool
 tiny d = lt (absolute d) nano
@@ -51,12 +54,9 @@ unfoldable pub alphaAt : Bool → List Float → List Float → ℕ → ℕ → 
 alphaAt centripetal xs ys n i =
     alphaTangent centripetal (eqb i 0) (eqb (i + 1) n) (knotAt xs ys (before i)) (knotAt xs ys i) (knotAt xs ys (after n i))
 
--- ---- the rows that the code makes of the segments: chords, the roots of a row, spacings
+-- ---- the rows that the code makes of the segments: chords, and the spacings that belong to a row of them
 unfoldable pub chordAt : List Float → List Float → ℕ → Float
 chordAt xs ys i = chord (knotAt xs ys i) (knotAt xs ys (i + 1))
 
-unfoldable pub rootAt : List Float → ℕ → Float
-rootAt row i = rootOf (at row i)
-
-unfoldable pub spacingAt : Bool → List Float → List Float → ℕ → Float
-spacingAt centripetal xs ys i = spacing centripetal (knotAt xs ys i) (knotAt xs ys (i + 1))
+unfoldable pub spacingAt : Bool → List Float → ℕ → Float
+spacingAt centripetal chords i = spacingOf centripetal (at chords i)

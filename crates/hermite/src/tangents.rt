@@ -5,6 +5,7 @@ ghost use Prim.Native.Nat.{_-_, _≤_, _<_};
 ghost use lib.ListN.{replicate};
 ghost use Rattle.floats.specs.Notation.{_⊖_, _⊘_};
 ghost use Rattle.lists.specs.Tabulate.{filled};
+ghost use Rattle.lists.specs.Stored.{Stored};
 ghost use Rattle.single.specs.Constants.{𝟎};
 ghost use Rattle.hermite.specs.CatmullRom as CatmullRom;
 ghost use Rattle.hermite.specs.Monotone as Monotone;
@@ -168,47 +169,41 @@ fn adjusted(boxed: bool, d: f32, l: f32, r: f32, b: f32) -> Tangents
     }
 }
 
-// The secants of the segments between n knots.
-fn secants(xs: &[f32; 66], ys: &[f32; 66], n: usize) -> [f32; 66]
+// The secants of the segments between n knots, to the front of a row.
+fn secants(xs: &[f32; 66], ys: &[f32; 66], n: usize, row: &mut [f32; 66])
     requires { ⌜ (2 ≤ n) × (n ≤ 66) ⌝ }
-    ensures { λ r. ⌜ r ≡ filled (n - 1) (Monotone.secantAt (now (xs .entry)) (now (ys .entry))) (replicate 66 𝟎) ⌝ }
+    ensures { λ _. ⌜ Stored (Monotone.secantAt (now (xs .entry)) (now (ys .entry))) 0 (n - 1) (now (row .entry)) (now (row .exit)) ⌝ }
 {
-    let mut ds = [0.0; 66];
     let mut i: usize = 0;
     while i + 1 < n {
-        ds[i] = secant(xs, ys, i);
+        row[i] = secant(xs, ys, i);
         i += 1;
     }
-    ds
 }
 
 // The first tangents at their right knots.
-fn means(ds: &[f32; 66], n: usize) -> [f32; 66]
+fn means(ds: &[f32; 66], n: usize, row: &mut [f32; 66])
     requires { ⌜ (2 ≤ n) × (n ≤ 66) ⌝ }
-    ensures { λ r. ⌜ r ≡ filled (n - 1) (Monotone.rightMean (now (ds .entry)) n) (replicate 66 𝟎) ⌝ }
+    ensures { λ _. ⌜ Stored (Monotone.rightMean (now (ds .entry)) n) 0 (n - 1) (now (row .entry)) (now (row .exit)) ⌝ }
 {
-    let mut rs = [0.0; 66];
     let mut i: usize = 0;
     while i + 2 < n {
-        rs[i] = 0.5 * (ds[i] + ds[i + 1]);
+        row[i] = 0.5 * (ds[i] + ds[i + 1]);
         i += 1;
     }
-    rs[i] = ds[i];
-    rs
+    row[i] = ds[i];
 }
 
 // These over the secants.
-fn quotients(rs: &[f32; 66], ds: &[f32; 66], n: usize) -> [f32; 66]
+fn quotients(rs: &[f32; 66], ds: &[f32; 66], n: usize, row: &mut [f32; 66])
     requires { ⌜ (2 ≤ n) × (n ≤ 66) ⌝ }
-    ensures { λ r. ⌜ r ≡ filled (n - 1) (Monotone.quotientOf (now (rs .entry)) (now (ds .entry))) (replicate 66 𝟎) ⌝ }
+    ensures { λ _. ⌜ Stored (Monotone.quotientOf (now (rs .entry)) (now (ds .entry))) 0 (n - 1) (now (row .entry)) (now (row .exit)) ⌝ }
 {
-    let mut bs = [0.0; 66];
     let mut i: usize = 0;
     while i + 1 < n {
-        bs[i] = rs[i] / ds[i];
+        row[i] = rs[i] / ds[i];
         i += 1;
     }
-    bs
 }
 
 // The tangents of MonotoneCubic, or where boxed of MonotoneCubicBox, segment by segment from the left. m is the tangent of knot i as the segments before
@@ -218,9 +213,12 @@ pub fn monotone(boxed: bool, xs: &[f32; 66], ys: &[f32; 66], n: usize) -> [f32; 
     requires { ⌜ (2 ≤ n) × (n ≤ 66) ⌝ }
     ensures { λ r. ⌜ r ≡ filled n (Monotone.monotoneAt boxed (now (xs .entry)) (now (ys .entry)) n) (replicate 66 𝟎) ⌝ }
 {
-    let ds = secants(xs, ys, n);
-    let rs = means(&ds, n);
-    let bs = quotients(&rs, &ds, n);
+    let mut ds = [0.0; 66];
+    secants(xs, ys, n, &mut ds);
+    let mut rs = [0.0; 66];
+    means(&ds, n, &mut rs);
+    let mut bs = [0.0; 66];
+    quotients(&rs, &ds, n, &mut bs);
     let mut tangents = [0.0; 66];
     let mut m = ds[0];
     let mut i: usize = 0;
@@ -243,41 +241,35 @@ fn chord(a: Knot, b: Knot) -> f32
     sqrt(dx * dx + dy * dy)
 }
 
-// The chords of the segments between n knots.
-fn chords(xs: &[f32; 66], ys: &[f32; 66], n: usize) -> [f32; 66]
+// The chords of the segments between n knots, to the front of a row.
+fn chords(xs: &[f32; 66], ys: &[f32; 66], n: usize, row: &mut [f32; 66])
     requires { ⌜ (2 ≤ n) × (n ≤ 66) ⌝ }
-    ensures { λ r. ⌜ r ≡ filled (n - 1) (Alpha.chordAt (now (xs .entry)) (now (ys .entry))) (replicate 66 𝟎) ⌝ }
+    ensures { λ _. ⌜ Stored (Alpha.chordAt (now (xs .entry)) (now (ys .entry))) 0 (n - 1) (now (row .entry)) (now (row .exit)) ⌝ }
 {
-    let mut row = [0.0; 66];
     let mut i: usize = 0;
     while i + 1 < n {
         row[i] = chord(knot_at(xs, ys, i), knot_at(xs, ys, i + 1));
         i += 1;
     }
-    row
 }
 
-// The roots of them. In a loop of their own: two roots one after the other would leave the processor waiting.
-fn roots(row: &[f32; 66], n: usize) -> [f32; 66]
-    requires { ⌜ (2 ≤ n) × (n ≤ 66) ⌝ }
-    ensures { λ r. ⌜ r ≡ filled (n - 1) (Alpha.rootAt (now (row .entry))) (replicate 66 𝟎) ⌝ }
+// The spacing that belongs to a chord: the chord, or where centripetal its root.
+fn spacing(centripetal: bool, chord: f32) -> f32
+    ensures { λ r. ⌜ r ≡ Alpha.spacingOf centripetal chord ⌝ }
 {
-    let mut roots = [0.0; 66];
+    if centripetal { sqrt(chord) } else { chord }
+}
+
+// The spacings that belong to chords. In a loop of their own: two roots one after the other would leave the processor waiting.
+fn spacings(centripetal: bool, chords: &[f32; 66], n: usize, row: &mut [f32; 66])
+    requires { ⌜ (2 ≤ n) × (n ≤ 66) ⌝ }
+    ensures { λ _. ⌜ Stored (Alpha.spacingAt centripetal (now (chords .entry))) 0 (n - 1) (now (row .entry)) (now (row .exit)) ⌝ }
+{
     let mut i: usize = 0;
     while i + 1 < n {
-        roots[i] = sqrt(row[i]);
+        row[i] = spacing(centripetal, chords[i]);
         i += 1;
     }
-    roots
-}
-
-// The spacings of n knots: the chords, or where centripetal their roots.
-fn spacings(centripetal: bool, xs: &[f32; 66], ys: &[f32; 66], n: usize) -> [f32; 66]
-    requires { ⌜ (2 ≤ n) × (n ≤ 66) ⌝ }
-    ensures { λ r. ⌜ r ≡ filled (n - 1) (Alpha.spacingAt centripetal (now (xs .entry)) (now (ys .entry))) (replicate 66 𝟎) ⌝ }
-{
-    let row = chords(xs, ys, n);
-    if centripetal { roots(&row, n) } else { row }
 }
 
 // p over d, and 0 for a tiny d.
@@ -317,7 +309,10 @@ pub fn alpha(centripetal: bool, xs: &[f32; 66], ys: &[f32; 66], n: usize) -> [f3
     requires { ⌜ (2 ≤ n) × (n ≤ 66) ⌝ }
     ensures { λ r. ⌜ r ≡ filled n (Alpha.alphaAt centripetal (now (xs .entry)) (now (ys .entry)) n) (replicate 66 𝟎) ⌝ }
 {
-    let ways = spacings(centripetal, xs, ys, n);
+    let mut row = [0.0; 66];
+    chords(xs, ys, n, &mut row);
+    let mut ways = [0.0; 66];
+    spacings(centripetal, &row, n, &mut ways);
     let mut tangents = [0.0; 66];
     tangents[0] = one_sided(knot_at(xs, ys, 0), knot_at(xs, ys, 1), ways[0]);
     let mut i: usize = 1;

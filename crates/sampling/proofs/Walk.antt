@@ -1,121 +1,241 @@
--- The walk of `fill` through the samples: runs along one piece, the search for a segment from another one on, and the state between two pieces.
-use mathlib.Core.Path.{_≡_, refl, sym, _∙_}
+-- The way of `fill` through the samples: the search for a segment from another one on, and the state from block to block.
+use mathlib.Core.Path.{_≡_, sym, ap, _∙_}
 use mathlib.Core.Bool.{true, false, true≢false}
 use mathlib.Core.List.{List}
-use Prim.Native.Nat.{ℕ, suc, _+_, _-_, _≤_, _<_}
+use Prim.Native.Nat.{ℕ, suc, _+_, _-_, _≤_, _<_, max}
 use native.Mathlib.Decide.{decLt}
-use native.Mathlib.Nat.{le-refl, sub-zero}
+use native.Mathlib.Nat.{sub-zero}
 use native.Mathlib.Numerals.{add-one}
 use native.Mathlib.Omega.{arith}
 use borrow.Author.Tests.{lt-ltb, le-ltb}
-use lib.ListN.{length}
-use lib.Ieee.{Float, nan, inf, fin, lt}
-use Rattle.lists.specs.Tabulate.{tabulate}
-use Rattle.lists.specs.Stored.{Stored, stored-none, stored-then, stored-as, stored-all}
-use Rattle.hermite.specs.Segments.{step, sampleAt, seek, segment}
+use lib.Ieee.{Float, nan, lt}
+use lib.ListN.{length, getD, set, replicate, length-set, getD-replicate}
+use lib.Seq.{getD-set-same, getD-set-other}
+use Rattle.lists.specs.Tabulate.{tabulate, getD-tabulate, is-tabulate}
+use Rattle.lists.specs.Stored.{Stored, stored-as, stored-inside, stored-below, stored-above}
+use Rattle.single.specs.Constants.{𝟎, 𝟐}
+use Rattle.single.specs.Rules.{clamped, guardedQuotient}
+use Rattle.single.specs.ByteLaws.{floor-small}
+use Rattle.single.specs.RuleLaws.{by-test}
+use Rattle.floats.specs.Notation.{_⊘_}
+use Rattle.hermite.specs.Segments.{at, step, sampleAt, seek, segment}
+use Rattle.hermite.specs.Pieces.{part}
+use Rattle.spline.specs.Segments.{between, splinePiece}
+use Rattle.points.specs.declared.Knot.{Knot}
+use Rattle.points.specs.Knots.{knotAt}
 use Rattle.sampling.specs.declared.Form.{Form}
+use Rattle.sampling.specs.declared.Form.the-variants.{Straight, Cubic, Spline}
+use Rattle.sampling.specs.declared.blocks.Place.{Place}
 use Rattle.sampling.specs.declared.Piece.{Piece}
-use Rattle.sampling.specs.Pieces.{pieceAt, heightAt, sampled}
-use Rattle.sampling.specs.Walk.{endOf, along, Run, Rest}
+use Rattle.sampling.specs.Pieces.{pieceAt, heightOf, heightAt, sampled}
+use Rattle.sampling.specs.Walk.{narrow, isEnd, endAt, Ends, nextPlace, partFrom, partsOf, fromParts, straightSample, cubicSample, firstOf, thirdOf, firstAt, thirdAt, splineSample, along, State}
 use Rattle.sampling.specs.Positions.{past-later, inside-earlier}
 
--- ---- runs along one piece
-module _ {form : Form} {piece : Piece} {end s : Float} where
-  pub run-none : {v : ℕ} {l : List Float} → v ≤ length l → Run form piece end s v v l l
-  run-none h = record { stored = stored-none; room = h; inside = λ w low e. absurd (omega arith) }
+-- ---- the search for a segment, from the segment i on
+module _ (xs : List Float) (n i : ℕ) (x : Float) where
+  -- the next knot is not less than x: it is the one
+  pub seek-stays : lt (at xs (i + 1)) x ≡ false → i + 2 < n → seek xs x (n - 2 - i) i ≡ i
+  unfolding seek
+  seek-stays t h = let more : n - 2 - i ≡ suc (n - 3 - i) = omega arith in rw (more, ← add-one i, t)
 
-  pub run-then : {v r t : ℕ} {l m k : List Float} → Run form piece end s v r l m → Run form piece end s r t m k → Run form piece end s v t l k
-  run-then {v} {r} {t} a b = record {
-    stored = stored-then (a .stored) (b .stored);
-    room = omega arith;
-    inside = λ w low e. elim (decLt w r) [
-      | yes left ↦ a .inside w low (omega (arith, b .stored .order))
-      | no right ↦ b .inside w (omega arith) e
+  -- it is: the search goes on from there
+  pub seek-on : lt (at xs (i + 1)) x ≡ true → i + 2 < n → seek xs x (n - 2 - i) i ≡ seek xs x (n - 2 - (i + 1)) (i + 1)
+  unfolding seek
+  seek-on t h = let more : n - 2 - i ≡ suc (n - 2 - (i + 1)) = omega arith in rw (more, seek, ← add-one i, t)
+
+  -- there is none
+  pub seek-last : n ≤ i + 2 → seek xs x (n - 2 - i) i ≡ i
+  unfolding seek
+  seek-last h = let none : n - 2 - i ≡ 0 = omega arith in rw none
+
+-- ---- ends
+end-past : (x s : Float) (e : ℕ) → isEnd x s e ≡ true → lt x (sampleAt s e) ≡ true
+end-past x s e h = by-test (lt x (sampleAt s e)) (λ t. t) (λ t. absurd (true≢false (sym h ∙ rw t)))
+
+end-inside : (x s : Float) (e : ℕ) → isEnd x s e ≡ true → lt x (sampleAt s (e - 1)) ≡ false
+end-inside x s e h =
+    by-test (lt x (sampleAt s (e - 1))) (λ t. absurd (true≢false (sym h ∙ rw (end-past x s e h, t)))) (λ t. t)
+
+end-most : (xs : List Float) (s : Float) (i : ℕ) → endAt xs s i ≤ 4095
+unfolding endAt
+end-most xs s i = omega (arith, floor-small (at xs (i + 1) ⊘ s))
+
+module _ {xs : List Float} {s : Float} {n S : ℕ} {ends : List ℕ} (given : Ends xs n ends s S) (i : ℕ) where
+  end-inner : i + 2 < n → getD ends i 0 ≡ endAt xs s i
+  end-inner h = stored-inside (given .row) i 0 (omega arith) (omega arith) (omega (arith, given .most))
+
+  end-last : n ≤ i + 2 → i < 66 → getD ends i 0 ≡ 8192
+  end-last h room = stored-above (given .row) i 0 (omega arith) ∙ getD-replicate 66 i 8192 0 room
+
+-- ---- places
+-- the next place is on the rows, and further on
+pub record Next (n : ℕ) (p q : Place) : Type 0 where
+  pub room : q .i + 1 < n
+  pub held : q .v ≤ 4096
+  pub on : p .v + p .i < q .v + q .i
+
+pub next-is : {xs : List Float} {n S : ℕ} {ends : List ℕ} {s : Float} {p q : Place} → Ends xs n ends s S → p .i + 1 < n → p .v + 4 ≤ S
+    → q ≡ nextPlace ends p → Next n p q
+unfolding nextPlace
+next-is {xs} {n} {s = s} {p} given low room q-is = rw q-is (elim (decLt (p .i + 2) n) [
+  | yes inner ↦
+      let e = endAt xs s (p .i) in
+      rw (end-inner given (p .i) inner) (elim (decLt (p .v + 4) e) [
+        | yes more ↦ rw (lt-ltb (p .v + 4) e more) (record { room = low; held = omega (arith, given .held); on = omega arith })
+        | no enough ↦
+            rw (le-ltb (p .v + 4) e (omega arith))
+            (record { room = omega arith; held = omega (arith, given .held, end-most xs s (p .i)); on = omega arith })
+      ])
+  | no last ↦
+      rw (end-last given (p .i) (omega arith) (omega (arith, given .most)), lt-ltb (p .v + 4) 8192 (omega (arith, given .held)))
+      (record { room = low; held = omega (arith, given .held); on = omega arith })
+])
+
+-- no piece is narrow
+pub wide-piece : {xs : List Float} (ys ms : List Float) {n S : ℕ} {ends : List ℕ} {s : Float} (i : ℕ) {piece : Piece} → Ends xs n ends s S → i + 1 < n
+    → piece ≡ pieceAt xs ys ms i → narrow (piece .a .x) (piece .b .x) ≡ false
+wide-piece ys ms i given h e = rw e (given .right .wide i h)
+
+-- ---- samples by parts
+from-parts : (f : Float → Float) (piece : Piece) (s : Float) (v w : ℕ) → v ≤ w → w < v + 4
+    → fromParts f (partsOf piece s v) v w ≡ f (part (piece .a) (piece .b) (sampleAt s w))
+unfolding fromParts partsOf partFrom
+from-parts f piece s v w low high =
+    let place : v + (w - v) ≡ w = omega arith in
+    ap f (getD-tabulate 4 (partFrom piece s v) (w - v) nan (omega arith) ∙ rw place)
+
+module _ (xs ys ms : List Float) (i : ℕ) (s : Float) {piece : Piece} {v : ℕ} {t : List Float} {l m : List Float} (same : piece ≡ pieceAt xs ys ms i)
+    (parts : t ≡ partsOf (pieceAt xs ys ms i) s v) where
+  pub straight-block : Stored (fromParts (straightSample piece) t v) v (v + 4) l m → Stored (along Straight (pieceAt xs ys ms i) s) v (v + 4) l m
+  unfolding along heightOf
+  straight-block r =
+      stored-as (rw (same, parts) at r) (λ w low high. from-parts (straightSample (pieceAt xs ys ms i)) (pieceAt xs ys ms i) s v w low high)
+
+  pub cubic-block : Stored (fromParts (cubicSample piece) t v) v (v + 4) l m → Stored (along Cubic (pieceAt xs ys ms i) s) v (v + 4) l m
+  unfolding along heightOf
+  cubic-block r =
+      stored-as (rw (same, parts) at r) (λ w low high. from-parts (cubicSample (pieceAt xs ys ms i)) (pieceAt xs ys ms i) s v w low high)
+
+-- ---- samples by coefficients, which stand in rows
+by-coefficients : (piece : Piece) (s : Float) (w : ℕ) → narrow (piece .a .x) (piece .b .x) ≡ false
+    → splineSample (piece .a) (firstOf piece) (piece .p ⊘ 𝟐) (thirdOf piece) s w ≡ along Spline piece s w
+unfolding splineSample along heightOf splinePiece between guardedQuotient firstOf thirdOf
+by-coefficients piece s w wide = rw wide
+
+pub spline-block : (xs ys ms : List Float) (n i : ℕ) {S : ℕ} {ends : List ℕ} {s : Float} {a : Knot} {c1s c3s : List Float} {v : ℕ} {l m : List Float}
+    → Ends xs n ends s S → i + 1 < n → a ≡ knotAt xs ys i → Stored (firstAt xs ys ms) 0 (n - 1) (replicate 66 𝟎) c1s
+    → Stored (thirdAt xs ys ms) 0 (n - 1) (replicate 66 𝟎) c3s
+    → Stored (splineSample a (at c1s i) (at ms i ⊘ 𝟐) (at c3s i) s) v (v + 4) l m → Stored (along Spline (pieceAt xs ys ms i) s) v (v + 4) l m
+unfolding firstAt thirdAt
+spline-block xs ys ms n i {s = s} {a} {c1s} {c3s} given h a-is c1s-is c3s-is r =
+    let first : at c1s i ≡ firstOf (pieceAt xs ys ms i) = stored-inside c1s-is i nan (omega arith) (omega arith) (omega (arith, given .most)) in
+    let third : at c3s i ≡ thirdOf (pieceAt xs ys ms i) = stored-inside c3s-is i nan (omega arith) (omega arith) (omega (arith, given .most)) in
+    stored-as (rw (a-is, first, third) at r) (λ w low high. by-coefficients (pieceAt xs ys ms i) s w (given .right .wide i h))
+
+-- ---- the state
+module _ (form : Form) (xs ys ms : List Float) (n S : ℕ) where
+  -- the x of sample w
+  abbrev position : ℕ → Float
+  position w = sampleAt (step S) w
+
+  pub start : {l : List Float} → length l ≡ S → 2 ≤ n → State form xs ys ms n S (record { v = 0; i = 0 }) l
+  unfolding segment
+  start long h = record { long = long; room = omega arith; done = λ w low high. absurd (omega arith); ahead = λ w low high. simp sub-zero }
+
+  -- a sample that lies in the segment i is that of its piece
+  pub here : {i : ℕ} (w : ℕ) → segment xs n (position w) ≡ i
+      → along form (pieceAt xs ys ms i) (step S) w ≡ sampled (heightAt form xs ys ms n) S w
+  unfolding along sampled heightAt
+  here w same = rw same
+
+  module _ {p : Place} {l m : List Float} (state : State form xs ys ms n S p l)
+      (block : Stored (along form (pieceAt xs ys ms (p .i)) (step S)) (p .v) (p .v + 4) l m) where
+    -- up to a sample r in the block, if the piece has those before it
+    done-to : (r : ℕ) → r ≤ p .v + 4 → ((w : ℕ) → p .v ≤ w → w < r → w < S → segment xs n (position w) ≡ p .i)
+        → (w : ℕ) → w < r → w < S → getD m w nan ≡ sampled (heightAt form xs ys ms n) S w
+    done-to r far inside w low high = elim (decLt w (p .v)) [
+      | yes before ↦ stored-below block w nan before ∙ state .done w before high
+      | no after ↦
+          stored-inside block w nan (omega arith) (omega arith) (omega (arith, state .long)) ∙ here w (inside w (omega arith) low high)
+    ]
+
+    -- four samples on, where the piece has them
+    four-on : ((w : ℕ) → p .v ≤ w → w < p .v + 4 → w < S → segment xs n (position w) ≡ p .i)
+        → State form xs ys ms n S (record { v = p .v + 4; i = p .i }) m
+    four-on inside = record {
+      long = block .same-length ∙ state .long;
+      room = state .room;
+      done = done-to (p .v + 4) (omega arith) inside;
+      ahead = λ w low high. state .ahead w (omega arith) high;
+    }
+
+    -- to the end e of the piece and on to the next, where the block reaches so far
+    next-on : (e : ℕ) → e ≤ p .v + 4 → p .i + 2 < n → ((w : ℕ) → p .v ≤ w → w < e → w < S → segment xs n (position w) ≡ p .i)
+        → ((w : ℕ) → e ≤ w → w < S → lt (at xs (p .i + 1)) (position w) ≡ true)
+        → State form xs ys ms n S (record { v = max (p .v) e; i = p .i + 1 }) m
+    next-on e far inner inside past = record {
+      long = block .same-length ∙ state .long;
+      room = omega arith;
+      done = done-to (max (p .v) e) (omega arith) (λ w low high lt. inside w low (omega arith) lt);
+      ahead = λ w low high. state .ahead w (omega arith) high ∙ seek-on xs n (p .i) (position w) (past w (omega arith) high) inner;
+    }
+
+  -- after a block
+  after : {p : Place} {ends : List ℕ} {l m : List Float} → Ends xs n ends (step S) S → p .v + 4 ≤ S → State form xs ys ms n S p l
+      → Stored (along form (pieceAt xs ys ms (p .i)) (step S)) (p .v) (p .v + 4) l m → State form xs ys ms n S (nextPlace ends p) m
+  unfolding nextPlace
+  after {p} given room state block = elim (decLt (p .i + 2) n) [
+    | yes inner ↦
+        let x = at xs (p .i + 1) in
+        let e = endAt xs (step S) (p .i) in
+        let is-end = given .right .end (p .i) inner in
+        let inside : (w : ℕ) → p .v ≤ w → w < e → w < S → segment xs n (position w) ≡ p .i =
+        λ w low high lt. state .ahead w low lt
+        ∙ seek-stays xs n (p .i) (position w)
+        (inside-earlier S (given .some) (given .held) x w (e - 1) (omega arith) (omega (arith, end-most xs (step S) (p .i))) (end-inside x (step S) e is-end))
+        inner in
+        let past : (w : ℕ) → e ≤ w → w < S → lt x (position w) ≡ true =
+        λ w low high. past-later S (given .some) (given .held) x e w low (omega (arith, given .held)) (end-past x (step S) e is-end) in
+        rw (end-inner given (p .i) inner) (elim (decLt (p .v + 4) e) [
+          | yes more ↦ rw (lt-ltb (p .v + 4) e more) (four-on state block (λ w low high lt. inside w low (omega arith) lt))
+          | no enough ↦ rw (le-ltb (p .v + 4) e (omega arith)) (next-on state block e (omega arith) inner inside past)
+        ])
+    | no last ↦
+        rw (
+          end-last given (p .i) (omega arith) (omega (arith, given .most, state .room)),
+          lt-ltb (p .v + 4) 8192 (omega (arith, given .held)),
+        )
+        (four-on state block (λ w low high lt. state .ahead w low lt ∙ seek-last xs n (p .i) (position w) (omega arith)))
+  ]
+
+  pub after-block : {p q : Place} {ends : List ℕ} {s : Float} {l m : List Float} → Ends xs n ends s S → p .v + 4 ≤ S → q ≡ nextPlace ends p
+      → State form xs ys ms n S p l → Stored (along form (pieceAt xs ys ms (p .i)) s) (p .v) (p .v + 4) l m → State form xs ys ms n S q m
+  after-block given room q-is state block = rw q-is (after (rw (given .step-is) at given) room state (rw (given .step-is) at block))
+
+  -- ---- one by one: the samples before v are the curve's
+  pub record Done (v : ℕ) (samples : List Float) : Type 0 where
+    pub long : length samples ≡ S
+    pub done : (w : ℕ) → w < v → w < S → getD samples w nan ≡ sampled (heightAt form xs ys ms n) S w
+
+  pub done-start : {p : Place} {l : List Float} → State form xs ys ms n S p l → Done (p .v) l
+  done-start state = record { long = state .long; done = state .done }
+
+  pub done-next : {v : ℕ} {l : List Float} {y : Float} → Done v l → v < S → y ≡ sampled (heightAt form xs ys ms n) S v → Done (v + 1) (set l v y)
+  done-next {v} {l} {y} d h e = record {
+    long = length-set l v y ∙ d .long;
+    done = λ w low high. elim (decLt w v) [
+      | yes before ↦ getD-set-other l v w y nan (λ same. omega arith) ∙ d .done w before high
+      | no after ↦ let same : w ≡ v = omega arith in rw same (getD-set-same l v y nan (omega (arith, d .long)) ∙ e)
     ];
   }
 
-  -- stores up to t, of which the last is not past the end
-  pub run-more : {v r t last : ℕ} {l m k : List Float} → Run form piece end s v r l m → Stored (along form piece s) r t m k → t ≤ length l
-      → lt end (sampleAt s last) ≡ false → suc last ≡ t → Run form piece end s v t l k
-  run-more {last = last} a b h e same =
-      run-then a (record { stored = b; room = omega arith; inside = λ w low at-end. let is-last : w ≡ last = omega arith in rw is-last e })
+  pub done-all : {v : ℕ} {l : List Float} → Done v l → S ≤ v → l ≡ tabulate S (sampled (heightAt form xs ys ms n) S)
+  done-all d h = is-tabulate nan (d .long) (λ w lt. d .done w (omega arith) lt)
 
-  pub rest-after : {v r t : ℕ} {l m k : List Float} → Run form piece end s v r l m → Rest form piece end s r t m k → Rest form piece end s v t l k
-  rest-after a b = record { run = run-then a (b .run); past = λ h. b .past (omega arith) }
-
--- ---- the search for a segment, from the segment i on
-module _ (xs : List Float) (n i : ℕ) (x : Float) (before : i + 1 < n) where
-  none-past : (y : Float) → lt (inf false) y ≡ false
-  unfolding lt
-  none-past nan = refl
-  none-past (inf true) = refl
-  none-past (inf false) = refl
-  none-past (fin t m e) = refl
-
-  -- not past its end: it is the one
-  pub seek-here : lt (endOf xs n i) x ≡ false → seek xs x (n - 2 - i) i ≡ i
-  unfolding seek endOf
-  seek-here t = elim (decLt (i + 2) n) [
-    | yes inner ↦
-        let more : n - 2 - i ≡ suc (n - 3 - i) = omega arith in
-        rw (more, ← add-one i, rw (lt-ltb (i + 2) n inner) at t)
-    | no last ↦ let end : n - 2 - i ≡ 0 = omega arith in rw end
-  ]
-
-  -- past its end: there is a next one, and the search goes on from there
-  pub seek-past : lt (endOf xs n i) x ≡ true → (i + 2 < n) × (seek xs x (n - 2 - i) i ≡ seek xs x (n - 2 - (i + 1)) (i + 1))
-  unfolding seek endOf
-  seek-past t = elim (decLt (i + 2) n) [
-    | yes inner ↦
-        let more : n - 2 - i ≡ suc (n - 2 - (i + 1)) = omega arith in
-        (inner, rw (more, seek, ← add-one i, rw (lt-ltb (i + 2) n inner) at t))
-    | no last ↦ absurd (true≢false (sym (rw (le-ltb (i + 2) n (omega arith)) at t) ∙ none-past x))
-  ]
-
--- ---- between two pieces: the samples before v are the curve's, and no later one lies left of the segment i
-module _ (form : Form) (xs ys ms : List Float) (n : ℕ) (old : List Float) where
-  -- the x of sample w
-  abbrev position : ℕ → Float
-  position w = sampleAt (step (length old)) w
-
-  pub record State (i v : ℕ) (new : List Float) : Type 0 where
-    pub stored : Stored (sampled (heightAt form xs ys ms n) (length old)) 0 v old new
-    pub room : v ≤ length old
-    pub ahead : (w : ℕ) → v ≤ w → w < length old → (i + 1 < n) × (segment xs n (position w) ≡ seek xs (position w) (n - 2 - i) i)
-
-  pub start : 2 ≤ n → State 0 0 old
-  unfolding segment
-  start h = record { stored = stored-none; room = omega arith; ahead = λ w low high. (omega arith, simp sub-zero) }
-
-  pub finish : {i v : ℕ} {new : List Float} → State i v new → n ≤ i + 1 → new ≡ tabulate (length old) (sampled (heightAt form xs ys ms n) (length old))
-  finish {v = v} a h = stored-all (a .stored) refl (elim (decLt v (length old)) [
-    | yes left ↦ absurd (omega (arith, a .ahead v (le-refl v) left .0))
-    | no all ↦ omega arith
-  ])
-
-  -- a sample that lies in the segment i is that of its piece
-  here : {i : ℕ} {piece : Piece} (w : ℕ) → piece ≡ pieceAt xs ys ms i → segment xs n (position w) ≡ i
-      → along form piece (step (length old)) w ≡ sampled (heightAt form xs ys ms n) (length old) w
-  unfolding along sampled heightAt
-  here w e same = rw (same, e)
-
-  -- over the piece of the segment i
-  pub turn : {i v r : ℕ} {piece : Piece} {end : Float} {l k : List Float} → 2 ≤ length old → length old ≤ 4096 → i + 1 < n
-      → piece ≡ pieceAt xs ys ms i → end ≡ endOf xs n i → State i v l → Rest form piece end (step (length old)) v r l k → State (i + 1) r k
-  turn {i} {v} {r} {piece} {end} some most before piece-is end-is a b =
-      let run = b .run in
-      let not-past : (w : ℕ) → v ≤ w → w < r → lt (endOf xs n i) (position w) ≡ false =
-      λ w low high. rw end-is at (inside-earlier (length old) some most end w (r - 1) (omega arith) (omega arith)
-      (run .inside (r - 1) (omega arith) (omega arith))) in
-      record {
-        stored =
-            stored-then (a .stored)
-            (stored-as (run .stored)
-            (λ w low high.
-            here w piece-is (a .ahead w low (omega arith) .1 ∙ seek-here xs n i (position w) before (not-past w low high))));
-        room = omega arith;
-        ahead = λ w low high.
-            let past = rw end-is at (past-later (length old) some most end r w low (omega arith) (b .past (omega arith))) in
-            let next = seek-past xs n i (position w) before past in
-            (omega arith, a .ahead w (omega arith) high .1 ∙ next .1);
-      }
+  -- sample v by its segment, sought from that of the place
+  pub one-sample : {p : Place} {l : List Float} {v i : ℕ} {s x h y : Float} {piece : Piece} → State form xs ys ms n S p l → p .v ≤ v → v < S → s ≡ step S
+      → x ≡ sampleAt s v → i ≡ seek xs x (n - 2 - p .i) (p .i) → piece ≡ pieceAt xs ys ms i → h ≡ heightOf form piece x → y ≡ clamped h
+      → y ≡ sampled (heightAt form xs ys ms n) S v
+  unfolding sampled heightAt
+  one-sample {v = v} state low high step-is x-is i-is piece-is h-is y-is =
+      y-is ∙ rw (h-is, piece-is, i-is, x-is, step-is, ← state .ahead v low high)

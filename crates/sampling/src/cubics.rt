@@ -4,66 +4,56 @@ ghost use Prim.Native.Nat.{_+_, _≤_};
 ghost use lib.ListN.{length};
 ghost use Rattle.lists.specs.Stored.{Stored};
 ghost use Rattle.sampling.specs.declared.Form.the-variants.{Cubic};
-ghost use Rattle.sampling.specs.Walk.{along, Run, Rest};
+ghost use Rattle.sampling.specs.Walk.{cubicSample, fromParts, Ends, State};
 use crate::Piece;
-use crate::position;
+use crate::blocks::Place;
+use crate::blocks::next;
+use crate::blocks::parts;
+use crate::piece_at;
 
-// Sample v.
-fn sample(piece: Piece, step: f32, v: usize) -> f32
-    requires { ⌜ v ≤ 4096 ⌝ }
-    ensures { λ r. ⌜ r ≡ along Cubic piece step v ⌝ }
+// The sample at the part t.
+fn sample(piece: Piece, t: f32) -> f32
+    ensures { λ r. ⌜ r ≡ cubicSample piece t ⌝ }
 {
-    let height = hermite::hermite(
-        piece.a,
-        piece.b,
-        piece.p,
-        piece.q,
-        hermite::part(piece.a, piece.b, position(step, v)),
-    );
+    let height = hermite::hermite(piece.a, piece.b, piece.p, piece.q, t);
     single::clamp(height)
 }
 
-// Four samples.
-fn four(piece: Piece, step: f32, from: usize, samples: &mut [f32])
-    requires { ⌜ (from + 4 ≤ length (now samples)) × (length (now samples) ≤ 4096) ⌝ }
-    ensures { λ _. ⌜ Stored (along Cubic piece step) from (from + 4) (now (samples .entry)) (now (samples .exit)) ⌝ }
+// Four samples, at their parts.
+fn four(piece: Piece, t: [f32; 4], v: usize, samples: &mut [f32])
+    requires { ⌜ (v + 4 ≤ length (now samples)) × (length (now samples) ≤ 4096) ⌝ }
+    ensures { λ _. ⌜ Stored (fromParts (cubicSample piece) t v) v (v + 4) (now (samples .entry)) (now (samples .exit)) ⌝ }
 {
     let mut j: usize = 0;
     while j < 4 {
-        samples[from + j] = sample(piece, step, from + j);
+        samples[v + j] = sample(piece, t[j]);
         j += 1;
     }
 }
 
-// Samples four at a time, as long as the fourth is not past the end: how far it came.
-fn blocks(piece: Piece, end: f32, step: f32, from: usize, samples: &mut [f32]) -> usize
-    requires { ⌜ (from ≤ length (now samples)) × (length (now samples) ≤ 4096) ⌝ }
-    ensures { λ r. ⌜ Run Cubic piece end step from r (now (samples .entry)) (now (samples .exit)) ⌝ }
+// Samples in blocks of four, as far as a block has room: the place that is reached. The parts of the next block are found before this one is drawn,
+// since a quotient takes long.
+pub fn draw(
+    xs: &[f32; 66],
+    ys: &[f32; 66],
+    ms: &[f32; 66],
+    n: usize,
+    ends: &[u32; 66],
+    step: f32,
+    samples: &mut [f32],
+) -> Place
+    requires { ⌜ Ends (now xs) n (now ends) step (length (now samples)) ⌝ }
+    ensures { λ r. ⌜ State Cubic (now (xs .entry)) (now (ys .entry)) (now (ms .entry)) n (length (now (samples .entry))) r (now (samples .exit)) ⌝ }
 {
     let count = samples.len();
-    let mut v = from;
-    while v + 4 <= count {
-        if end < position(step, v + 3) {
-            return v;
-        }
-        four(piece, step, v, samples);
-        v += 4;
+    let mut p = Place { v: 0, i: 0 };
+    let mut t = parts(piece_at(xs, ys, ms, 0), step, 0);
+    while p.v + 4 <= count {
+        let q = next(ends, p);
+        let u = parts(piece_at(xs, ys, ms, q.i), step, q.v);
+        four(piece_at(xs, ys, ms, p.i), t, p.v, samples);
+        p = q;
+        t = u;
     }
-    v
-}
-
-// Samples up to the first past the end: blocks, then one by one.
-pub fn draw(piece: Piece, end: f32, step: f32, from: usize, samples: &mut [f32]) -> usize
-    requires { ⌜ (from ≤ length (now samples)) × (length (now samples) ≤ 4096) ⌝ }
-    ensures { λ r. ⌜ Rest Cubic piece end step from r (now (samples .entry)) (now (samples .exit)) ⌝ }
-{
-    let mut v = blocks(piece, end, step, from, samples);
-    while v < samples.len() {
-        if end < position(step, v) {
-            return v;
-        }
-        samples[v] = sample(piece, step, v);
-        v += 1;
-    }
-    v
+    p
 }

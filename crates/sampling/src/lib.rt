@@ -1,17 +1,20 @@
-// The samples of a curve whose knots stand in rows, piece by piece from the left. No segment is searched anew: the x of the samples rises,
-// so a segment once passed stays passed. Each form has a module with loops of its own: of one loop over all forms LLVM makes code that
-// tests the form at each sample, finds the spline's quotients for every form, and takes twice the time.
+// The samples of a curve whose knots stand in rows, in blocks of four. A block lies on one piece, and where the piece ends within it, the next piece's first
+// block goes over what is too much: so a short piece takes one block, and the loop has no branch for the processor to guess wrong. Where each piece ends is
+// found beforehand. Each form has a module with a loop of its own: of one loop over all forms LLVM makes code that takes twice the time.
 ghost use mathlib.Core.Path.{_≡_};
-ghost use Prim.Native.Nat.{_+_, _<_, _≤_};
+ghost use Prim.Native.Nat.{_+_, _-_, _<_, _≤_};
 ghost use lib.ListN.{length};
 ghost use Rattle.lists.specs.Tabulate.{tabulate};
 ghost use Rattle.hermite.specs.Segments as S;
-ghost use Rattle.sampling.specs.Pieces.{pieceAt, heightAt, sampled};
-ghost use Rattle.sampling.specs.Walk.{endOf, Rest};
+ghost use Rattle.sampling.specs.Pieces.{pieceAt, heightOf, heightAt, sampled};
+ghost use Rattle.sampling.specs.Walk.{Ends, State};
+use blocks::Place;
 use points::Knot;
 use points::knot_at;
 
+mod blocks;
 mod cubics;
+mod ends;
 mod splines;
 mod straights;
 
@@ -45,30 +48,112 @@ fn piece_at(xs: &[f32; 66], ys: &[f32; 66], ms: &[f32; 66], i: usize) -> Piece
 
 // The x of sample v.
 fn position(step: f32, v: usize) -> f32
-    requires { ⌜ v ≤ 4096 ⌝ }
+    requires { ⌜ v ≤ 8192 ⌝ }
     ensures { λ r. ⌜ r ≡ S.sampleAt step v ⌝ }
 {
     single::count_to_float(v) * step
 }
 
-// Where the segment i gives way to the next: at its right knot; nowhere if it is the last.
-fn end_of(xs: &[f32; 66], n: usize, i: usize) -> f32
-    requires { ⌜ (i + 1 < n) × (n ≤ 66) ⌝ }
-    ensures { λ r. ⌜ r ≡ endOf (now (xs .entry)) n i ⌝ }
-{
-    if i + 2 < n { xs[i + 1] } else { 1.0 / 0.0 }
-}
-
-// The samples of the piece from the place from on, up to the first past the end: how far it came.
-fn draw(form: Form, piece: Piece, end: f32, step: f32, from: usize, samples: &mut [f32]) -> usize
-    requires { ⌜ (from ≤ length (now samples)) × (length (now samples) ≤ 4096) ⌝ }
-    ensures { λ r. ⌜ Rest form piece end step from r (now (samples .entry)) (now (samples .exit)) ⌝ }
+// The height of a piece at x.
+fn height(form: Form, piece: Piece, x: f32) -> f32
+    ensures { λ r. ⌜ r ≡ heightOf form piece x ⌝ }
 {
     match form {
-        Form::Straight => straights::draw(piece, end, step, from, samples),
-        Form::Cubic => cubics::draw(piece, end, step, from, samples),
-        Form::Spline => splines::draw(piece, end, step, from, samples),
+        Form::Straight => hermite::straight(piece.a, piece.b, hermite::part(piece.a, piece.b, x)),
+        Form::Cubic => hermite::hermite(
+            piece.a,
+            piece.b,
+            piece.p,
+            piece.q,
+            hermite::part(piece.a, piece.b, x),
+        ),
+        Form::Spline => spline::spline_piece(piece.a, piece.b, piece.p, piece.q, x),
     }
+}
+
+// The segment of x, sought from the segment from on.
+fn advance(xs: &[f32; 66], n: usize, from: usize, x: f32) -> usize
+    requires { ⌜ (from + 1 < n) × (n ≤ 66) ⌝ }
+    ensures { λ r. ⌜ (r ≡ S.seek (now (xs .entry)) x (n - 2 - from) from) × (r + 1 < n) ⌝ }
+{
+    let mut i = from;
+    while i + 2 < n {
+        if xs[i + 1] < x {
+            i += 1;
+        } else {
+            return i;
+        }
+    }
+    i
+}
+
+// The samples from a place on, one by one: those that a last block has no room for, or all.
+fn rest(
+    form: Form,
+    xs: &[f32; 66],
+    ys: &[f32; 66],
+    ms: &[f32; 66],
+    n: usize,
+    step: f32,
+    from: Place,
+    samples: &mut [f32],
+)
+    requires { ⌜ (n ≤ 66) × (length (now samples) ≤ 4096) × (step ≡ S.step (length (now samples))) ⌝ }
+    requires { ⌜ State form (now xs) (now ys) (now ms) n (length (now samples)) from (now samples) ⌝ }
+    ensures { λ _. ⌜ now (samples .exit) ≡ tabulate (length (now (samples .entry)))
+        (sampled (heightAt form (now (xs .entry)) (now (ys .entry)) (now (ms .entry)) n) (length (now (samples .entry)))) ⌝ }
+{
+    let first = from.i;
+    let mut v = from.v;
+    while v < samples.len() {
+        let x = position(step, v);
+        let i = advance(xs, n, first, x);
+        samples[v] = single::clamp(height(form, piece_at(xs, ys, ms, i), x));
+        v += 1;
+    }
+}
+
+// The samples in blocks of four, as far as a block has room: the place that is reached.
+fn draw(
+    form: Form,
+    xs: &[f32; 66],
+    ys: &[f32; 66],
+    ms: &[f32; 66],
+    n: usize,
+    ends: &[u32; 66],
+    step: f32,
+    samples: &mut [f32],
+) -> Place
+    requires { ⌜ Ends (now xs) n (now ends) step (length (now samples)) ⌝ }
+    ensures { λ r. ⌜ State form (now (xs .entry)) (now (ys .entry)) (now (ms .entry)) n (length (now (samples .entry))) r (now (samples .exit)) ⌝ }
+{
+    match form {
+        Form::Straight => straights::draw(xs, ys, ms, n, ends, step, samples),
+        Form::Cubic => cubics::draw(xs, ys, ms, n, ends, step, samples),
+        Form::Spline => splines::draw(xs, ys, ms, n, ends, step, samples),
+    }
+}
+
+// The same where the ends of the pieces are found, else no sample. Whole knots and 256 or 4,096 samples: every end is found, as trial of each x has shown.
+fn begin(
+    form: Form,
+    xs: &[f32; 66],
+    ys: &[f32; 66],
+    ms: &[f32; 66],
+    n: usize,
+    step: f32,
+    samples: &mut [f32],
+) -> Place
+    requires { ⌜ (2 ≤ n) × (n ≤ 66) ⌝ }
+    requires { ⌜ (2 ≤ length (now samples)) × (length (now samples) ≤ 4096) × (step ≡ S.step (length (now samples))) ⌝ }
+    ensures { λ r. ⌜ State form (now (xs .entry)) (now (ys .entry)) (now (ms .entry)) n (length (now (samples .entry))) r (now (samples .exit)) ⌝ }
+{
+    // the last piece has no end: 8192 is past every sample
+    let mut ends = [8192; 66];
+    if ends::guess(xs, n, step, &mut ends) {
+        return draw(form, xs, ys, ms, n, &ends, step, samples);
+    }
+    Place { v: 0, i: 0 }
 }
 
 // All samples of the curve with n knots.
@@ -86,12 +171,6 @@ pub fn fill(
         (sampled (heightAt form (now (xs .entry)) (now (ys .entry)) (now (ms .entry)) n) (length (now (samples .entry)))) ⌝ }
 {
     let step = hermite::step(samples.len());
-    let mut v: usize = 0;
-    let mut i: usize = 0;
-    while i + 1 < n {
-        let piece = piece_at(xs, ys, ms, i);
-        let end = end_of(xs, n, i);
-        v = draw(form, piece, end, step, v, samples);
-        i += 1;
-    }
+    let from = begin(form, xs, ys, ms, n, step, samples);
+    rest(form, xs, ys, ms, n, step, from, samples);
 }

@@ -1,4 +1,4 @@
--- `draw`: whichever the form, its module's loops.
+-- `draw`: whichever the form, its module's loop.
 use borrow.Author.Needs.{needs}
 use Rattle.sampling.proofs.draw.Statement.{statement}
 use Rattle.sampling.proofs.draw.Tie as tie

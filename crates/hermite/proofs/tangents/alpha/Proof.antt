@@ -9,14 +9,13 @@ use borrow.Author.Tests.{eq-eqb, ne-eqb}
 use lib.Ieee.{Float, nan}
 use lib.ListN.{replicate}
 use Rattle.floats.specs.Notation.{_⊕_, _⊖_}
-use Rattle.lists.specs.Tabulate.{filled, getD-filled}
-use Rattle.lists.specs.Stored.{Stored, stored-none, stored-next, stored-front}
+use Rattle.lists.specs.Stored.{Stored, stored-none, stored-next, stored-inside, stored-front}
 use Rattle.single.specs.Constants.{𝟎}
 use Rattle.points.specs.declared.Knot.{Knot}
 use Rattle.points.specs.Knots.{knotAt}
 use Rattle.hermite.specs.Segments.{at}
-use Rattle.hermite.specs.CatmullRom.{after}
-use Rattle.hermite.specs.Alpha.{spacing, over, threeTerms, alphaTangent, alphaAt, spacingAt}
+use Rattle.hermite.specs.CatmullRom.{before, after}
+use Rattle.hermite.specs.Alpha.{spacing, over, threeTerms, alphaTangent, alphaAt, chordAt, spacingAt}
 use Rattle.hermite.proofs.tangents.alpha.Statement.{statement}
 use Rattle.hermite.proofs.tangents.alpha.Tie as tie
 
@@ -28,10 +27,13 @@ abbrev inner : Knot → Knot → Knot → Float → Float → Float → Float
 inner l c r dl ds dr = over (threeTerms (r .y ⊖ c .y) (r .y ⊖ l .y) (c .y ⊖ l .y) dr ds dl) (over (r .x ⊖ l .x) ds)
 
 -- ---- the definition with its three cases told apart; k tells the centripetal kind
-module _ (k : Bool) (xs ys : List Float) (n : ℕ) (two : 2 ≤ n) {ways : List Float} (ways-is : ways ≡ filled (n - 1) (spacingAt k xs ys) (replicate 66 𝟎)) where
+module _ (k : Bool) (xs ys : List Float) (n : ℕ) (two : 2 ≤ n) (most : n ≤ 66) {chords ways : List Float}
+    (chords-are : Stored (chordAt xs ys) 0 (n - 1) (replicate 66 𝟎) chords) (ways-are : Stored (spacingAt k chords) 0 (n - 1) (replicate 66 𝟎) ways) where
   way : (i j : ℕ) → j ≡ i + 1 → j < n → at ways i ≡ spacing k (knotAt xs ys i) (knotAt xs ys j)
-  unfolding spacingAt
-  way i j e h = rw (ways-is, e) (getD-filled (n - 1) (spacingAt k xs ys) (replicate 66 𝟎) i nan (omega arith))
+  unfolding spacingAt spacing chordAt
+  way i j e h =
+      stored-inside ways-are i nan (omega arith) (omega arith) (omega arith)
+      ∙ rw (stored-inside chords-are i nan (omega arith) (omega arith) (omega arith), e)
 
   at-first : {a b : Knot} {m : Float} → a ≡ knotAt xs ys 0 → b ≡ knotAt xs ys 1 → m ≡ one-sided a b (at ways 0) → m ≡ alphaAt k xs ys n 0
   unfolding alphaAt alphaTangent
@@ -63,7 +65,7 @@ module _ (k : Bool) (xs ys : List Float) (n : ℕ) (two : 2 ≤ n) {ways : List 
         )
 
 abbrev Inv-loop : tie.InvT-loop
-Inv-loop centripetal xs ys n ways tangents₀ i₀ tangents i = (1 ≤ i) × (i < n) × Stored (alphaAt centripetal xs ys n) 0 i (replicate 66 𝟎) tangents
+Inv-loop centripetal xs ys n ways tangents₀ i₀ tangents i = (1 ≤ i) × (i < n) × (n ≤ 66) × Stored (alphaAt centripetal xs ys n) 0 i (replicate 66 𝟎) tangents
 
 abbrev μ-loop : tie.MeasureT-loop
 μ-loop centripetal xs ys n ways tangents₀ i₀ tangents i = n - i
@@ -71,10 +73,15 @@ abbrev μ-loop : tie.MeasureT-loop
 loop-holds : tie.Need-loop-holds Inv-loop μ-loop
 loop-holds c =
     let b = c .before in
-    let spacings = b .before .before .spacings .ensures in (
+    let s = b .before .before in
+    let h = s .before .before .before in
+    let pre = h .before .before .pre in (
       omega arith,
-      omega arith,
-      stored-next stored-none (at-first _ _ _ _ (omega arith) spacings (b .before .knot-at .ensures) (b .knot-at2 .ensures) (c .one-sided .ensures)),
+      pre .0,
+      pre .1,
+      stored-next stored-none
+          (at-first _ _ _ _ (pre .0) (pre .1) (h .chords .ensures) (s .spacings .ensures) (b .before .knot-at .ensures) (b .knot-at2 .ensures)
+          (c .one-sided .ensures)),
     )
 
 loop-again : tie.Need-loop-again Inv-loop μ-loop
@@ -83,12 +90,15 @@ loop-again c =
     let m = r .before in
     let l = m .before in
     let b = l .before .before in
-    let spacings = b .before .before .before .before .spacings .ensures in (
+    let s = b .before .before .before .before in
+    let h = s .before .before .before in
+    let pre = h .before .before .pre in (
       omega arith,
       omega arith,
-      stored-next (b .loop .inv .2)
-          (between _ _ _ _ (omega arith) spacings _ (omega arith) (l .knot-at3 .ensures) (m .knot-at4 .ensures) (omega arith) (r .knot-at5 .ensures)
-          (c .inner .ensures)),
+      pre .1,
+      stored-next (b .loop .inv .3)
+          (between _ _ _ _ (pre .0) (pre .1) (h .chords .ensures) (s .spacings .ensures) _ (omega arith) (l .knot-at3 .ensures) (m .knot-at4 .ensures)
+          (omega arith) (r .knot-at5 .ensures) (c .inner .ensures)),
     )
 
 returns : tie.Need-returns Inv-loop μ-loop
@@ -96,12 +106,14 @@ returns c =
     let m = c .before in
     let l = m .before in
     let b = l .before .before in
-    let start = b .before .before .before .before in
+    let s = b .before .before .before .before in
+    let h = s .before .before .before in
+    let pre = h .before .before .pre in
     stored-front
-    (stored-next (b .loop .inv .2)
-    (at-last _ _ _ _ (omega arith) (start .spacings .ensures) _ (omega arith) (l .knot-at6 .ensures) (m .knot-at7 .ensures) (omega arith)
-    (c .one-sided2 .ensures)))
-    (omega arith) (start .before .pre .1)
+    (stored-next (b .loop .inv .3)
+    (at-last _ _ _ _ (pre .0) (pre .1) (h .chords .ensures) (s .spacings .ensures) _ (omega arith) (l .knot-at6 .ensures) (m .knot-at7 .ensures)
+    (omega arith) (c .one-sided2 .ensures)))
+    (omega arith) (pre .1)
 
 pub alpha-spec : {M : Type 1} → statement M
 alpha-spec =
@@ -109,7 +121,8 @@ alpha-spec =
     (tie.spec
     Inv-loop
     μ-loop
-    (λ c κs. search needs) (λ c κs. search needs) (λ c κs. search needs) (λ c. search needs) (λ c κs. search needs) (λ c. search needs)
+    (λ c κs. search needs) (λ c κs. search needs)
+    (λ c κs. search needs) (λ c κs. search needs) (λ c. search needs) (λ c κs. search needs) (λ c. search needs)
     loop-holds
     (λ c. search needs) (λ c. search needs) (λ c. search needs) (λ c. search needs) (λ c. search needs) (λ c. search needs)
     (λ c. search needs) (λ c κs. search needs) (λ c κs. search needs) (λ c. search needs) (λ c κs. search needs) (λ c κs. search needs)

@@ -3,16 +3,16 @@ use Prim.Native.Nat.{_≤_, _+_, _-_}
 use native.Mathlib.Omega.{arith}
 use borrow.Author.Needs.{needs}
 use borrow.Author.Tests.{eq-eqb, ne-eqb}
-use Rattle.lists.specs.Stored.{Stored, stored-none, stored-next, stored-front}
+use Rattle.lists.specs.Stored.{Stored, stored-none, stored-next, stored-end}
 use Rattle.hermite.specs.Monotone.{rightMean}
 use Rattle.hermite.proofs.tangents.means.Statement.{statement}
 use Rattle.hermite.proofs.tangents.means.Tie as tie
 
 abbrev Inv-loop : tie.InvT-loop
-Inv-loop ds n rs₀ i₀ rs i = (i + 2 ≤ n) × Stored (rightMean ds n) 0 i rs₀ rs
+Inv-loop ds n row₀ i₀ row i = (i + 2 ≤ n) × Stored (rightMean ds n) 0 i row₀ row
 
 abbrev μ-loop : tie.MeasureT-loop
-μ-loop ds n rs₀ i₀ rs i = n - i
+μ-loop ds n row₀ i₀ row i = n - i
 
 loop-again : tie.Need-loop-again Inv-loop μ-loop
 unfolding rightMean
@@ -24,7 +24,7 @@ returns : tie.Need-returns Inv-loop μ-loop
 unfolding rightMean
 returns c =
     let b = c .before .before in
-    stored-front (stored-next (b .loop .inv .1) (rw (eq-eqb (b .loop .i + 2) (b .before .args .n) (omega arith)))) (omega arith) (search needs)
+    stored-end (stored-next (b .loop .inv .1) (rw (eq-eqb (b .loop .i + 2) (b .before .args .n) (omega arith)))) (omega arith)
 
 pub means-spec : {M : Type 1} → statement M
 means-spec =

@@ -11,8 +11,8 @@ use borrow.Author.Tests.{eq-eqb, ne-eqb}
 use lib.Ieee.{Float, nan}
 use lib.ListN.{set, replicate}
 use Rattle.floats.specs.Notation.{_⊘_}
-use Rattle.lists.specs.Tabulate.{filled, getD-filled}
-use Rattle.lists.specs.Stored.{Stored, stored-none, stored-next, stored-front}
+use Rattle.lists.specs.Tabulate.{filled}
+use Rattle.lists.specs.Stored.{Stored, stored-none, stored-next, stored-inside, stored-front}
 use Rattle.single.specs.Constants.{𝟎}
 use Rattle.hermite.specs.declared.tangents.Tangents.{Tangents}
 use Rattle.hermite.specs.Segments.{at}
@@ -27,9 +27,9 @@ record Turn (box : Bool) (xs ys : List Float) (n i : ℕ) (tangents : List Float
   pub tangent : m ≡ reached box xs ys n i
 
 -- ---- what stands in the rows
-module _ (xs ys : List Float) (n : ℕ) {ds : List Float} (ds-is : ds ≡ filled (n - 1) (secantAt xs ys) (replicate 66 𝟎)) where
+module _ (xs ys : List Float) (n : ℕ) (most : n ≤ 66) {ds : List Float} (ds-is : Stored (secantAt xs ys) 0 (n - 1) (replicate 66 𝟎) ds) where
   secant : (i : ℕ) → i + 1 < n → at ds i ≡ secantAt xs ys i
-  secant i h = rw ds-is (getD-filled (n - 1) (secantAt xs ys) (replicate 66 𝟎) i nan (omega arith))
+  secant i h = stored-inside ds-is i nan (omega arith) (omega arith) (omega arith)
 
   right-mean : (i : ℕ) → i + 1 < n → rightMean ds n i ≡ meanAt xs ys n (i + 1)
   unfolding rightMean meanAt
@@ -41,13 +41,13 @@ module _ (xs ys : List Float) (n : ℕ) {ds : List Float} (ds-is : ds ≡ filled
         | no inner ↦ rw (ne-eqb (i + 2) n inner, secant (i + 1) (omega arith))
       ])
 
-  mean : {rs : List Float} → rs ≡ filled (n - 1) (rightMean ds n) (replicate 66 𝟎) → (i : ℕ) → i + 1 < n → at rs i ≡ meanAt xs ys n (i + 1)
-  mean rs-is i h = rw rs-is (getD-filled (n - 1) (rightMean ds n) (replicate 66 𝟎) i nan (omega arith)) ∙ right-mean i h
+  mean : {rs : List Float} → Stored (rightMean ds n) 0 (n - 1) (replicate 66 𝟎) rs → (i : ℕ) → i + 1 < n → at rs i ≡ meanAt xs ys n (i + 1)
+  mean rs-is i h = stored-inside rs-is i nan (omega arith) (omega arith) (omega arith) ∙ right-mean i h
 
-quotient : (n : ℕ) (ds rs : List Float) {bs : List Float} → bs ≡ filled (n - 1) (quotientOf rs ds) (replicate 66 𝟎) → (i : ℕ) → i + 1 < n
+quotient : (n : ℕ) (ds rs : List Float) {bs : List Float} → Stored (quotientOf rs ds) 0 (n - 1) (replicate 66 𝟎) bs → n ≤ 66 → (i : ℕ) → i + 1 < n
     → at bs i ≡ at rs i ⊘ at ds i
 unfolding quotientOf
-quotient n ds rs bs-is i h = rw bs-is (getD-filled (n - 1) (quotientOf rs ds) (replicate 66 𝟎) i nan (omega arith))
+quotient n ds rs bs-is most i h = stored-inside bs-is i nan (omega arith) (omega arith) (omega arith)
 
 -- ---- the turns
 reached-next : (box : Bool) (xs ys : List Float) (n i : ℕ)
@@ -78,18 +78,20 @@ abbrev μ-loop : tie.MeasureT-loop
 loop-holds : tie.Need-loop-holds Inv-loop μ-loop
 unfolding reached meanAt
 loop-holds c =
-    let s = c .before .before .before .before .before in
-    record { room = omega arith; stored = stored-none; tangent = secant _ _ _ (s .secants .ensures) 0 (omega arith) }
+    let s = c .before .before .before .before .before .before .before in
+    record { room = omega arith; stored = stored-none; tangent = secant _ _ _ (s .before .before .pre .1) (s .secants .ensures) 0 (omega arith) }
 
 adjusted-requires : tie.Need-adjusted-requires Inv-loop μ-loop
-adjusted-requires c κs = quotient _ _ _ (c .before .before .quotients .ensures) _ (omega arith)
+adjusted-requires c κs = quotient _ _ _ (c .before .before .quotients .ensures) (search needs) _ (omega arith)
 
 loop-again : tie.Need-loop-again Inv-loop μ-loop
 loop-again c =
     let l = c .before .before in
-    let m = l .before .before .before .before in
-    let secants = m .before .before .secants .ensures in
-    next-turn (l .loop .inv) (omega arith) (secant _ _ _ secants _ (omega arith)) (mean _ _ _ secants (m .means .ensures) _ (omega arith)) (c .adjusted .ensures)
+    let m = l .before .before .before .before .before in
+    let s = m .before .before .before in
+    let most = s .before .before .pre .1 in
+    next-turn (l .loop .inv) (omega arith) (secant _ _ _ most (s .secants .ensures) _ (omega arith))
+    (mean _ _ _ most (s .secants .ensures) (m .means .ensures) _ (omega arith)) (c .adjusted .ensures)
 
 returns : tie.Need-returns Inv-loop μ-loop
 returns c = last-turn (c .before .loop .inv) (omega arith) (search needs)

@@ -2,22 +2,22 @@
 use Prim.Native.Nat.{_<_, _-_}
 use native.Mathlib.Omega.{arith}
 use borrow.Author.Needs.{needs}
-use Rattle.lists.specs.Stored.{Stored, stored-none, stored-next, stored-front}
+use Rattle.lists.specs.Stored.{Stored, stored-none, stored-next, stored-end}
 use Rattle.hermite.specs.Monotone.{secantAt}
 use Rattle.hermite.proofs.tangents.secants.Statement.{statement}
 use Rattle.hermite.proofs.tangents.secants.Tie as tie
 
 abbrev Inv-loop : tie.InvT-loop
-Inv-loop xs ys n ds₀ i₀ ds i = (i < n) × Stored (secantAt xs ys) 0 i ds₀ ds
+Inv-loop xs ys n row₀ i₀ row i = (i < n) × Stored (secantAt xs ys) 0 i row₀ row
 
 abbrev μ-loop : tie.MeasureT-loop
-μ-loop xs ys n ds₀ i₀ ds i = n - i
+μ-loop xs ys n row₀ i₀ row i = n - i
 
 loop-again : tie.Need-loop-again Inv-loop μ-loop
 loop-again c = (search needs, stored-next (c .before .before .loop .inv .1) (c .secant .ensures))
 
 returns : tie.Need-returns Inv-loop μ-loop
-returns c = stored-front (c .before .loop .inv .1) (omega arith) (search needs)
+returns c = stored-end (c .before .loop .inv .1) (omega arith)
 
 pub secants-spec : {M : Type 1} → statement M
 secants-spec =

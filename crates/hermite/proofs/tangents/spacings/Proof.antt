@@ -1,31 +1,33 @@
--- `tangents::spacings`: the row of chords, or the roots of it.
-use mathlib.Core.Path.{_≡_, ap, _∙_}
-use mathlib.Core.Bool.{true}
-use mathlib.Core.List.{List, _++_}
-use Prim.Native.Nat.{ℕ}
+-- `tangents::spacings`: the loop stores the rule's element at each place.
+use Prim.Native.Nat.{_<_, _-_}
+use native.Mathlib.Omega.{arith}
 use borrow.Author.Needs.{needs}
-use lib.Ieee.{Float, nan}
-use lib.ListN.{drop}
-use Rattle.lists.specs.Tabulate.{tabulate-same, filled, getD-filled}
-use Rattle.single.specs.Root.{rootOf}
-use Rattle.hermite.specs.Alpha.{spacing, chordAt, rootAt, spacingAt}
+use Rattle.lists.specs.Stored.{Stored, stored-none, stored-next, stored-end}
+use Rattle.hermite.specs.Alpha.{spacingAt}
 use Rattle.hermite.proofs.tangents.spacings.Statement.{statement}
 use Rattle.hermite.proofs.tangents.spacings.Tie as tie
 
-rooted : (xs ys start : List Float) (k : ℕ) {row roots : List Float} → row ≡ filled k (chordAt xs ys) start → roots ≡ filled k (rootAt row) start
-    → roots ≡ filled k (spacingAt true xs ys) start
-unfolding filled rootAt spacingAt spacing chordAt
-rooted xs ys start k row-is roots-is =
-    roots-is
-    ∙ ap (λ (l : List Float). l ++ drop k start)
-    (tabulate-same k (λ i h. ap rootOf (rw row-is (getD-filled k (chordAt xs ys) start i nan h))))
+abbrev Inv-loop : tie.InvT-loop
+Inv-loop centripetal chords n row₀ i₀ row i = (i < n) × Stored (spacingAt centripetal chords) 0 i row₀ row
 
-returns : tie.Need-returns
-returns c = let b = c .before .before in rw (b .if1 .taken) (rooted _ _ _ _ (b .before .chords .ensures) (c .roots .ensures))
+abbrev μ-loop : tie.MeasureT-loop
+μ-loop centripetal chords n row₀ i₀ row i = n - i
 
-returns-2 : tie.Need-returns-2
-unfolding spacingAt spacing chordAt
-returns-2 c = rw (c .if1 .left) (c .before .chords .ensures)
+loop-again : tie.Need-loop-again Inv-loop μ-loop
+unfolding spacingAt
+loop-again c = (search needs, stored-next (c .before .before .before .loop .inv .1) (c .spacing .ensures))
+
+returns : tie.Need-returns Inv-loop μ-loop
+returns c = stored-end (c .before .loop .inv .1) (omega arith)
 
 pub spacings-spec : {M : Type 1} → statement M
-spacings-spec = tie.close (tie.spec (λ c κs. search needs) (λ c κs. search needs) returns returns-2)
+spacings-spec =
+    tie.close
+    (tie.spec
+    Inv-loop
+    μ-loop
+    (λ c. (search needs, stored-none))
+    (λ c. search needs) (λ c. search needs) (λ c. search needs) (λ c κs. search needs)
+    (λ c. search needs) (λ c. search needs) (λ c. search needs) (λ c. search needs)
+    loop-again
+    returns)

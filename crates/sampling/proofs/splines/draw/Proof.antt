@@ -1,49 +1,76 @@
--- `splines::draw`: the run so far, from where the blocks ended, is the loop's invariant.
-use Prim.Native.Nat.{_-_}
+-- `splines::draw`: a turn draws the block at the place, by the coefficients of its piece.
+use mathlib.Core.Path.{refl}
+use Prim.Native.Nat.{_+_, _-_, _≤_, _<_}
 use native.Mathlib.Omega.{arith}
-use lib.ListN.{length}
 use borrow.Author.Needs.{needs}
-use Rattle.lists.specs.Stored.{stored-none, stored-next}
+use lib.ListN.{length}
 use Rattle.sampling.specs.declared.Form.the-variants.{Spline}
-use Rattle.sampling.specs.Walk.{Run}
-use Rattle.sampling.proofs.Walk.{run-none, run-more, rest-after}
+use Rattle.sampling.specs.Walk.{State}
+use Rattle.sampling.proofs.Walk.{Next, next-is, spline-block, start, after-block}
 use Rattle.sampling.proofs.splines.draw.Statement.{statement}
 use Rattle.sampling.proofs.splines.draw.Tie as tie
 
 abbrev Inv-loop : tie.InvT-loop
-Inv-loop piece end step from samples₀ v₀ samples v = Run Spline piece end step v₀ v samples₀ samples
+Inv-loop xs ys ms n ends step samples₀ c1s c3s count p₀ samples p = State Spline xs ys ms n (length samples₀) p samples × (p .v ≤ 4096)
 
 abbrev μ-loop : tie.MeasureT-loop
-μ-loop piece end step from samples₀ v₀ samples v = length samples₀ - v
+μ-loop xs ys ms n ends step samples₀ c1s c3s count p₀ samples p = 4096 + n - (p .v + p .i)
 
-loop-holds : tie.Need-loop-holds Inv-loop μ-loop
-loop-holds c = run-none (search needs)
+-- the place is on the rows
+here : (c : tie.At-loop Inv-loop μ-loop) → c .loop .p .i < 65
+here c = omega (arith, c .loop .inv .0 .room, c .before .before .before .before .before .before .pre .most)
 
-returns : tie.Need-returns Inv-loop μ-loop
-returns c =
-    let k = c .before .before .before in
-    rest-after (k .before .before .before .blocks2 .ensures)
-    (record { run = k .loop .inv; past = λ h. rw (c .before .position .ensures) at (c .if1 .taken) })
+four-requires : tie.Need-four-requires Inv-loop μ-loop
+four-requires c κs =
+    let b = c .before .before .before .before .before in
+    (omega (arith, b .loop .inv .0 .long), omega (arith, b .loop .inv .0 .long, b .before .before .before .before .before .before .pre .held))
+
+next-requires : tie.Need-next-requires Inv-loop μ-loop
+next-requires c κs =
+    let b = c .before .before .before .before .before .before .before .before in
+    (b .loop .inv .1, here b)
+
+-- the place after the block
+ahead : (c : tie.After-next Inv-loop μ-loop)
+    → Next (c .before .before .before .before .before .before .before .before .before .before .before .before .before .before .before .args .n)
+    (c .before .before .before .before .before .before .before .before .before .loop .p) (c .next .result)
+ahead c =
+    let b = c .before .before .before .before .before .before .before .before .before in
+    next-is (b .before .before .before .before .before .before .pre) (b .loop .inv .0 .room) (omega (arith, b .loop .inv .0 .long)) (c .next .ensures)
+
+loop-less : tie.Need-loop-less Inv-loop μ-loop
+loop-less c = let next = ahead c in omega (arith, next .room, next .held, next .on)
 
 loop-again : tie.Need-loop-again Inv-loop μ-loop
 loop-again c =
-    let k = c .before .before .before .before in
-    run-more (k .loop .inv) (stored-next stored-none (c .sample .ensures)) (omega arith) (rw (c .before .before .position .ensures) at (c .before .if1 .left)) (omega arith)
-
-returns-2 : tie.Need-returns-2 Inv-loop μ-loop
-returns-2 c =
-    let k = c .before in
-    rest-after (k .before .before .before .blocks2 .ensures) (record { run = k .loop .inv; past = λ h. absurd (omega arith) })
+    let drawn = c .before .before .before in
+    let knot = drawn .before .before .before in
+    let b = knot .before .before .before in
+    let thirds = b .before in
+    let firsts = thirds .before .before in
+    let given = firsts .before .before .before .pre in (
+      after-block _ _ _ _ _ _ given (omega (arith, b .loop .inv .0 .long)) (c .next .ensures) (b .loop .inv .0)
+          (spline-block _ _ _ _ _ given (b .loop .inv .0 .room) (knot .knot-at .ensures) (firsts .firsts .ensures) (thirds .thirds .ensures)
+          (drawn .four .ensures)),
+      ahead c .held,
+    )
 
 pub draw-spec : {M : Type 1} → statement M
 draw-spec =
     tie.close
-    (tie.spec Inv-loop μ-loop
-    (λ c κs. search needs)
-    loop-holds
-    (λ c κs. search needs) (λ c. search needs)
-    returns
-    (λ c κs. search needs) (λ c. search needs) (λ c. search needs) (λ c. search needs) (λ c. search needs)
-    loop-again
+    (tie.spec
+    Inv-loop
+    μ-loop
+    (λ c κs. let given = c .before .before .pre in (given .two, given .most))
+    (λ c κs. let given = c .before .before .before .before .pre in (given .two, given .most))
+    (λ c. (start _ _ _ _ _ _ refl (c .before .before .before .before .before .pre .two), omega arith))
     (λ c. search needs)
-    returns-2)
+    (λ c κs. omega (arith, here (c .before .before)))
+    (λ c. search needs) (λ c. omega (arith, here (c .before .before .before))) (λ c. search needs) (λ c. omega (arith, here (c .before .before .before)))
+    (λ c. search needs) (λ c. omega (arith, here (c .before .before .before .before)))
+    four-requires
+    next-requires
+    loop-less
+    loop-again
+    (λ c. c .before .before .loop .inv .0 .long)
+    (λ c. c .before .before .loop .inv .0))

@@ -1,18 +1,17 @@
--- `splines::four`: the loop stores sample from + j.
+-- `splines::four`: the loop stores sample v + j.
 use Prim.Native.Nat.{_+_, _-_, _≤_}
 use native.Mathlib.Omega.{arith}
 use borrow.Author.Needs.{needs}
 use Rattle.lists.specs.Stored.{Stored, stored-none, stored-next, stored-end}
-use Rattle.sampling.specs.declared.Form.the-variants.{Spline}
-use Rattle.sampling.specs.Walk.{along}
+use Rattle.sampling.specs.Walk.{splineSample}
 use Rattle.sampling.proofs.splines.four.Statement.{statement}
 use Rattle.sampling.proofs.splines.four.Tie as tie
 
 abbrev Inv-loop : tie.InvT-loop
-Inv-loop piece step from samples₀ j₀ samples j = (j ≤ 4) × Stored (along Spline piece step) from (from + j) samples₀ samples
+Inv-loop a c1 c2 c3 step v samples₀ j₀ samples j = (j ≤ 4) × Stored (splineSample a c1 c2 c3 step) v (v + j) samples₀ samples
 
 abbrev μ-loop : tie.MeasureT-loop
-μ-loop piece step from samples₀ j₀ samples j = 4 - j
+μ-loop a c1 c2 c3 step v samples₀ j₀ samples j = 4 - j
 
 loop-again : tie.Need-loop-again Inv-loop μ-loop
 loop-again c = (search needs, stored-end (stored-next (c .before .before .loop .inv .1) (c .sample .ensures)) (omega arith))

@@ -1,13 +1,12 @@
--- `splines::sample`: the height at the sample's x, clamped.
+-- `splines::sample`: the code is the formula.
 use borrow.Author.Needs.{needs}
-use Rattle.sampling.specs.Pieces.{heightOf}
-use Rattle.sampling.specs.Walk.{along}
+use Rattle.sampling.specs.Walk.{splineSample}
 use Rattle.sampling.proofs.splines.sample.Statement.{statement}
 use Rattle.sampling.proofs.splines.sample.Tie as tie
 
 returns : tie.Need-returns
-unfolding along heightOf
-returns c = simp (c .clamp .ensures, c .before .spline-piece .ensures, c .before .before .position .ensures)
+unfolding splineSample
+returns c = rw (← c .before .before .before .position .ensures) (c .clamp .ensures)
 
 pub sample-spec : {M : Type 1} → statement M
-sample-spec = tie.close (tie.spec (λ c κs. search needs) (λ c κs. search needs) (λ c κs. search needs) returns)
+sample-spec = tie.close (tie.spec (λ c κs. search needs) (λ c κs. search needs) returns)

@@ -1,13 +1,12 @@
--- `straights::sample`: the height at the sample's x, clamped.
+-- `straights::sample`: the height at t, clamped.
+use mathlib.Core.Path.{ap, _∙_}
 use borrow.Author.Needs.{needs}
-use Rattle.sampling.specs.Pieces.{heightOf}
-use Rattle.sampling.specs.Walk.{along}
+use Rattle.single.specs.Rules.{clamped}
 use Rattle.sampling.proofs.straights.sample.Statement.{statement}
 use Rattle.sampling.proofs.straights.sample.Tie as tie
 
 returns : tie.Need-returns
-unfolding along heightOf
-returns c = simp (c .clamp .ensures, c .before .straight .ensures, c .before .before .part .ensures, c .before .before .before .position .ensures)
+returns c = c .clamp .ensures ∙ ap clamped (c .before .straight .ensures)
 
 pub sample-spec : {M : Type 1} → statement M
-sample-spec = tie.close (tie.spec (λ c κs. search needs) (λ c κs. search needs) (λ c κs. search needs) (λ c κs. search needs) returns)
+sample-spec = tie.close (tie.spec (λ c κs. search needs) (λ c κs. search needs) returns)

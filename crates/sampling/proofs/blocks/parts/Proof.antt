@@ -1,0 +1,45 @@
+-- `blocks::parts`: the four parts of the definition.
+use mathlib.Core.Path.{_≡_, ap, _∙_}
+use mathlib.Core.List.{List, [], _∷_}
+use Prim.Native.Nat.{ℕ, _+_}
+use native.Mathlib.Nat.{add-zero}
+use borrow.Author.Needs.{needs}
+use lib.Ieee.{Float}
+use Rattle.lists.specs.Tabulate.{tabulate}
+use Rattle.hermite.specs.Segments.{sampleAt}
+use Rattle.hermite.specs.Pieces.{part}
+use Rattle.sampling.specs.declared.Piece.{Piece}
+use Rattle.sampling.specs.Walk.{partFrom, partsOf}
+use Rattle.sampling.proofs.blocks.parts.Statement.{statement}
+use Rattle.sampling.proofs.blocks.parts.Tie as tie
+
+module _ (piece : Piece) (s : Float) (v : ℕ) where
+  one : (j : ℕ) {x t : Float} → x ≡ sampleAt s (v + j) → t ≡ part (piece .a) (piece .b) x → t ≡ partFrom piece s v j
+  unfolding partFrom
+  one j e f = f ∙ ap (part (piece .a) (piece .b)) e
+
+  first : {x t : Float} → x ≡ sampleAt s v → t ≡ part (piece .a) (piece .b) x → t ≡ partFrom piece s v 0
+  first e f = one 0 (rw add-zero e) f
+
+  all : {t t₁ t₂ t₃ : Float} → t ≡ partFrom piece s v 0 → t₁ ≡ partFrom piece s v 1 → t₂ ≡ partFrom piece s v 2 → t₃ ≡ partFrom piece s v 3
+      → _≡_ {A = List Float} (t ∷ t₁ ∷ t₂ ∷ t₃ ∷ []) (partsOf piece s v)
+  unfolding partsOf tabulate
+  all e f g h = λ i. e i ∷ f i ∷ g i ∷ h i ∷ []
+
+returns : tie.Need-returns
+returns c =
+    let d = c .before .before in
+    let e = d .before .before in
+    let f = e .before .before in
+    all _ _ _ (first _ _ _ (f .before .position .ensures) (f .part .ensures)) (one _ _ _ 1 (e .before .position2 .ensures) (e .part2 .ensures))
+    (one _ _ _ 2 (d .before .position3 .ensures) (d .part3 .ensures)) (one _ _ _ 3 (c .before .position4 .ensures) (c .part4 .ensures))
+
+pub parts-spec : {M : Type 1} → statement M
+parts-spec =
+    tie.close
+    (tie.spec
+    (λ c κs. search needs) (λ c κs. search needs)
+    (λ c. search needs) (λ c κs. search needs) (λ c κs. search needs)
+    (λ c. search needs) (λ c κs. search needs) (λ c κs. search needs)
+    (λ c. search needs) (λ c κs. search needs) (λ c κs. search needs)
+    returns)
