@@ -1,8 +1,6 @@
 pub mod Segments
 pub mod Pieces
 pub mod CatmullRom
-pub mod Monotone
-pub mod Alpha
 pub mod Rows
 pub mod SegmentLaws
 pub mod Samples

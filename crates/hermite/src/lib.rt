@@ -1,4 +1,4 @@
-// The walk through the segments of a curve, its straight and cubic pieces, and the tangents of the six kinds that are drawn by cubic Hermite pieces.
+// The walk through the segments of a curve, its straight and cubic pieces, and in `tangents` those of CatmullRom and Cardinal.
 ghost use mathlib.Core.Path.{_≡_};
 ghost use Prim.Native.Nat.{_≤_};
 ghost use Rattle.hermite.specs.Segments as S;

@@ -12,7 +12,7 @@ use Rattle.points.specs.declared.Point.{Point}
 use Rattle.points.specs.Points.{pt, straight}
 use Rattle.points.specs.Knots.{rest, knots, OnLine}
 use Rattle.hermite.specs.CatmullRom.{slope}
-use Rattle.hermite.specs.Monotone.{secantAt, meanAt, boxed, adjusted, reached, monotoneAt}
+use Rattle.monotone.specs.Monotone.{secantAt, meanAt, boxed, adjusted, reached, monotoneAt}
 use Rattle.spline.specs.Second.{recovered, endsRecovered, notAKnotAt}
 use Rattle.tables.specs.declared.CurveInterpolation.{CurveInterpolation}
 use Rattle.tables.specs.declared.CurveInterpolation.the-variants.{Linear, MonotoneCubicBox, NotAKnotCubic}

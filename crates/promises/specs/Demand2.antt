@@ -18,8 +18,8 @@ use Rattle.points.specs.declared.Curve.{Curve}
 use Rattle.points.specs.declared.Sorted.{Sorted}
 use Rattle.points.specs.Points.{listOf, kept, SortedFrom}
 use Rattle.hermite.specs.CatmullRom.{catmullRomAt, cardinalAt}
-use Rattle.hermite.specs.Monotone.{monotoneAt}
-use Rattle.hermite.specs.Alpha.{alphaAt}
+use Rattle.monotone.specs.Monotone.{monotoneAt}
+use Rattle.chords.specs.Alpha.{alphaAt}
 use Rattle.spline.specs.declared.SplineBoundary.the-variants.{Natural, Clamped, NotAKnot}
 use Rattle.spline.specs.Segments.{slopeOf}
 use Rattle.sampling.specs.Pieces.{heightOf}

@@ -137,7 +137,7 @@ fn put_set(line: &mut [u8], at: usize, set: Curves) -> usize {
 fn reads_as(record: &[u8], set: Curves) -> bool {
     let read = records::read_record(record);
     let answer = read.answer;
-    answer.is_done() & sets::same(read.set, set)
+    answer.is_done() & sameness::same(read.set, set)
 }
 
 // What the writer makes of a set, with a mark if that does not read as the same set.

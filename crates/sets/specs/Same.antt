@@ -1,6 +1,6 @@
 -- When two sets are the same, as document 01's section "The set" has it. Definitions only.
 use mathlib.Core.Path.{_≡_}
-use mathlib.Core.Bool.{Bool, true}
+use mathlib.Core.Bool.{true}
 use Rattle.points.specs.declared.Curve.{Curve}
 use Rattle.points.specs.Points.{listOf}
 use Rattle.sets.specs.declared.Channel.{Channel}
@@ -22,8 +22,3 @@ pub record Same (a b : Curves) : Type 0 where
   pub green : SameChannel (a .green) (b .green)
   pub blue : SameChannel (a .blue) (b .blue)
   pub kind : a .interpolation ≡ b .interpolation
-
--- the answer yes goes with P
-pub record Decides (P : Type 0) (yes : Bool) : Type 0 where
-  pub sound : yes ≡ true → P
-  pub complete : P → yes ≡ true

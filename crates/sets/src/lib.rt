@@ -1,13 +1,10 @@
-// A set of curves: a master, three optional colours and a kind. Its members replaced, its lists checked, whether two are the same, and the table of a
-// channel. Every open function answers for any set, whatever its lists claim.
+// A set of curves: a master, three optional colours and a kind. Its members replaced, its lists checked, what its kind carries, and the table of a channel.
+// Every open function answers for any set, whatever its lists claim.
 ghost use mathlib.Core.Path.{_≡_};
-ghost use Prim.Native.Nat.{_≤_};
-ghost use lib.ListN.{take};
 ghost use mathlib.Core.Bool.{false};
 ghost use mathlib.Core.Option.{none};
 ghost use Rattle.sets.specs.declared.Colour.the-variants.{Red, Green, Blue};
 ghost use Rattle.sets.specs.Carried.{carriedOf, LegalKind};
-ghost use Rattle.sets.specs.Same.{Same, SameCurve, SameChannel, Decides};
 ghost use Rattle.sets.specs.Sets.{
   viewOf,
   channelOf,
@@ -25,7 +22,6 @@ ghost use Rattle.sets.specs.Sets.{
 use answers::Answer;
 use answers::first_of;
 use points::Curve;
-use points::Point;
 use tables::CurveInterpolation;
 
 // A colour's list, where it is present.
@@ -248,83 +244,6 @@ pub fn carried_by(kind: CurveInterpolation) -> Carried
         },
         CurveInterpolation::NotAKnotCubic => Carried::NOTHING,
     }
-}
-
-// ---- whether two are the same
-// Points.
-fn same_point(p: Point, q: Point) -> bool
-    ensures { λ r. ⌜ Decides (p ≡ q) r ⌝ }
-{
-    (p.x == q.x) & (p.y == q.y)
-}
-
-// The first n points of lists.
-fn same_points(a: Curve, b: Curve, n: usize) -> bool
-    requires { ⌜ n ≤ 64 ⌝ }
-    ensures { λ r. ⌜ Decides (take n (a .points) ≡ take n (b .points)) r ⌝ }
-{
-    let mut i: usize = 0;
-    while i < n {
-        if !same_point(a.points[i], b.points[i]) {
-            return false;
-        }
-        i += 1;
-    }
-    true
-}
-
-// Lists, as far as their counts claim; one that claims more than 64 points has 64.
-fn same_curve(a: Curve, b: Curve) -> bool
-    ensures { λ r. ⌜ Decides (SameCurve a b) r ⌝ }
-{
-    let n = a.count;
-    let m = b.count;
-    if n != m {
-        return false;
-    }
-    if n < Curve::LIMIT {
-        same_points(a, b, n)
-    } else {
-        same_points(a, b, Curve::LIMIT)
-    }
-}
-
-// Colours; what stands behind an absent mark is ignored.
-fn same_channel(a: Channel, b: Channel) -> bool
-    ensures { λ r. ⌜ Decides (SameChannel a b) r ⌝ }
-{
-    if a.present {
-        b.present & same_curve(a.curve, b.curve)
-    } else {
-        !b.present
-    }
-}
-
-// What kinds carry.
-fn same_carried(p: Carried, q: Carried) -> bool
-    ensures { λ r. ⌜ Decides (p ≡ q) r ⌝ }
-{
-    (p.tension == q.tension) & (p.start == q.start) & (p.end == q.end)
-}
-
-// Kinds, with what they carry.
-fn same_kind(a: CurveInterpolation, b: CurveInterpolation) -> bool
-    ensures { λ r. ⌜ Decides (a ≡ b) r ⌝ }
-{
-    (a.number() == b.number()) & same_carried(carried_by(a), carried_by(b))
-}
-
-// Sets: lists, colours present, and the kind with its tension or slopes.
-pub fn same(a: Curves, b: Curves) -> bool
-    ensures { λ r. ⌜ Decides (Same a b) r ⌝ }
-{
-    let master = same_curve(a.master, b.master);
-    let red = same_channel(a.red, b.red);
-    let green = same_channel(a.green, b.green);
-    let blue = same_channel(a.blue, b.blue);
-    let i = a.interpolation;
-    let j = b.interpolation;
-    master & red & green & blue & same_kind(i, j)
 }
 
 // The colour's own table or else the master's, lent on without copying.

@@ -131,12 +131,12 @@ clamped-le x y h =
     (λ e g. below-clamped x y h (le-of-not-lt 𝟐𝟓𝟓 x tt (numbers .0) g))
 
 -- ---- the guarded quotient
-pub guarded-plain : (a b tiny : Float) → T (le tiny (absolute b)) → guardedQuotient a b tiny ≡ a ⊘ b
+pub guarded-plain : (a b limit : Float) → T (le limit (absolute b)) → guardedQuotient a b limit ≡ a ⊘ b
 unfolding guardedQuotient
-guarded-plain a b tiny h = rw (not-lt-of-le tiny (absolute b) h)
+guarded-plain a b limit h = rw (not-lt-of-le limit (absolute b) h)
 
 -- the same by value: |p - n| / c is at least q / d
-pub guarded-value : (a b tiny : Float) (p n c q d : ℕ) → 0 < c → 0 < d → Is b p n c → Is tiny q 0 d
-    → q * c ≤ (p - n + (n - p)) * d → guardedQuotient a b tiny ≡ a ⊘ b
-guarded-value a b tiny p n c q d C D i j h =
-    guarded-plain a b tiny (le-of-is tiny (absolute b) q 0 d (p - n + (n - p)) 0 c D C j (absolute-is b p n c i) (omega arith))
+pub guarded-value : (a b limit : Float) (p n c q d : ℕ) → 0 < c → 0 < d → Is b p n c → Is limit q 0 d
+    → q * c ≤ (p - n + (n - p)) * d → guardedQuotient a b limit ≡ a ⊘ b
+guarded-value a b limit p n c q d C D i j h =
+    guarded-plain a b limit (le-of-is limit (absolute b) q 0 d (p - n + (n - p)) 0 c D C j (absolute-is b p n c i) (omega arith))

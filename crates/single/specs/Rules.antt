@@ -1,11 +1,11 @@
 -- What document 01's section "Arithmetic" says of one float: clamp, to a byte, and the small rules that the curves share. Definitions only.
 use Prim.Native.Nat.{ℕ, _+_, _*_, _/_, min}
-use mathlib.Core.Bool.{cond}
+use mathlib.Core.Bool.{Bool, cond}
 use lib.IntN.{pos}
 use lib.Ieee.{Float, nan, inf, fin, binary32, up, down, lt, ofInt}
 use Rattle.floats.specs.Notation.{_⊘_}
 use Rattle.floats.specs.Value.{absolute}
-use Rattle.single.specs.Constants.{𝟎, 𝟐𝟓𝟓}
+use Rattle.single.specs.Constants.{𝟎, 𝟐𝟓𝟓, nano}
 
 -- the whole number n as a float
 abbrev pub float : ℕ → Float
@@ -40,6 +40,10 @@ unfoldable pub floorOf : Float → ℕ
 unfolding wholeBy
 floorOf x = wholeBy _/_ 4094 x
 
--- a over b, and 0 where b is smaller in size than tiny
+-- a over b, and 0 where b is smaller in size than limit
 unfoldable pub guardedQuotient : Float → Float → Float → Float
-guardedQuotient a b tiny = cond (lt (absolute b) tiny) 𝟎 (a ⊘ b)
+guardedQuotient a b limit = cond (lt (absolute b) limit) 𝟎 (a ⊘ b)
+
+-- "below 1e-9 in size"
+abbrev pub tiny : Float → Bool
+tiny d = lt (absolute d) nano

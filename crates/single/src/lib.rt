@@ -3,6 +3,7 @@
 ghost use mathlib.Core.Path.{_≡_};
 ghost use Prim.Native.Nat.{_≤_, _^_};
 ghost use Rattle.floats.specs.Value.{absolute};
+ghost use Rattle.single.specs.Rules as R;
 ghost use Rattle.single.specs.Rules.{float, clamped, held, byteOf, floorOf, guardedQuotient};
 
 pub mod root;
@@ -72,11 +73,18 @@ pub fn index(x: f32) -> usize
     (floor(x) as u16) as usize
 }
 
-// a over b, and 0 where b is smaller in size than tiny.
-pub fn guarded_quotient(a: f32, b: f32, tiny: f32) -> f32
-    ensures { λ r. ⌜ r ≡ guardedQuotient a b tiny ⌝ }
+// a over b, and 0 where b is smaller in size than limit.
+pub fn guarded_quotient(a: f32, b: f32, limit: f32) -> f32
+    ensures { λ r. ⌜ r ≡ guardedQuotient a b limit ⌝ }
 {
-    if abs(b) < tiny { 0.0 } else { a / b }
+    if abs(b) < limit { 0.0 } else { a / b }
+}
+
+// Whether d is below 1e-9 in size.
+pub fn tiny(d: f32) -> bool
+    ensures { λ r. ⌜ r ≡ R.tiny d ⌝ }
+{
+    abs(d) < 0.000000001
 }
 
 // A byte as a float, exactly.

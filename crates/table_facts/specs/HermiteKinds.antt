@@ -10,8 +10,8 @@ use Rattle.floats.specs.Value.{Is}
 use Rattle.floats.specs.Within.{Within, widen}
 use Rattle.hermite.specs.Segments.{at}
 use Rattle.hermite.specs.CatmullRom.{catmullRomAt, cardinalAt}
-use Rattle.hermite.specs.Monotone.{monotoneAt}
-use Rattle.hermite.specs.Alpha.{alphaAt}
+use Rattle.monotone.specs.Monotone.{monotoneAt}
+use Rattle.chords.specs.Alpha.{alphaAt}
 use Rattle.hermite.specs.Rows.{Rows}
 use Rattle.hermite.specs.SegmentLaws.{InRange}
 use Rattle.table_facts.specs.CubicLaws.{cubicAt, cubic-at-knot}

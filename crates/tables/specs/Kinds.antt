@@ -9,8 +9,8 @@ use lib.Ieee.{Float}
 use Rattle.lists.specs.Tabulate.{filled}
 use Rattle.single.specs.Constants.{𝟎}
 use Rattle.hermite.specs.CatmullRom.{catmullRomAt, cardinalAt}
-use Rattle.hermite.specs.Monotone.{monotoneAt}
-use Rattle.hermite.specs.Alpha.{alphaAt}
+use Rattle.monotone.specs.Monotone.{monotoneAt}
+use Rattle.chords.specs.Alpha.{alphaAt}
 use Rattle.spline.specs.declared.SplineBoundary.the-variants.{Natural, Clamped, NotAKnot}
 use Rattle.spline.specs.Segments.{slopeOf}
 use Rattle.spline.specs.Second.{secondAt}

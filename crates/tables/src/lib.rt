@@ -111,11 +111,11 @@ fn numbers(kind: CurveInterpolation, xs: &[f32; 66], ys: &[f32; 66], n: usize) -
     match kind {
         CurveInterpolation::Linear => [0.0; 66],
         CurveInterpolation::CatmullRom => tangents::catmull_rom(xs, ys, n),
-        CurveInterpolation::MonotoneCubic => tangents::monotone(false, xs, ys, n),
-        CurveInterpolation::MonotoneCubicBox => tangents::monotone(true, xs, ys, n),
+        CurveInterpolation::MonotoneCubic => monotone::monotone(false, xs, ys, n),
+        CurveInterpolation::MonotoneCubicBox => monotone::monotone(true, xs, ys, n),
         CurveInterpolation::NaturalCubic => second_derivatives(xs, ys, n, SplineBoundary::Natural),
-        CurveInterpolation::CentripetalCatmullRom => tangents::alpha(true, xs, ys, n),
-        CurveInterpolation::ChordalCatmullRom => tangents::alpha(false, xs, ys, n),
+        CurveInterpolation::CentripetalCatmullRom => chords::alpha(true, xs, ys, n),
+        CurveInterpolation::ChordalCatmullRom => chords::alpha(false, xs, ys, n),
         CurveInterpolation::Cardinal { tension_q8 } => tangents::cardinal(tension_q8, xs, ys, n),
         CurveInterpolation::ClampedCubic {
             start_slope_q8,

@@ -1,0 +1,28 @@
+-- `three_terms`: its test is the definition's.
+use borrow.Author.Needs.{needs}
+use Rattle.chords.specs.Alpha.{threeTerms}
+use Rattle.chords.proofs.three_terms.Statement.{statement}
+use Rattle.chords.proofs.three_terms.Tie as tie
+
+tiny-requires : tie.Need-tiny-requires
+tiny-requires c κs = search needs
+
+tiny-requires-2 : tie.Need-tiny-requires-2
+tiny-requires-2 c κs = search needs
+
+tiny-requires-3 : tie.Need-tiny-requires-3
+tiny-requires-3 c κs = search needs
+
+returns : tie.Need-returns
+unfolding threeTerms
+returns c =
+    rw (← c .before .before .before .tiny .ensures, ← c .before .before .tiny2 .ensures, ← c .before .tiny3 .ensures, c .if1 .taken)
+
+returns-2 : tie.Need-returns-2
+unfolding threeTerms
+returns-2 c =
+    rw (← c .before .before .before .tiny .ensures, ← c .before .before .tiny2 .ensures, ← c .before .tiny3 .ensures, c .if1 .left)
+
+pub three-terms-spec : {M : Type 1} → statement M
+three-terms-spec =
+    tie.close (tie.spec tiny-requires tiny-requires-2 tiny-requires-3 returns returns-2)

@@ -1,0 +1,27 @@
+-- `by_circle`: its test is the definition's.
+use borrow.Author.Needs.{needs}
+use Rattle.monotone.specs.Monotone.{circled}
+use Rattle.monotone.proofs.by_circle.Statement.{statement}
+use Rattle.monotone.proofs.by_circle.Tie as tie
+
+nonnegative-requires : tie.Need-nonnegative-requires
+nonnegative-requires c κs = search needs
+
+nonnegative-requires-2 : tie.Need-nonnegative-requires-2
+nonnegative-requires-2 c κs = search needs
+
+sqrt-requires : tie.Need-sqrt-requires
+sqrt-requires c κs = search needs
+
+returns : tie.Need-returns
+unfolding circled
+returns c = rw (← c .before .before .before .before .pre, c .before .if1 .taken, c .sqrt .ensures)
+
+returns-2 : tie.Need-returns-2
+unfolding circled
+returns-2 c = rw (← c .before .before .before .pre, c .if1 .left, c .before .before .nonnegative .ensures, c .before .nonnegative2 .ensures)
+
+pub by-circle-spec : {M : Type 1} → statement M
+by-circle-spec =
+    tie.close
+    (tie.spec nonnegative-requires nonnegative-requires-2 sqrt-requires returns returns-2)

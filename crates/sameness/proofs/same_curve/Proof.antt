@@ -1,0 +1,43 @@
+-- `same_curve`: the points that count are the first n of both.
+use mathlib.Core.Path.{_≡_, refl, sym, ap, _∙_}
+use mathlib.Core.Bool.{Bool}
+use Prim.Native.Nat.{ℕ}
+use native.Mathlib.Omega.{arith}
+use borrow.Author.Needs.{needs}
+use lib.ListN.{length, take}
+use lib.Seq.{take-all}
+use Rattle.points.specs.declared.Curve.{Curve}
+use Rattle.points.specs.Points.{listOf}
+use Rattle.points.specs.Owned.{length-told}
+use Rattle.sets.specs.Same.{SameCurve}
+use Rattle.sameness.specs.Decides.{Decides}
+use Rattle.sameness.proofs.Deciding.{no, decides-as}
+use Rattle.sameness.proofs.same_curve.Statement.{statement}
+use Rattle.sameness.proofs.same_curve.Tie as tie
+
+by-points : {r : Bool} (a b : Curve) (n : ℕ) → a .count ≡ b .count → take n (a .points) ≡ listOf a → take n (b .points) ≡ listOf b
+    → Decides (take n (a .points) ≡ take n (b .points)) r → Decides (SameCurve a b) r
+by-points a b n e p q d = decides-as (λ t. record { count = e; points = sym p ∙ t ∙ q }) (λ s. p ∙ s .points ∙ sym q) d
+
+returns : tie.Need-returns
+returns c = no (λ s. c .if1 .taken (s .count))
+
+returns-2 : tie.Need-returns-2
+returns-2 c =
+    let k = c .before .before in
+    let a = k .before .args .a in
+    let b = k .before .args .b in
+    by-points a b (a .count) (k .if1 .left) refl (ap (λ n. take n (b .points)) (k .if1 .left)) (c .same-points .ensures)
+
+returns-3 : tie.Need-returns-3
+returns-3 c =
+    let k = c .before .before in
+    let a = k .before .args .a in
+    let b = k .before .args .b in
+    let a-long : length (a .points) ≡ 64 = search (needs, length-told) in
+    let b-long : length (b .points) ≡ 64 = search (needs, length-told) in
+    by-points a b 64 (k .if1 .left) (take-all 64 (a .points) (omega arith) ∙ sym (take-all (a .count) (a .points) (omega arith)))
+    (take-all 64 (b .points) (omega arith) ∙ sym (take-all (b .count) (b .points) (omega arith))) (c .same-points2 .ensures)
+
+pub same-curve-spec : {M : Type 1} → statement M
+same-curve-spec = tie.close (tie.spec returns (search needs) (search needs) returns-2 returns-3)

@@ -1,0 +1,68 @@
+-- `same_points`: at each turn the points before i agree; where two differ, so do the lists.
+use mathlib.Core.Path.{_≡_, sym, ap, _∙_}
+use mathlib.Core.List.{List}
+use Prim.Native.Nat.{ℕ, _≤_, _<_, _-_, _+_}
+use native.Mathlib.Numerals.{add-one}
+use native.Mathlib.Omega.{arith}
+use borrow.Author.Needs.{needs}
+use borrow.Author.Tests.{not-true, not-false}
+use lib.ListN.{length, take}
+use lib.Seq.{take-suc, getD-take}
+use Rattle.points.specs.declared.Point.{Point}
+use Rattle.points.specs.Points.{pt, nth}
+use Rattle.points.specs.Owned.{length-told}
+use Rattle.sameness.proofs.Deciding.{yes, no, decides-not}
+use Rattle.sameness.proofs.same_points.Statement.{statement}
+use Rattle.sameness.proofs.same_points.Tie as tie
+
+abbrev Inv-loop : tie.InvT-loop
+Inv-loop n a b i₀ i = (i ≤ n) × (take i (a .points) ≡ take i (b .points))
+
+abbrev μ-loop : tie.MeasureT-loop
+μ-loop n a b i₀ i = n - i
+
+one-more : (k l : List Point) (i : ℕ) → i < length k → i < length l → take i k ≡ take i l → nth k i ≡ nth l i → take (i + 1) k ≡ take (i + 1) l
+one-more k l i h g e p = rw (add-one i, take-suc k i (pt 0 0) h, take-suc l i (pt 0 0) g, e, p)
+
+at-one : (k l : List Point) (n i : ℕ) → i < n → take n k ≡ take n l → nth k i ≡ nth l i
+at-one k l n i h e =
+    sym (getD-take n k i (pt 0 0) h) ∙ ap (λ (m : List Point). nth m i) e ∙ getD-take n l i (pt 0 0) h
+
+returns : tie.Need-returns Inv-loop μ-loop
+returns c =
+    let k = c .before .before .before .before in
+    let h : k .before .loop .i < k .before .before .args .n = omega arith in
+    no (λ e. decides-not (c .before .same-point .ensures) (not-true _ (c .if1 .taken)) (at-one _ _ _ _ h e))
+
+loop-again : tie.Need-loop-again Inv-loop μ-loop
+loop-again c =
+    let k = c .before .before .before .before .before in
+    let a = k .before .args .t1 .points in
+    let b = k .before .args .t2 .points in
+    let a-long : length a ≡ 64 = search (needs, length-told) in
+    let b-long : length b ≡ 64 = search (needs, length-told) in
+    let here = c .before .same-point .ensures .sound (not-false _ (c .if1 .left)) in
+    (omega arith, one-more a b (k .loop .i) (omega arith) (omega arith) (k .loop .inv .1) here)
+
+returns-2 : tie.Need-returns-2 Inv-loop μ-loop
+returns-2 c =
+    let whole : c .before .loop .i ≡ c .before .before .args .n = omega arith in
+    yes (rw whole at (c .before .loop .inv .1))
+
+pub same-points-spec : {M : Type 1} → statement M
+same-points-spec =
+    tie.close
+    (tie.spec
+    Inv-loop
+    μ-loop
+    (search needs)
+    (search needs)
+    (search needs)
+    (search needs)
+    (search needs)
+    (search needs)
+    returns
+    (search needs)
+    (search needs)
+    loop-again
+    returns-2)
