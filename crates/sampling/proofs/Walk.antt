@@ -1,5 +1,5 @@
--- The way of `fill` through the samples: the search for a segment from another one on, and the state from block to block.
-use mathlib.Core.Path.{_≡_, sym, ap, _∙_}
+-- The way of `fill` through the samples: the search for a segment from another one on, the state from block to block, and sample by sample.
+use mathlib.Core.Path.{_≡_, sym, _∙_}
 use mathlib.Core.Bool.{true, false, true≢false}
 use mathlib.Core.List.{List}
 use Prim.Native.Nat.{ℕ, suc, _+_, _-_, _≤_, _<_, max}
@@ -9,26 +9,20 @@ use native.Mathlib.Numerals.{add-one}
 use native.Mathlib.Omega.{arith}
 use borrow.Author.Tests.{lt-ltb, le-ltb}
 use lib.Ieee.{Float, nan, lt}
-use lib.ListN.{length, getD, set, replicate, length-set, getD-replicate}
+use lib.ListN.{length, getD, set, length-set, getD-replicate}
 use lib.Seq.{getD-set-same, getD-set-other}
-use Rattle.lists.specs.Tabulate.{tabulate, getD-tabulate, is-tabulate}
-use Rattle.lists.specs.Stored.{Stored, stored-as, stored-inside, stored-below, stored-above}
-use Rattle.single.specs.Constants.{𝟎, 𝟐}
-use Rattle.single.specs.Rules.{clamped, guardedQuotient}
+use Rattle.lists.specs.Tabulate.{tabulate, is-tabulate}
+use Rattle.lists.specs.Stored.{Stored, stored-inside, stored-below, stored-above}
+use Rattle.single.specs.Rules.{clamped}
 use Rattle.single.specs.ByteLaws.{floor-small}
 use Rattle.single.specs.RuleLaws.{by-test}
 use Rattle.floats.specs.Notation.{_⊘_}
 use Rattle.hermite.specs.Segments.{at, step, sampleAt, seek, segment}
-use Rattle.hermite.specs.Pieces.{part}
-use Rattle.spline.specs.Segments.{between, splinePiece}
-use Rattle.points.specs.declared.Knot.{Knot}
-use Rattle.points.specs.Knots.{knotAt}
 use Rattle.sampling.specs.declared.Form.{Form}
-use Rattle.sampling.specs.declared.Form.the-variants.{Straight, Cubic, Spline}
 use Rattle.sampling.specs.declared.blocks.Place.{Place}
 use Rattle.sampling.specs.declared.Piece.{Piece}
 use Rattle.sampling.specs.Pieces.{pieceAt, heightOf, heightAt, sampled}
-use Rattle.sampling.specs.Walk.{narrow, isEnd, endAt, Ends, nextPlace, partFrom, partsOf, fromParts, straightSample, cubicSample, firstOf, thirdOf, firstAt, thirdAt, splineSample, along, State}
+use Rattle.sampling.specs.Walk.{isEnd, endAt, Ends, nextPlace, along, State}
 use Rattle.sampling.specs.Positions.{past-later, inside-earlier}
 
 -- ---- the search for a segment, from the segment i on
@@ -56,81 +50,16 @@ end-inside : (x s : Float) (e : ℕ) → isEnd x s e ≡ true → lt x (sampleAt
 end-inside x s e h =
     by-test (lt x (sampleAt s (e - 1))) (λ t. absurd (true≢false (sym h ∙ rw (end-past x s e h, t)))) (λ t. t)
 
-end-most : (xs : List Float) (s : Float) (i : ℕ) → endAt xs s i ≤ 4095
+pub end-most : (xs : List Float) (s : Float) (i : ℕ) → endAt xs s i ≤ 4095
 unfolding endAt
 end-most xs s i = omega (arith, floor-small (at xs (i + 1) ⊘ s))
 
 module _ {xs : List Float} {s : Float} {n S : ℕ} {ends : List ℕ} (given : Ends xs n ends s S) (i : ℕ) where
-  end-inner : i + 2 < n → getD ends i 0 ≡ endAt xs s i
+  pub end-inner : i + 2 < n → getD ends i 0 ≡ endAt xs s i
   end-inner h = stored-inside (given .row) i 0 (omega arith) (omega arith) (omega (arith, given .most))
 
-  end-last : n ≤ i + 2 → i < 66 → getD ends i 0 ≡ 8192
+  pub end-last : n ≤ i + 2 → i < 66 → getD ends i 0 ≡ 8192
   end-last h room = stored-above (given .row) i 0 (omega arith) ∙ getD-replicate 66 i 8192 0 room
-
--- ---- places
--- the next place is on the rows, and further on
-pub record Next (n : ℕ) (p q : Place) : Type 0 where
-  pub room : q .i + 1 < n
-  pub held : q .v ≤ 4096
-  pub on : p .v + p .i < q .v + q .i
-
-pub next-is : {xs : List Float} {n S : ℕ} {ends : List ℕ} {s : Float} {p q : Place} → Ends xs n ends s S → p .i + 1 < n → p .v + 4 ≤ S
-    → q ≡ nextPlace ends p → Next n p q
-unfolding nextPlace
-next-is {xs} {n} {s = s} {p} given low room q-is = rw q-is (elim (decLt (p .i + 2) n) [
-  | yes inner ↦
-      let e = endAt xs s (p .i) in
-      rw (end-inner given (p .i) inner) (elim (decLt (p .v + 4) e) [
-        | yes more ↦ rw (lt-ltb (p .v + 4) e more) (record { room = low; held = omega (arith, given .held); on = omega arith })
-        | no enough ↦
-            rw (le-ltb (p .v + 4) e (omega arith))
-            (record { room = omega arith; held = omega (arith, given .held, end-most xs s (p .i)); on = omega arith })
-      ])
-  | no last ↦
-      rw (end-last given (p .i) (omega arith) (omega (arith, given .most)), lt-ltb (p .v + 4) 8192 (omega (arith, given .held)))
-      (record { room = low; held = omega (arith, given .held); on = omega arith })
-])
-
--- no piece is narrow
-pub wide-piece : {xs : List Float} (ys ms : List Float) {n S : ℕ} {ends : List ℕ} {s : Float} (i : ℕ) {piece : Piece} → Ends xs n ends s S → i + 1 < n
-    → piece ≡ pieceAt xs ys ms i → narrow (piece .a .x) (piece .b .x) ≡ false
-wide-piece ys ms i given h e = rw e (given .right .wide i h)
-
--- ---- samples by parts
-from-parts : (f : Float → Float) (piece : Piece) (s : Float) (v w : ℕ) → v ≤ w → w < v + 4
-    → fromParts f (partsOf piece s v) v w ≡ f (part (piece .a) (piece .b) (sampleAt s w))
-unfolding fromParts partsOf partFrom
-from-parts f piece s v w low high =
-    let place : v + (w - v) ≡ w = omega arith in
-    ap f (getD-tabulate 4 (partFrom piece s v) (w - v) nan (omega arith) ∙ rw place)
-
-module _ (xs ys ms : List Float) (i : ℕ) (s : Float) {piece : Piece} {v : ℕ} {t : List Float} {l m : List Float} (same : piece ≡ pieceAt xs ys ms i)
-    (parts : t ≡ partsOf (pieceAt xs ys ms i) s v) where
-  pub straight-block : Stored (fromParts (straightSample piece) t v) v (v + 4) l m → Stored (along Straight (pieceAt xs ys ms i) s) v (v + 4) l m
-  unfolding along heightOf
-  straight-block r =
-      stored-as (rw (same, parts) at r) (λ w low high. from-parts (straightSample (pieceAt xs ys ms i)) (pieceAt xs ys ms i) s v w low high)
-
-  pub cubic-block : Stored (fromParts (cubicSample piece) t v) v (v + 4) l m → Stored (along Cubic (pieceAt xs ys ms i) s) v (v + 4) l m
-  unfolding along heightOf
-  cubic-block r =
-      stored-as (rw (same, parts) at r) (λ w low high. from-parts (cubicSample (pieceAt xs ys ms i)) (pieceAt xs ys ms i) s v w low high)
-
--- ---- samples by coefficients, which stand in rows
-by-coefficients : (piece : Piece) (s : Float) (w : ℕ) → narrow (piece .a .x) (piece .b .x) ≡ false
-    → splineSample (piece .a) (firstOf piece) (piece .p ⊘ 𝟐) (thirdOf piece) s w ≡ along Spline piece s w
-unfolding splineSample along heightOf splinePiece between guardedQuotient firstOf thirdOf
-by-coefficients piece s w wide = rw wide
-
-pub spline-block : (xs ys ms : List Float) (n i : ℕ) {S : ℕ} {ends : List ℕ} {s : Float} {a : Knot} {c1s c3s : List Float} {v : ℕ} {l m : List Float}
-    → Ends xs n ends s S → i + 1 < n → a ≡ knotAt xs ys i → Stored (firstAt xs ys ms) 0 (n - 1) (replicate 66 𝟎) c1s
-    → Stored (thirdAt xs ys ms) 0 (n - 1) (replicate 66 𝟎) c3s
-    → Stored (splineSample a (at c1s i) (at ms i ⊘ 𝟐) (at c3s i) s) v (v + 4) l m → Stored (along Spline (pieceAt xs ys ms i) s) v (v + 4) l m
-unfolding firstAt thirdAt
-spline-block xs ys ms n i {s = s} {a} {c1s} {c3s} given h a-is c1s-is c3s-is r =
-    let first : at c1s i ≡ firstOf (pieceAt xs ys ms i) = stored-inside c1s-is i nan (omega arith) (omega arith) (omega (arith, given .most)) in
-    let third : at c3s i ≡ thirdOf (pieceAt xs ys ms i) = stored-inside c3s-is i nan (omega arith) (omega arith) (omega (arith, given .most)) in
-    stored-as (rw (a-is, first, third) at r) (λ w low high. by-coefficients (pieceAt xs ys ms i) s w (given .right .wide i h))
 
 -- ---- the state
 module _ (form : Form) (xs ys ms : List Float) (n S : ℕ) where
@@ -143,7 +72,7 @@ module _ (form : Form) (xs ys ms : List Float) (n S : ℕ) where
   start long h = record { long = long; room = omega arith; done = λ w low high. absurd (omega arith); ahead = λ w low high. simp sub-zero }
 
   -- a sample that lies in the segment i is that of its piece
-  pub here : {i : ℕ} (w : ℕ) → segment xs n (position w) ≡ i
+  here : {i : ℕ} (w : ℕ) → segment xs n (position w) ≡ i
       → along form (pieceAt xs ys ms i) (step S) w ≡ sampled (heightAt form xs ys ms n) S w
   unfolding along sampled heightAt
   here w same = rw same

@@ -6,19 +6,21 @@ use mathlib.Core.List.{List}
 use lib.Dec.{ltb}
 use lib.ListN.{length, getD, replicate}
 use lib.Ieee.{Float, nan, lt}
-use Rattle.floats.specs.Notation.{_⊕_, _⊖_, _⊗_, _⊘_}
+use Rattle.floats.specs.Notation.{_⊖_, _⊘_}
 use Rattle.floats.specs.Value.{absolute}
 use Rattle.lists.specs.Tabulate.{tabulate}
 use Rattle.lists.specs.Stored.{Stored}
-use Rattle.single.specs.Constants.{𝟐, 𝟔, micro}
+use Rattle.single.specs.Constants.{micro}
 use Rattle.single.specs.Rules.{clamped, floorOf}
 use Rattle.points.specs.declared.Knot.{Knot}
+use Rattle.points.specs.Knots.{knotAt}
 use Rattle.hermite.specs.Segments.{at, step, sampleAt, seek, segment}
 use Rattle.hermite.specs.Pieces.{part, straight, hermite}
+use Rattle.spline.specs.Segments.{firstCoefficient, thirdCoefficient, polynomialFrom}
 use Rattle.sampling.specs.declared.Form.{Form}
 use Rattle.sampling.specs.declared.Piece.{Piece}
 use Rattle.sampling.specs.declared.blocks.Place.{Place}
-use Rattle.sampling.specs.Pieces.{pieceAt, heightOf, heightAt, sampled}
+use Rattle.sampling.specs.Pieces.{heightOf, heightAt, sampled}
 
 -- ---- where the pieces end, s being the step
 -- whether the segment from l to r is too narrow to divide by its width
@@ -78,25 +80,16 @@ straightSample piece t = clamped (straight (piece .a) (piece .b) t)
 abbrev pub cubicSample : Piece → Float → Float
 cubicSample piece t = clamped (hermite (piece .a) (piece .b) (piece .p) (piece .q) t)
 
--- the coefficients of a spline's piece that is not narrow, and a sample by them
-unfoldable pub firstOf : Piece → Float
-firstOf piece =
-    let h = piece .b .x ⊖ piece .a .x in
-    (piece .b .y ⊖ piece .a .y) ⊘ h ⊖ h ⊗ (𝟐 ⊗ piece .p ⊕ piece .q) ⊘ 𝟔
+-- the coefficients of the spline's piece i
+unfoldable pub firstCoefficientAt : List Float → List Float → List Float → ℕ → Float
+firstCoefficientAt xs ys ms i = firstCoefficient (knotAt xs ys i) (knotAt xs ys (i + 1)) (at ms i) (at ms (i + 1))
 
-unfoldable pub thirdOf : Piece → Float
-thirdOf piece = (piece .q ⊖ piece .p) ⊘ (𝟔 ⊗ (piece .b .x ⊖ piece .a .x))
+unfoldable pub thirdCoefficientAt : List Float → List Float → List Float → ℕ → Float
+thirdCoefficientAt xs ys ms i = thirdCoefficient (knotAt xs ys i) (knotAt xs ys (i + 1)) (at ms i) (at ms (i + 1))
 
-unfoldable pub firstAt : List Float → List Float → List Float → ℕ → Float
-firstAt xs ys ms i = firstOf (pieceAt xs ys ms i)
-
-unfoldable pub thirdAt : List Float → List Float → List Float → ℕ → Float
-thirdAt xs ys ms i = thirdOf (pieceAt xs ys ms i)
-
+-- sample v, s being the step, of the piece from the knot a on with these coefficients
 unfoldable pub splineSample : Knot → Float → Float → Float → Float → ℕ → Float
-splineSample a c1 c2 c3 s v =
-    let t = sampleAt s v ⊖ a .x in
-    clamped (a .y ⊕ c1 ⊗ t ⊕ c2 ⊗ t ⊗ t ⊕ c3 ⊗ t ⊗ t ⊗ t)
+splineSample a c1 c2 c3 s v = clamped (polynomialFrom a c1 c2 c3 (sampleAt s v))
 
 -- ---- on the way
 -- sample v, where the step is s, on the piece

@@ -1,10 +1,13 @@
 // The way through the samples in blocks of four.
 ghost use mathlib.Core.Path.{_≡_};
 ghost use mathlib.Core.Bool.{false};
-ghost use Prim.Native.Nat.{_≤_, _<_, max};
+ghost use Prim.Native.Nat.{_+_, _≤_, _<_, max};
+ghost use Rattle.hermite.specs.Segments.{at};
 ghost use Rattle.hermite.specs.Pieces as P;
+ghost use Rattle.sampling.specs.Pieces.{pieceAt};
 ghost use Rattle.sampling.specs.Walk.{narrow, nextPlace, partsOf};
 use crate::Piece;
+use crate::piece_at;
 use crate::position;
 
 // A place on the way: the next sample, v, and a piece, i, that it does not lie left of.
@@ -52,11 +55,13 @@ fn part(piece: Piece, x: f32) -> f32
     (x - piece.a.x) / (piece.b.x - piece.a.x)
 }
 
-// The parts of a piece left of the four samples from v on.
-pub fn parts(piece: Piece, step: f32, v: usize) -> [f32; 4]
-    requires { ⌜ (narrow (piece .a .x) (piece .b .x) ≡ false) × (v ≤ 4096) ⌝ }
-    ensures { λ r. ⌜ r ≡ partsOf piece step v ⌝ }
+// The parts of the piece at p left of the four samples there.
+pub fn parts(xs: &[f32; 66], ys: &[f32; 66], ms: &[f32; 66], step: f32, p: Place) -> [f32; 4]
+    requires { ⌜ (narrow (at (now xs) (p .i)) (at (now xs) (p .i + 1)) ≡ false) × (p .v ≤ 4096) × (p .i < 65) ⌝ }
+    ensures { λ r. ⌜ r ≡ partsOf (pieceAt (now (xs .entry)) (now (ys .entry)) (now (ms .entry)) (p .i)) step (p .v) ⌝ }
 {
+    let piece = piece_at(xs, ys, ms, p.i);
+    let v = p.v;
     [
         part(piece, position(step, v)),
         part(piece, position(step, v + 1)),

@@ -47,10 +47,10 @@ pub fn draw(
 {
     let count = samples.len();
     let mut p = Place { v: 0, i: 0 };
-    let mut t = parts(piece_at(xs, ys, ms, 0), step, 0);
+    let mut t = parts(xs, ys, ms, step, p);
     while p.v + 4 <= count {
         let q = next(ends, p);
-        let u = parts(piece_at(xs, ys, ms, q.i), step, q.v);
+        let u = parts(xs, ys, ms, step, q);
         four(piece_at(xs, ys, ms, p.i), t, p.v, samples);
         p = q;
         t = u;

@@ -4,8 +4,7 @@ ghost use Prim.Native.Nat.{_+_, _-_, _≤_};
 ghost use lib.ListN.{length};
 ghost use Rattle.lists.specs.Stored.{Stored};
 ghost use Rattle.sampling.specs.declared.Form.the-variants.{Spline};
-ghost use Rattle.sampling.specs.Walk.{firstOf, thirdOf, firstAt, thirdAt, splineSample, Ends, State};
-use crate::Piece;
+ghost use Rattle.sampling.specs.Walk.{firstCoefficientAt, thirdCoefficientAt, splineSample, Ends, State};
 use crate::blocks::Place;
 use crate::blocks::next;
 use crate::piece_at;
@@ -13,41 +12,24 @@ use crate::position;
 use points::Knot;
 use points::knot_at;
 
-// The coefficient of x - x0.
-fn first(piece: Piece) -> f32
-    ensures { λ r. ⌜ r ≡ firstOf piece ⌝ }
-{
-    let h = piece.b.x - piece.a.x;
-    (piece.b.y - piece.a.y) / h - h * (2.0 * piece.p + piece.q) / 6.0
-}
-
-// That of its cube.
-fn third(piece: Piece) -> f32
-    ensures { λ r. ⌜ r ≡ thirdOf piece ⌝ }
-{
-    let h = piece.b.x - piece.a.x;
-    (piece.q - piece.p) / (6.0 * h)
-}
-
-// Both for the pieces between n knots, to the front of a row.
-fn firsts(xs: &[f32; 66], ys: &[f32; 66], ms: &[f32; 66], n: usize, row: &mut [f32; 66])
+// The coefficients of the pieces between n knots, those of x - x0 and those of its cube, to the fronts of two rows.
+fn coefficients(
+    xs: &[f32; 66],
+    ys: &[f32; 66],
+    ms: &[f32; 66],
+    n: usize,
+    c1s: &mut [f32; 66],
+    c3s: &mut [f32; 66],
+)
     requires { ⌜ (2 ≤ n) × (n ≤ 66) ⌝ }
-    ensures { λ _. ⌜ Stored (firstAt (now (xs .entry)) (now (ys .entry)) (now (ms .entry))) 0 (n - 1) (now (row .entry)) (now (row .exit)) ⌝ }
+    ensures { λ _. ⌜ Stored (firstCoefficientAt (now (xs .entry)) (now (ys .entry)) (now (ms .entry))) 0 (n - 1) (now (c1s .entry)) (now (c1s .exit)) ⌝ }
+    ensures { λ _. ⌜ Stored (thirdCoefficientAt (now (xs .entry)) (now (ys .entry)) (now (ms .entry))) 0 (n - 1) (now (c3s .entry)) (now (c3s .exit)) ⌝ }
 {
     let mut i: usize = 0;
     while i + 1 < n {
-        row[i] = first(piece_at(xs, ys, ms, i));
-        i += 1;
-    }
-}
-
-fn thirds(xs: &[f32; 66], ys: &[f32; 66], ms: &[f32; 66], n: usize, row: &mut [f32; 66])
-    requires { ⌜ (2 ≤ n) × (n ≤ 66) ⌝ }
-    ensures { λ _. ⌜ Stored (thirdAt (now (xs .entry)) (now (ys .entry)) (now (ms .entry))) 0 (n - 1) (now (row .entry)) (now (row .exit)) ⌝ }
-{
-    let mut i: usize = 0;
-    while i + 1 < n {
-        row[i] = third(piece_at(xs, ys, ms, i));
+        let piece = piece_at(xs, ys, ms, i);
+        c1s[i] = spline::first_coefficient(piece.a, piece.b, piece.p, piece.q);
+        c3s[i] = spline::third_coefficient(piece.a, piece.b, piece.p, piece.q);
         i += 1;
     }
 }
@@ -57,8 +39,8 @@ fn sample(a: Knot, c1: f32, c2: f32, c3: f32, step: f32, v: usize) -> f32
     requires { ⌜ v ≤ 4096 ⌝ }
     ensures { λ r. ⌜ r ≡ splineSample a c1 c2 c3 step v ⌝ }
 {
-    let t = position(step, v) - a.x;
-    single::clamp(a.y + c1 * t + c2 * t * t + c3 * t * t * t)
+    let height = spline::polynomial_from(a, c1, c2, c3, position(step, v));
+    single::clamp(height)
 }
 
 // Four samples.
@@ -87,9 +69,8 @@ pub fn draw(
     ensures { λ r. ⌜ State Spline (now (xs .entry)) (now (ys .entry)) (now (ms .entry)) n (length (now (samples .entry))) r (now (samples .exit)) ⌝ }
 {
     let mut c1s = [0.0; 66];
-    firsts(xs, ys, ms, n, &mut c1s);
     let mut c3s = [0.0; 66];
-    thirds(xs, ys, ms, n, &mut c3s);
+    coefficients(xs, ys, ms, n, &mut c1s, &mut c3s);
     let count = samples.len();
     let mut p = Place { v: 0, i: 0 };
     while p.v + 4 <= count {

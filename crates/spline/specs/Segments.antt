@@ -21,16 +21,22 @@ between a b = record { width = b .x ⊖ a .x; secant = guardedQuotient (b .y ⊖
 unfoldable pub segmentAt : List Float → List Float → ℕ → Segment
 segmentAt xs ys i = between (knotAt xs ys i) (knotAt xs ys (i + 1))
 
--- P(x) = y + (Δ − h (2 M + M') / 6) t + (M / 2) t² + ((M' − M) / (6 h)) t³ with t = x − x0, M and M' being the second derivatives ma and mb
+-- the piece's polynomial is P(x) = y + c1 t + c2 t² + c3 t³ with t = x − x0, by the second derivatives ma and mb, M and M': c1 = Δ − h (2 M + M') / 6
+unfoldable pub firstCoefficient : Knot → Knot → Float → Float → Float
+firstCoefficient a b ma mb = let s = between a b in s .secant ⊖ s .width ⊗ (𝟐 ⊗ ma ⊕ mb) ⊘ 𝟔
+
+-- c3 = (M' − M) / (6 h); c2 is M / 2
+abbrev pub thirdCoefficient : Knot → Knot → Float → Float → Float
+thirdCoefficient a b ma mb = (mb ⊖ ma) ⊘ (𝟔 ⊗ (b .x ⊖ a .x))
+
+-- P(x), from the knot a on
+abbrev pub polynomialFrom : Knot → Float → Float → Float → Float → Float
+polynomialFrom a c1 c2 c3 x = let t = x ⊖ a .x in a .y ⊕ c1 ⊗ t ⊕ c2 ⊗ t ⊗ t ⊕ c3 ⊗ t ⊗ t ⊗ t
+
+-- the piece from a to b; one narrower than 1e-6 is flat
 unfoldable pub splinePiece : Knot → Knot → Float → Float → Float → Float
 splinePiece a b ma mb x =
-    let s = between a b in
-    let h = s .width in
-    let t = x ⊖ a .x in
-    let c1 = s .secant ⊖ h ⊗ (𝟐 ⊗ ma ⊕ mb) ⊘ 𝟔 in
-    let c2 = ma ⊘ 𝟐 in
-    let c3 = (mb ⊖ ma) ⊘ (𝟔 ⊗ h) in
-    cond (lt (absolute h) micro) (a .y) (a .y ⊕ c1 ⊗ t ⊕ c2 ⊗ t ⊗ t ⊕ c3 ⊗ t ⊗ t ⊗ t)
+    cond (lt (absolute (b .x ⊖ a .x)) micro) (a .y) (polynomialFrom a (firstCoefficient a b ma mb) (ma ⊘ 𝟐) (thirdCoefficient a b ma mb) x)
 
 -- "ClampedCubic carries two slopes, signed 16-bit, each divided by 256"
 unfoldable pub slopeOf : ℤ → Float

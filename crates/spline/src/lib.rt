@@ -5,7 +5,7 @@ ghost use lib.ListN.{replicate};
 ghost use Rattle.lists.specs.Tabulate.{filled};
 ghost use Rattle.single.specs.Constants.{𝟎};
 ghost use Rattle.spline.specs.Segments as S;
-ghost use Rattle.spline.specs.Segments.{segmentAt, splinePiece, slopeOf};
+ghost use Rattle.spline.specs.Segments.{segmentAt, firstCoefficient, thirdCoefficient, polynomialFrom, splinePiece, slopeOf};
 ghost use Rattle.spline.specs.Thomas as T;
 ghost use Rattle.spline.specs.Thomas.{sweptIn, substituted, solution, rowsOf, RowHeld};
 ghost use Rattle.spline.specs.Second as M;
@@ -61,20 +61,38 @@ fn segment_at(xs: &[f32; 66], ys: &[f32; 66], i: usize) -> Segment
     between(knot_at(xs, ys, i), knot_at(xs, ys, i + 1))
 }
 
+// The coefficients of t and of its cube in the polynomial of the piece from a to b, t being x - a.x, and ma and mb the second derivatives at a and b.
+pub fn first_coefficient(a: Knot, b: Knot, ma: f32, mb: f32) -> f32
+    ensures { λ r. ⌜ r ≡ firstCoefficient a b ma mb ⌝ }
+{
+    let s = between(a, b);
+    s.secant - s.width * (2.0 * ma + mb) / 6.0
+}
+
+pub fn third_coefficient(a: Knot, b: Knot, ma: f32, mb: f32) -> f32
+    ensures { λ r. ⌜ r ≡ thirdCoefficient a b ma mb ⌝ }
+{
+    (mb - ma) / (6.0 * (b.x - a.x))
+}
+
+// The polynomial with these coefficients, from the knot a on, at x.
+pub fn polynomial_from(a: Knot, c1: f32, c2: f32, c3: f32, x: f32) -> f32
+    ensures { λ r. ⌜ r ≡ polynomialFrom a c1 c2 c3 x ⌝ }
+{
+    let t = x - a.x;
+    a.y + c1 * t + c2 * t * t + c3 * t * t * t
+}
+
 // The piece from a to b with the second derivatives ma and mb there, at x, unclamped.
 pub fn spline_piece(a: Knot, b: Knot, ma: f32, mb: f32, x: f32) -> f32
     ensures { λ r. ⌜ r ≡ splinePiece a b ma mb x ⌝ }
 {
-    let s = between(a, b);
-    let h = s.width;
-    if single::abs(h) < 1.0e-6 {
+    if single::abs(b.x - a.x) < 1.0e-6 {
         return a.y;
     }
-    let t = x - a.x;
-    let c1 = s.secant - h * (2.0 * ma + mb) / 6.0;
-    let c2 = ma / 2.0;
-    let c3 = (mb - ma) / (6.0 * h);
-    a.y + c1 * t + c2 * t * t + c3 * t * t * t
+    let c1 = first_coefficient(a, b, ma, mb);
+    let c3 = third_coefficient(a, b, ma, mb);
+    polynomial_from(a, c1, ma / 2.0, c3, x)
 }
 
 // A slope of a clamped curve, a signed 16-bit number over 256, as a float, in this one place.

@@ -33,8 +33,7 @@ advance-spec =
     Inv-loop
     μ-loop
     (λ c. (search needs, refl))
-    (λ c. search needs) (λ c. search needs) (λ c. search needs) (λ c. search needs)
-    (λ c. search needs) (λ c. search needs)
+    (λ c. search needs) (λ c. search needs) (λ c. search needs) (λ c. search needs) (λ c. search needs) (λ c. search needs)
     loop-again
     returns
     returns-2)

@@ -26,6 +26,5 @@ begin-spec =
     (tie.spec
     (λ c κs. search needs)
     draw-requires
-    (λ c. search needs)
-    (λ c. search needs)
+    (λ c. search needs) (λ c. search needs)
     (λ c. start _ _ _ _ _ _ refl (c .before .before .before .before .pre .0 .0)))

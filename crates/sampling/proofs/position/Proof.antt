@@ -1,15 +1,12 @@
--- `fill::position`: the number of the sample times the step.
+-- `position`: the number of the sample times the step.
 use Rattle.hermite.specs.Segments.{sampleAt}
 use borrow.Author.Needs.{needs}
 use Rattle.sampling.proofs.position.Statement.{statement}
 use Rattle.sampling.proofs.position.Tie as tie
-
-count-to-float-requires : tie.Need-count-to-float-requires
-count-to-float-requires c κs = search needs
 
 returns : tie.Need-returns
 unfolding sampleAt
 returns c = rw (c .count-to-float .ensures)
 
 pub position-spec : {M : Type 1} → statement M
-position-spec = tie.close (tie.spec count-to-float-requires returns)
+position-spec = tie.close (tie.spec (λ c κs. search needs) returns)

@@ -4,12 +4,9 @@ use Rattle.spline.specs.Segments as S
 use Rattle.spline.proofs.between.Statement.{statement}
 use Rattle.spline.proofs.between.Tie as tie
 
-guarded-quotient-requires : tie.Need-guarded-quotient-requires
-guarded-quotient-requires c κs = search needs
-
 returns : tie.Need-returns
 unfolding S.between
 returns c = rw (c .guarded-quotient .ensures)
 
 pub between-spec : {M : Type 1} → statement M
-between-spec = tie.close (tie.spec guarded-quotient-requires returns)
+between-spec = tie.close (tie.spec (λ c κs. search needs) returns)

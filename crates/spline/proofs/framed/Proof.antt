@@ -19,46 +19,13 @@ Inv-loop first last inside n out₀ i₀ out i =
 abbrev μ-loop : tie.MeasureT-loop
 μ-loop first last inside n out₀ i₀ out i = n - i
 
-array-write-out : tie.Need-array-write-out Inv-loop μ-loop
-array-write-out c = search needs
-
 loop-holds : tie.Need-loop-holds Inv-loop μ-loop
 unfolding M.framed
 loop-holds c = (omega arith, omega arith, stored-next stored-none refl)
 
-add-loop : tie.Need-add-loop Inv-loop μ-loop
-add-loop c = search needs
-
-sub-out : tie.Need-sub-out Inv-loop μ-loop
-sub-out c = search needs
-
-mul-out : tie.Need-mul-out Inv-loop μ-loop
-mul-out c = search needs
-
-element-copy-out-out : tie.Need-element-copy-out-out Inv-loop μ-loop
-element-copy-out-out c = search needs
-
-mul-out-2 : tie.Need-mul-out-2 Inv-loop μ-loop
-mul-out-2 c = search needs
-
-array-write-out-2 : tie.Need-array-write-out-2 Inv-loop μ-loop
-array-write-out-2 c = search needs
-
-add-i : tie.Need-add-i Inv-loop μ-loop
-add-i c = search needs
-
-loop-less : tie.Need-loop-less Inv-loop μ-loop
-loop-less c = search needs
-
 loop-again : tie.Need-loop-again Inv-loop μ-loop
 unfolding at
 loop-again c = (omega arith, omega arith, stored-next (c .before .before .loop .inv .2) (sym (framed-inside _ _ _ _ _ (omega arith) (omega arith))))
-
-mul-out-3 : tie.Need-mul-out-3 Inv-loop μ-loop
-mul-out-3 c = search needs
-
-array-write-out-3 : tie.Need-array-write-out-3 Inv-loop μ-loop
-array-write-out-3 c = search needs
 
 returns : tie.Need-returns Inv-loop μ-loop
 returns c =
@@ -70,17 +37,10 @@ framed-spec =
     (tie.spec
     Inv-loop
     μ-loop
-    array-write-out
+    (λ c. search needs)
     loop-holds
-    add-loop
-    sub-out
-    mul-out
-    element-copy-out-out
-    mul-out-2
-    array-write-out-2
-    add-i
-    loop-less
+    (λ c. search needs) (λ c. search needs) (λ c. search needs) (λ c. search needs) (λ c. search needs) (λ c. search needs) (λ c. search needs)
+    (λ c. search needs)
     loop-again
-    mul-out-3
-    array-write-out-3
+    (λ c. search needs) (λ c. search needs)
     returns)

@@ -13,24 +13,6 @@ returns : tie.Need-returns
 unfolding filled tabulate notAKnotAt
 returns c = let two : c .before .args .n ≡ 2 = omega arith in rw two
 
-segment-at-requires : tie.Need-segment-at-requires
-segment-at-requires c κs = search needs
-
-segment-at-requires-2 : tie.Need-segment-at-requires-2
-segment-at-requires-2 c κs = search needs
-
-parabola-requires : tie.Need-parabola-requires
-parabola-requires c κs = search needs
-
-array-write-out : tie.Need-array-write-out
-array-write-out c = search needs
-
-array-write-out-2 : tie.Need-array-write-out-2
-array-write-out-2 c = search needs
-
-array-write-out-3 : tie.Need-array-write-out-3
-array-write-out-3 c = search needs
-
 returns-2 : tie.Need-returns-2
 unfolding filled tabulate notAKnotAt
 returns-2 c =
@@ -51,12 +33,7 @@ not-a-knot-spec =
     tie.close
     (tie.spec
     returns
-    segment-at-requires
-    segment-at-requires-2
-    parabola-requires
-    array-write-out
-    array-write-out-2
-    array-write-out-3
+    (λ c κs. search needs) (λ c κs. search needs) (λ c κs. search needs) (λ c. search needs) (λ c. search needs) (λ c. search needs)
     returns-2
     ends-recovered-requires
     returns-3)

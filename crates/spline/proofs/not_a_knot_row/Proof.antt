@@ -5,29 +5,11 @@ use Rattle.spline.specs.Second.{rowAt}
 use Rattle.spline.proofs.not_a_knot_row.Statement.{statement}
 use Rattle.spline.proofs.not_a_knot_row.Tie as tie
 
-segment-at-requires : tie.Need-segment-at-requires
-segment-at-requires c κs = search needs
-
-add-segment-at : tie.Need-add-segment-at
-add-segment-at c = search needs
-
-segment-at-requires-2 : tie.Need-segment-at-requires-2
-segment-at-requires-2 c κs = search needs
-
-not-a-knot-first-requires : tie.Need-not-a-knot-first-requires
-not-a-knot-first-requires c κs = search needs
-
 returns : tie.Need-returns
 unfolding rowAt
 returns c =
     let b = c .before .before in
     rw (eq-eqb _ _ (c .before .if1 .taken), ← b .before .segment-at .ensures, ← b .segment-at2 .ensures) (c .not-a-knot-first .ensures)
-
-add-if2 : tie.Need-add-if2
-add-if2 c = search needs
-
-not-a-knot-last-requires : tie.Need-not-a-knot-last-requires
-not-a-knot-last-requires c κs = search needs
 
 returns-2 : tie.Need-returns-2
 unfolding rowAt
@@ -36,9 +18,6 @@ returns-2 c =
     rw
     (ne-eqb _ _ (c .before .before .if1 .left), eq-eqb _ _ (c .before .if2 .taken), ← b .before .segment-at .ensures, ← b .segment-at2 .ensures)
     (c .not-a-knot-last .ensures)
-
-inner-requires : tie.Need-inner-requires
-inner-requires c κs = search needs
 
 returns-3 : tie.Need-returns-3
 unfolding rowAt
@@ -52,13 +31,9 @@ pub not-a-knot-row-spec : {M : Type 1} → statement M
 not-a-knot-row-spec =
     tie.close
     (tie.spec
-    segment-at-requires
-    add-segment-at
-    segment-at-requires-2
-    not-a-knot-first-requires
+    (λ c κs. search needs) (λ c. search needs) (λ c κs. search needs) (λ c κs. search needs)
     returns
-    add-if2
-    not-a-knot-last-requires
+    (λ c. search needs) (λ c κs. search needs)
     returns-2
-    inner-requires
+    (λ c κs. search needs)
     returns-3)

@@ -4,12 +4,9 @@ use Rattle.spline.specs.Second as M
 use Rattle.spline.proofs.recovered.Statement.{statement}
 use Rattle.spline.proofs.recovered.Tie as tie
 
-guarded-quotient-requires : tie.Need-guarded-quotient-requires
-guarded-quotient-requires c κs = search needs
-
 returns : tie.Need-returns
 unfolding M.recovered
 returns c = rw (c .guarded-quotient .ensures)
 
 pub recovered-spec : {M : Type 1} → statement M
-recovered-spec = tie.close (tie.spec guarded-quotient-requires returns)
+recovered-spec = tie.close (tie.spec (λ c κs. search needs) returns)

@@ -5,9 +5,6 @@ use Rattle.spline.specs.Second.{rowAt}
 use Rattle.spline.proofs.row_at.Statement.{statement}
 use Rattle.spline.proofs.row_at.Tie as tie
 
-enum-told : tie.Need-enum-told
-enum-told c = search needs
-
 segment-at-requires : tie.Need-segment-at-requires
 segment-at-requires c κs = omega (arith, rw (c .enum-told .given .1) at (c .before .before .pre .2))
 
@@ -17,18 +14,9 @@ add-segment-at c = omega (arith, rw (c .before .enum-told .given .1) at (c .befo
 segment-at-requires-2 : tie.Need-segment-at-requires-2
 segment-at-requires-2 c κs = omega (arith, rw (c .before .enum-told .given .1) at (c .before .before .before .pre .2))
 
-inner-requires : tie.Need-inner-requires
-inner-requires c κs = search needs
-
-enum-known-boundary : tie.Need-enum-known-boundary
-enum-known-boundary c = search needs
-
 clamped-row-requires : tie.Need-clamped-row-requires
 clamped-row-requires c κs =
     (search needs, search needs, rw (c .before .boundary .given .1) at (c .before .before .before .pre .2))
-
-enum-told-2 : tie.Need-enum-told-2
-enum-told-2 c = search needs
 
 not-a-knot-row-requires : tie.Need-not-a-knot-row-requires
 not-a-knot-row-requires c κs = (search needs, omega (arith, rw (c .enum-told2 .given .1) at (c .before .before .pre .2)))
@@ -49,14 +37,13 @@ pub row-at-spec : {M : Type 1} → statement M
 row-at-spec =
     tie.close
     (tie.spec
-    enum-told
+    (λ c. search needs)
     segment-at-requires
     add-segment-at
     segment-at-requires-2
-    inner-requires
-    enum-known-boundary
+    (λ c κs. search needs) (λ c. search needs)
     clamped-row-requires
-    enum-told-2
+    (λ c. search needs)
     not-a-knot-row-requires
     returns
     returns-2

@@ -4,12 +4,9 @@ use Rattle.spline.specs.Thomas as T
 use Rattle.spline.proofs.scaled.Statement.{statement}
 use Rattle.spline.proofs.scaled.Tie as tie
 
-inverse-requires : tie.Need-inverse-requires
-inverse-requires c κs = search needs
-
 returns : tie.Need-returns
 unfolding T.scaled
 returns c = rw (c .inverse .ensures)
 
 pub scaled-spec : {M : Type 1} → statement M
-scaled-spec = tie.close (tie.spec inverse-requires returns)
+scaled-spec = tie.close (tie.spec (λ c κs. search needs) returns)

@@ -7,30 +7,6 @@ use Rattle.spline.proofs.Rows.{framed-row}
 use Rattle.spline.proofs.second_derivatives.Statement.{statement}
 use Rattle.spline.proofs.second_derivatives.Tie as tie
 
-enum-told : tie.Need-enum-told
-enum-told c = search needs
-
-sub-unknowns : tie.Need-sub-unknowns
-sub-unknowns c = search needs
-
-unknowns-requires : tie.Need-unknowns-requires
-unknowns-requires c κs = search needs
-
-framed-requires : tie.Need-framed-requires
-framed-requires c κs = search needs
-
-enum-known-boundary : tie.Need-enum-known-boundary
-enum-known-boundary c = search needs
-
-unknowns-requires-2 : tie.Need-unknowns-requires-2
-unknowns-requires-2 c κs = search needs
-
-enum-told-2 : tie.Need-enum-told-2
-enum-told-2 c = search needs
-
-not-a-knot-requires : tie.Need-not-a-knot-requires
-not-a-knot-requires c κs = search needs
-
 returns : tie.Need-returns
 unfolding secondAt
 returns c =
@@ -51,14 +27,8 @@ pub second-derivatives-spec : {M : Type 1} → statement M
 second-derivatives-spec =
     tie.close
     (tie.spec
-    enum-told
-    sub-unknowns
-    unknowns-requires
-    framed-requires
-    enum-known-boundary
-    unknowns-requires-2
-    enum-told-2
-    not-a-knot-requires
+    (λ c. search needs) (λ c. search needs) (λ c κs. search needs) (λ c κs. search needs) (λ c. search needs) (λ c κs. search needs) (λ c. search needs)
+    (λ c κs. search needs)
     returns
     returns-2
     returns-3)

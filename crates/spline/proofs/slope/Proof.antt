@@ -6,12 +6,9 @@ use Rattle.spline.specs.Segments.{slopeOf}
 use Rattle.spline.proofs.slope.Statement.{statement}
 use Rattle.spline.proofs.slope.Tie as tie
 
-int-to-float-result : tie.Need-int-to-float-result
-int-to-float-result c = search needs
-
 returns : tie.Need-returns
 unfolding slopeOf
 returns c = ap slopeOf (toZ-ofZ (c .before .fits .q))
 
 pub slope-spec : {M : Type 1} → statement M
-slope-spec = tie.close (tie.spec int-to-float-result returns)
+slope-spec = tie.close (tie.spec (λ c. search needs) returns)

@@ -4,21 +4,17 @@ use Rattle.spline.specs.Segments.{splinePiece}
 use Rattle.spline.proofs.spline_piece.Statement.{statement}
 use Rattle.spline.proofs.spline_piece.Tie as tie
 
-between-requires : tie.Need-between-requires
-between-requires c κs = search needs
-
-abs-requires : tie.Need-abs-requires
-abs-requires c κs = search needs
-
 returns : tie.Need-returns
 unfolding splinePiece
-returns c = simp (← c .before .before .between .ensures, ← c .before .abs .ensures, c .if1 .taken)
+returns c = rw (← c .before .abs .ensures, c .if1 .taken)
 
 returns-2 : tie.Need-returns-2
 unfolding splinePiece
 returns-2 c =
-    let b = c .before .before .before in
-    simp (← b .before .before .between .ensures, ← b .before .abs .ensures, b .if1 .left)
+    let third = c .before in
+    let first = third .before in
+    let test = first .before in
+    rw (← test .before .abs .ensures, test .if1 .left, ← first .first-coefficient .ensures, ← third .third-coefficient .ensures) (c .polynomial-from .ensures)
 
 pub spline-piece-spec : {M : Type 1} → statement M
-spline-piece-spec = tie.close (tie.spec between-requires abs-requires returns returns-2)
+spline-piece-spec = tie.close (tie.spec (λ c κs. search needs) returns (λ c κs. search needs) (λ c κs. search needs) (λ c κs. search needs) returns-2)

@@ -5,15 +5,9 @@ use Rattle.spline.specs.Thomas as T
 use Rattle.spline.proofs.sweep.Statement.{statement}
 use Rattle.spline.proofs.sweep.Tie as tie
 
-scaled-requires : tie.Need-scaled-requires
-scaled-requires c κs = search needs
-
 returns : tie.Need-returns
 unfolding T.sweep
 returns c = rw (eq-eqb _ _ (c .before .if1 .taken)) (c .scaled .ensures)
-
-scaled-requires-2 : tie.Need-scaled-requires-2
-scaled-requires-2 c κs = search needs
 
 returns-2 : tie.Need-returns-2
 unfolding T.sweep
@@ -22,4 +16,4 @@ returns-2 c =
     rw (ne-eqb _ _ (b .if1 .left)) (c .scaled2 .ensures)
 
 pub sweep-spec : {M : Type 1} → statement M
-sweep-spec = tie.close (tie.spec scaled-requires returns scaled-requires-2 returns-2)
+sweep-spec = tie.close (tie.spec (λ c κs. search needs) returns (λ c κs. search needs) returns-2)

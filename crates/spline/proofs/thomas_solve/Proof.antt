@@ -24,30 +24,9 @@ abbrev μ-loop : tie.MeasureT-loop
 loop-holds : tie.Need-loop-holds Inv-loop μ-loop
 loop-holds c = (omega arith, sweeping-none)
 
-row-of-requires : tie.Need-row-of-requires Inv-loop μ-loop
-row-of-requires c κs = search needs
-
-sweep-requires : tie.Need-sweep-requires Inv-loop μ-loop
-sweep-requires c κs = search needs
-
-mul-rows : tie.Need-mul-rows Inv-loop μ-loop
-mul-rows c = search needs
-
-array-set-from-rows : tie.Need-array-set-from-rows Inv-loop μ-loop
-array-set-from-rows c = search needs
-
-add-k : tie.Need-add-k Inv-loop μ-loop
-add-k c = search needs
-
-loop-less : tie.Need-loop-less Inv-loop μ-loop
-loop-less c = search needs
-
 loop-again : tie.Need-loop-again Inv-loop μ-loop
 loop-again c =
     (omega arith, sweeping-next (c .before .before .before .loop .inv .1) (held (c .before .row-of .ensures)) (c .sweep .ensures))
-
-substitute-requires : tie.Need-substitute-requires Inv-loop μ-loop
-substitute-requires c κs = search needs
 
 returns : tie.Need-returns Inv-loop μ-loop
 returns c = c .substitute .ensures ∙ sweeping-end (c .before .before .loop .inv .1) (omega arith) (omega arith)
@@ -59,12 +38,7 @@ thomas-solve-spec =
     Inv-loop
     μ-loop
     loop-holds
-    row-of-requires
-    sweep-requires
-    mul-rows
-    array-set-from-rows
-    add-k
-    loop-less
+    (λ c κs. search needs) (λ c κs. search needs) (λ c. search needs) (λ c. search needs) (λ c. search needs) (λ c. search needs)
     loop-again
-    substitute-requires
+    (λ c κs. search needs)
     returns)

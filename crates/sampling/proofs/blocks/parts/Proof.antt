@@ -1,5 +1,6 @@
 -- `blocks::parts`: the four parts of the definition.
 use mathlib.Core.Path.{_≡_, ap, _∙_}
+use mathlib.Core.Bool.{false}
 use mathlib.Core.List.{List, [], _∷_}
 use Prim.Native.Nat.{ℕ, _+_}
 use native.Mathlib.Nat.{add-zero}
@@ -9,7 +10,7 @@ use Rattle.lists.specs.Tabulate.{tabulate}
 use Rattle.hermite.specs.Segments.{sampleAt}
 use Rattle.hermite.specs.Pieces.{part}
 use Rattle.sampling.specs.declared.Piece.{Piece}
-use Rattle.sampling.specs.Walk.{partFrom, partsOf}
+use Rattle.sampling.specs.Walk.{narrow, partFrom, partsOf}
 use Rattle.sampling.proofs.blocks.parts.Statement.{statement}
 use Rattle.sampling.proofs.blocks.parts.Tie as tie
 
@@ -26,20 +27,25 @@ module _ (piece : Piece) (s : Float) (v : ℕ) where
   unfolding partsOf tabulate
   all e f g h = λ i. e i ∷ f i ∷ g i ∷ h i ∷ []
 
+wide : (c : tie.After-piece-at) → let piece = c .piece-at .result in narrow (piece .a .x) (piece .b .x) ≡ false
+wide c = rw (c .piece-at .ensures) (c .before .pre .0)
+
 returns : tie.Need-returns
 returns c =
     let d = c .before .before in
     let e = d .before .before in
     let f = e .before .before in
-    all _ _ _ (first _ _ _ (f .before .position .ensures) (f .part .ensures)) (one _ _ _ 1 (e .before .position2 .ensures) (e .part2 .ensures))
-    (one _ _ _ 2 (d .before .position3 .ensures) (d .part3 .ensures)) (one _ _ _ 3 (c .before .position4 .ensures) (c .part4 .ensures))
+    rw (← f .before .before .piece-at .ensures)
+    (all _ _ _ (first _ _ _ (f .before .position .ensures) (f .part .ensures)) (one _ _ _ 1 (e .before .position2 .ensures) (e .part2 .ensures))
+    (one _ _ _ 2 (d .before .position3 .ensures) (d .part3 .ensures)) (one _ _ _ 3 (c .before .position4 .ensures) (c .part4 .ensures)))
 
 pub parts-spec : {M : Type 1} → statement M
 parts-spec =
     tie.close
     (tie.spec
-    (λ c κs. search needs) (λ c κs. search needs)
-    (λ c. search needs) (λ c κs. search needs) (λ c κs. search needs)
-    (λ c. search needs) (λ c κs. search needs) (λ c κs. search needs)
-    (λ c. search needs) (λ c κs. search needs) (λ c κs. search needs)
+    (λ c κs. search needs)
+    (λ c κs. search needs) (λ c κs. wide (c .before))
+    (λ c. search needs) (λ c κs. search needs) (λ c κs. wide (c .before .before .before))
+    (λ c. search needs) (λ c κs. search needs) (λ c κs. wide (c .before .before .before .before .before))
+    (λ c. search needs) (λ c κs. search needs) (λ c κs. wide (c .before .before .before .before .before .before .before))
     returns)

@@ -98,7 +98,6 @@ guess-spec =
     (λ c. omega (arith, index-most _ (c .index .ensures)))
     (λ c. search needs) (λ c. search needs)
     (λ c κs. omega (arith, index-most _ (c .index .ensures)))
-    (λ c. search needs) (λ c. search needs) (λ c. search needs)
-    (λ c κs. search needs) (λ c. search needs) (λ c. search needs)
+    (λ c. search needs) (λ c. search needs) (λ c. search needs) (λ c κs. search needs) (λ c. search needs) (λ c. search needs)
     loop-again
     returns)

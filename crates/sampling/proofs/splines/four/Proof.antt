@@ -2,8 +2,9 @@
 use Prim.Native.Nat.{_+_, _-_, _≤_}
 use native.Mathlib.Omega.{arith}
 use borrow.Author.Needs.{needs}
-use Rattle.lists.specs.Stored.{Stored, stored-none, stored-next, stored-end}
+use Rattle.lists.specs.Stored.{Stored, stored-none, stored-end}
 use Rattle.sampling.specs.Walk.{splineSample}
+use Rattle.sampling.proofs.Drawing.{block-next}
 use Rattle.sampling.proofs.splines.four.Statement.{statement}
 use Rattle.sampling.proofs.splines.four.Tie as tie
 
@@ -13,15 +14,12 @@ Inv-loop a c1 c2 c3 step v samples₀ j₀ samples j = (j ≤ 4) × Stored (spli
 abbrev μ-loop : tie.MeasureT-loop
 μ-loop a c1 c2 c3 step v samples₀ j₀ samples j = 4 - j
 
-loop-again : tie.Need-loop-again Inv-loop μ-loop
-loop-again c = (search needs, stored-end (stored-next (c .before .before .loop .inv .1) (c .sample .ensures)) (omega arith))
-
 pub four-spec : {M : Type 1} → statement M
 four-spec =
     tie.close
     (tie.spec Inv-loop μ-loop
     (λ c. (search needs, stored-end stored-none (omega arith)))
     (λ c. search needs) (λ c κs. search needs) (λ c. search needs) (λ c. search needs) (λ c. search needs) (λ c. search needs) (λ c. search needs)
-    loop-again
+    (λ c. (search needs, block-next _ _ _ (c .before .before .loop .inv .1) (c .sample .ensures)))
     (λ c. search needs)
     (λ c. stored-end (c .before .loop .inv .1) (omega arith)))

@@ -1,12 +1,14 @@
--- `splines::sample`: the code is the formula.
+-- `splines::sample`: the polynomial at the sample's x, clamped.
+use mathlib.Core.Path.{ap, _∙_}
 use borrow.Author.Needs.{needs}
+use Rattle.single.specs.Rules.{clamped}
 use Rattle.sampling.specs.Walk.{splineSample}
 use Rattle.sampling.proofs.splines.sample.Statement.{statement}
 use Rattle.sampling.proofs.splines.sample.Tie as tie
 
 returns : tie.Need-returns
 unfolding splineSample
-returns c = rw (← c .before .before .before .position .ensures) (c .clamp .ensures)
+returns c = rw (← c .before .before .position .ensures) (c .clamp .ensures ∙ ap clamped (c .before .polynomial-from .ensures))
 
 pub sample-spec : {M : Type 1} → statement M
-sample-spec = tie.close (tie.spec (λ c κs. search needs) (λ c κs. search needs) returns)
+sample-spec = tie.close (tie.spec (λ c κs. search needs) (λ c κs. search needs) (λ c κs. search needs) returns)
