@@ -4,15 +4,6 @@ use Rattle.chords.specs.Alpha.{threeTerms}
 use Rattle.chords.proofs.three_terms.Statement.{statement}
 use Rattle.chords.proofs.three_terms.Tie as tie
 
-tiny-requires : tie.Need-tiny-requires
-tiny-requires c κs = search needs
-
-tiny-requires-2 : tie.Need-tiny-requires-2
-tiny-requires-2 c κs = search needs
-
-tiny-requires-3 : tie.Need-tiny-requires-3
-tiny-requires-3 c κs = search needs
-
 returns : tie.Need-returns
 unfolding threeTerms
 returns c =
@@ -25,4 +16,4 @@ returns-2 c =
 
 pub three-terms-spec : {M : Type 1} → statement M
 three-terms-spec =
-    tie.close (tie.spec tiny-requires tiny-requires-2 tiny-requires-3 returns returns-2)
+    tie.close (tie.spec (λ c κs. search needs) (λ c κs. search needs) (λ c κs. search needs) returns returns-2)

@@ -4,12 +4,9 @@ use Rattle.hermite.specs.Pieces as P
 use Rattle.hermite.proofs.part.Statement.{statement}
 use Rattle.hermite.proofs.part.Tie as tie
 
-guarded-quotient-requires : tie.Need-guarded-quotient-requires
-guarded-quotient-requires c κs = search needs
-
 returns : tie.Need-returns
 unfolding P.part
 returns c = c .guarded-quotient .ensures
 
 pub part-spec : {M : Type 1} → statement M
-part-spec = tie.close (tie.spec guarded-quotient-requires returns)
+part-spec = tie.close (tie.spec (λ c κs. search needs) returns)

@@ -6,23 +6,8 @@ use Rattle.lookup.specs.Laws.{entry-inside}
 use Rattle.lookup.proofs.blend.Statement.{statement}
 use Rattle.lookup.proofs.blend.Tie as tie
 
-add-next : tie.Need-add-next
-add-next c = search needs
-
-position-requires : tie.Need-position-requires
-position-requires c κs = search needs
-
-count-to-float-requires : tie.Need-count-to-float-requires
-count-to-float-requires c κs = search needs
-
-mul-result : tie.Need-mul-result
-mul-result c = search needs
-
 shared-slice-read-result : tie.Need-shared-slice-read-result
 shared-slice-read-result c = omega (arith, entry-inside (c .before .before .before .before .args .v))
-
-mul-result-2 : tie.Need-mul-result-2
-mul-result-2 c = search needs
 
 shared-slice-read-result-2 : tie.Need-shared-slice-read-result-2
 shared-slice-read-result-2 c = omega (arith, entry-inside (c .before .before .before .before .before .args .v))
@@ -37,11 +22,8 @@ pub blend-spec : {M : Type 1} → statement M
 blend-spec =
     tie.close
     (tie.spec
-    add-next
-    position-requires
-    count-to-float-requires
-    mul-result
+    (λ c. search needs) (λ c κs. search needs) (λ c κs. search needs) (λ c. search needs)
     shared-slice-read-result
-    mul-result-2
+    (λ c. search needs)
     shared-slice-read-result-2
     returns)

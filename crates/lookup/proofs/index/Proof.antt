@@ -7,12 +7,6 @@ use Rattle.single.specs.ByteLaws.{floor-small}
 use Rattle.lookup.proofs.index.Statement.{statement}
 use Rattle.lookup.proofs.index.Tie as tie
 
-position-requires : tie.Need-position-requires
-position-requires c κs = search needs
-
-index-requires : tie.Need-index-requires
-index-requires c κs = search needs
-
 cast-result : tie.Need-cast-result
 cast-result c = omega (arith, floor-small (c .before .position .result))
 
@@ -20,4 +14,4 @@ returns : tie.Need-returns
 returns c = c .index .ensures ∙ ap floorOf (c .before .position .ensures)
 
 pub index-spec : {M : Type 1} → statement M
-index-spec = tie.close (tie.spec position-requires index-requires cast-result returns)
+index-spec = tie.close (tie.spec (λ c κs. search needs) (λ c κs. search needs) cast-result returns)

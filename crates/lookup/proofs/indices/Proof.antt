@@ -16,30 +16,6 @@ abbrev μ-loop : tie.MeasureT-loop
 loop-holds : tie.Need-loop-holds Inv-loop μ-loop
 loop-holds c = (search needs, stored-none)
 
-add-index : tie.Need-add-index Inv-loop μ-loop
-add-index c = search needs
-
-mul-index : tie.Need-mul-index Inv-loop μ-loop
-mul-index c = search needs
-
-shared-slice-read-index : tie.Need-shared-slice-read-index Inv-loop μ-loop
-shared-slice-read-index c = search needs
-
-index-requires : tie.Need-index-requires Inv-loop μ-loop
-index-requires c κs = search needs
-
-mul-indices : tie.Need-mul-indices Inv-loop μ-loop
-mul-indices c = search needs
-
-array-write-indices : tie.Need-array-write-indices Inv-loop μ-loop
-array-write-indices c = search needs
-
-add-j : tie.Need-add-j Inv-loop μ-loop
-add-j c = search needs
-
-loop-less : tie.Need-loop-less Inv-loop μ-loop
-loop-less c = search needs
-
 loop-again : tie.Need-loop-again Inv-loop μ-loop
 unfolding indexFrom
 loop-again c = (search needs, stored-next (c .before .before .before .loop .inv .1) (c .index .ensures))
@@ -54,13 +30,7 @@ indices-spec =
     Inv-loop
     μ-loop
     loop-holds
-    add-index
-    mul-index
-    shared-slice-read-index
-    index-requires
-    mul-indices
-    array-write-indices
-    add-j
-    loop-less
+    (λ c. search needs) (λ c. search needs) (λ c. search needs) (λ c κs. search needs) (λ c. search needs) (λ c. search needs) (λ c. search needs)
+    (λ c. search needs)
     loop-again
     returns)

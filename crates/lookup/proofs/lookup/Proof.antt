@@ -27,32 +27,11 @@ returns c =
 loop-holds : tie.Need-loop-holds Inv-loop μ-loop
 loop-holds c = (search needs, stored-none)
 
-sub-block-size : tie.Need-sub-block-size Inv-loop μ-loop
-sub-block-size c = search needs
-
-block-size-requires : tie.Need-block-size-requires Inv-loop μ-loop
-block-size-requires c κs = search needs
-
-indices-requires : tie.Need-indices-requires Inv-loop μ-loop
-indices-requires c κs = search needs
-
-replace-requires : tie.Need-replace-requires Inv-loop μ-loop
-replace-requires c κs = search needs
-
-add-at : tie.Need-add-at Inv-loop μ-loop
-add-at c = search needs
-
-loop-less : tie.Need-loop-less Inv-loop μ-loop
-loop-less c = search needs
-
 loop-again : tie.Need-loop-again Inv-loop μ-loop
 unfolding looked
 loop-again c =
     let r = c .before .before .before .before .before .before .before .before .before .loop .inv .1 in
     (search needs, stored-then r (stored-as (c .before .before .replace .ensures) (λ w low high. rw (stored-above r w nan low))))
-
-same-length : tie.Need-same-length Inv-loop μ-loop
-same-length c = search needs
 
 -- all blocks are replaced
 returns-2 : tie.Need-returns-2 Inv-loop μ-loop
@@ -69,12 +48,7 @@ lookup-spec =
     μ-loop
     returns
     loop-holds
-    sub-block-size
-    block-size-requires
-    indices-requires
-    replace-requires
-    add-at
-    loop-less
+    (λ c. search needs) (λ c κs. search needs) (λ c κs. search needs) (λ c κs. search needs) (λ c. search needs) (λ c. search needs)
     loop-again
-    same-length
+    (λ c. search needs)
     returns-2)

@@ -17,21 +17,6 @@ abbrev μ-loop : tie.MeasureT-loop
 loop-holds : tie.Need-loop-holds Inv-loop μ-loop
 loop-holds c = (search needs, stored-end stored-none (omega arith))
 
-add-v : tie.Need-add-v Inv-loop μ-loop
-add-v c = search needs
-
-mul-v : tie.Need-mul-v Inv-loop μ-loop
-mul-v c = search needs
-
-slice-read-v : tie.Need-slice-read-v Inv-loop μ-loop
-slice-read-v c = search needs
-
-mul-blend : tie.Need-mul-blend Inv-loop μ-loop
-mul-blend c = search needs
-
-element-copy-out-blend : tie.Need-element-copy-out-blend Inv-loop μ-loop
-element-copy-out-blend c = search needs
-
 blend-requires : tie.Need-blend-requires Inv-loop μ-loop
 unfolding indexFrom
 blend-requires c κs =
@@ -39,29 +24,11 @@ blend-requires c κs =
     let found = k .before .before .before .pre .1 in
     (search needs, rw (stored-here (k .loop .inv .1) nan) (stored-inside found (k .loop .j) 0 (omega arith) (omega arith) (omega arith)))
 
-add-values : tie.Need-add-values Inv-loop μ-loop
-add-values c = search needs
-
-mul-values : tie.Need-mul-values Inv-loop μ-loop
-mul-values c = search needs
-
-slice-write-values : tie.Need-slice-write-values Inv-loop μ-loop
-slice-write-values c = search needs
-
-add-j : tie.Need-add-j Inv-loop μ-loop
-add-j c = search needs
-
-loop-less : tie.Need-loop-less Inv-loop μ-loop
-loop-less c = search needs
-
 loop-again : tie.Need-loop-again Inv-loop μ-loop
 unfolding looked
 loop-again c =
     let r = c .before .before .before .before .loop .inv .1 in
     (search needs, stored-end (stored-next r (rw (← stored-here r nan) (c .blend .ensures))) (omega arith))
-
-same-length : tie.Need-same-length Inv-loop μ-loop
-same-length c = search needs
 
 returns : tie.Need-returns Inv-loop μ-loop
 returns c = stored-end (c .before .loop .inv .1) (omega arith)
@@ -73,17 +40,9 @@ replace-spec =
     Inv-loop
     μ-loop
     loop-holds
-    add-v
-    mul-v
-    slice-read-v
-    mul-blend
-    element-copy-out-blend
+    (λ c. search needs) (λ c. search needs) (λ c. search needs) (λ c. search needs) (λ c. search needs)
     blend-requires
-    add-values
-    mul-values
-    slice-write-values
-    add-j
-    loop-less
+    (λ c. search needs) (λ c. search needs) (λ c. search needs) (λ c. search needs) (λ c. search needs)
     loop-again
-    same-length
+    (λ c. search needs)
     returns)

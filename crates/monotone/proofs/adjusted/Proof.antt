@@ -4,18 +4,9 @@ use Rattle.monotone.specs.Monotone.{adjusted}
 use Rattle.monotone.proofs.adjusted.Statement.{statement}
 use Rattle.monotone.proofs.adjusted.Tie as tie
 
-tiny-requires : tie.Need-tiny-requires
-tiny-requires c κs = search needs
-
 returns : tie.Need-returns
 unfolding adjusted
 returns c = rw (← c .before .tiny .ensures, c .if1 .taken)
-
-by-box-requires : tie.Need-by-box-requires
-by-box-requires c κs = search needs
-
-by-circle-requires : tie.Need-by-circle-requires
-by-circle-requires c κs = search needs
 
 returns-2 : tie.Need-returns-2
 unfolding adjusted
@@ -32,4 +23,4 @@ returns-3 c =
 pub adjusted-spec : {M : Type 1} → statement M
 adjusted-spec =
     tie.close
-    (tie.spec tiny-requires returns by-box-requires by-circle-requires returns-2 returns-3)
+    (tie.spec (λ c κs. search needs) returns (λ c κs. search needs) (λ c κs. search needs) returns-2 returns-3)

@@ -4,15 +4,6 @@ use Rattle.monotone.specs.Monotone.{circled}
 use Rattle.monotone.proofs.by_circle.Statement.{statement}
 use Rattle.monotone.proofs.by_circle.Tie as tie
 
-nonnegative-requires : tie.Need-nonnegative-requires
-nonnegative-requires c κs = search needs
-
-nonnegative-requires-2 : tie.Need-nonnegative-requires-2
-nonnegative-requires-2 c κs = search needs
-
-sqrt-requires : tie.Need-sqrt-requires
-sqrt-requires c κs = search needs
-
 returns : tie.Need-returns
 unfolding circled
 returns c = rw (← c .before .before .before .before .pre, c .before .if1 .taken, c .sqrt .ensures)
@@ -24,4 +15,4 @@ returns-2 c = rw (← c .before .before .before .pre, c .if1 .left, c .before .b
 pub by-circle-spec : {M : Type 1} → statement M
 by-circle-spec =
     tie.close
-    (tie.spec nonnegative-requires nonnegative-requires-2 sqrt-requires returns returns-2)
+    (tie.spec (λ c κs. search needs) (λ c κs. search needs) (λ c κs. search needs) returns returns-2)

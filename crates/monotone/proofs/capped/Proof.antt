@@ -3,9 +3,6 @@ use borrow.Author.Needs.{needs}
 use Rattle.monotone.proofs.capped.Statement.{statement}
 use Rattle.monotone.proofs.capped.Tie as tie
 
-nonnegative-requires : tie.Need-nonnegative-requires
-nonnegative-requires c κs = search needs
-
 returns : tie.Need-returns
 returns c = rw (c .if1 .taken)
 
@@ -13,4 +10,4 @@ returns-2 : tie.Need-returns-2
 returns-2 c = rw (c .before .if1 .left) (c .nonnegative .ensures)
 
 pub capped-spec : {M : Type 1} → statement M
-capped-spec = tie.close (tie.spec nonnegative-requires returns returns-2)
+capped-spec = tie.close (tie.spec (λ c κs. search needs) returns returns-2)

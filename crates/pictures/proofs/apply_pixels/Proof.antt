@@ -95,11 +95,7 @@ pub apply-pixels-spec : {M : Type 1} → statement M
 apply-pixels-spec =
     tie.close
     (tie.spec
-    (search needs)
-    (search needs)
-    (search needs)
-    (search needs)
-    (search needs)
+    (search needs) (search needs) (search needs) (search needs) (search needs)
     returns
     tone-first-requires
     (search needs)
@@ -107,9 +103,7 @@ apply-pixels-spec =
     (search needs)
     copy-bytes-requires
     copy-bytes-requires-2
-    (search needs)
-    (search needs)
-    (search needs)
+    (search needs) (search needs) (search needs)
     returns-2
     (search needs)
     returns-3)

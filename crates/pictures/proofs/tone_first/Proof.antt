@@ -59,10 +59,7 @@ tone-first-spec =
     own-table-requires
     own-table-requires-2
     own-table-requires-3
-    (search needs)
-    (search needs)
-    (search needs)
-    (search needs)
+    (search needs) (search needs) (search needs) (search needs)
     tone-rows-into-requires
     (search needs)
     returns)

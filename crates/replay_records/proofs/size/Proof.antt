@@ -10,8 +10,6 @@ size-spec =
     (tie.spec
     (λ c. minus-fits (c .before .args .slope) (c .before .fits .slope) (c .if1 .taken))
     (λ c. minus-casts (c .before .args .slope) (c .before .fits .slope) (c .if1 .taken))
-    (λ c κs. search needs)
-    (λ c. search needs)
+    (λ c κs. search needs) (λ c. search needs)
     (λ c. plus-casts (c .before .args .slope) (c .before .fits .slope) (c .if1 .left))
-    (λ c κs. search needs)
-    (λ c. search needs))
+    (λ c κs. search needs) (λ c. search needs))

@@ -55,14 +55,8 @@ same-points-spec =
     (tie.spec
     Inv-loop
     μ-loop
-    (search needs)
-    (search needs)
-    (search needs)
-    (search needs)
-    (search needs)
-    (search needs)
+    (search needs) (search needs) (search needs) (search needs) (search needs) (search needs)
     returns
-    (search needs)
-    (search needs)
+    (search needs) (search needs)
     loop-again
     returns-2)

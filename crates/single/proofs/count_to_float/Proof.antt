@@ -19,9 +19,6 @@ exact : (n : ℕ) → n ≤ 2 ^ 24 → T (inFloat binary32 (toZ w32 n))
 unfolding inFloat
 exact n h = rw (signed n h) (le→leb n (2 ^ 24) h)
 
-cast-result : tie.Need-cast-result
-cast-result c = search needs
-
 int-to-float-result : tie.Need-int-to-float-result
 int-to-float-result c = exact _ (c .before .pre)
 
@@ -29,4 +26,4 @@ returns : tie.Need-returns
 returns c = ap (ofInt binary32) (signed _ (c .before .pre))
 
 pub count-to-float-spec : {M : Type 1} → statement M
-count-to-float-spec = tie.close (tie.spec cast-result int-to-float-result returns)
+count-to-float-spec = tie.close (tie.spec (λ c. search needs) int-to-float-result returns)

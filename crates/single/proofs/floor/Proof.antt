@@ -25,9 +25,6 @@ less-one s k e =
     let z : s .w - 1 ≡ k = omega arith in
     rw (s .whole, 𝟏-float, whole-less (s .w) 1 (omega arith) (lt-of-le-of-lt (s .small) (lit< tt)), z)
 
-hold-requires : tie.Need-hold-requires
-hold-requires c κs = search needs
-
 returns : tie.Need-returns
 returns c =
     let (s, same) = kept _ _ (c .before .hold .ensures) in
@@ -39,4 +36,4 @@ returns-2 c =
     s .whole ∙ ap float (sym (floor-here s (c .if1 .left)) ∙ same)
 
 pub floor-spec : {M : Type 1} → statement M
-floor-spec = tie.close (tie.spec hold-requires returns returns-2)
+floor-spec = tie.close (tie.spec (λ c κs. search needs) returns returns-2)

@@ -4,9 +4,6 @@ use Rattle.single.specs.Rules.{guardedQuotient}
 use Rattle.single.proofs.guarded_quotient.Statement.{statement}
 use Rattle.single.proofs.guarded_quotient.Tie as tie
 
-abs-requires : tie.Need-abs-requires
-abs-requires c κs = search needs
-
 returns : tie.Need-returns
 unfolding guardedQuotient
 returns c = simp (← c .before .abs .ensures, c .if1 .taken)
@@ -16,4 +13,4 @@ unfolding guardedQuotient
 returns-2 c = simp (← c .before .abs .ensures, c .if1 .left)
 
 pub guarded-quotient-spec : {M : Type 1} → statement M
-guarded-quotient-spec = tie.close (tie.spec abs-requires returns returns-2)
+guarded-quotient-spec = tie.close (tie.spec (λ c κs. search needs) returns returns-2)

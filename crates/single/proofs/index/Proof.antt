@@ -14,9 +14,6 @@ use Rattle.single.proofs.index.Tie as tie
 cast : (x w : Float) → w ≡ float (floorOf x) → T (inUnsigned binary32 16 w) × (toUnsigned 16 w ≡ floorOf x)
 cast x w e = cast-back 16 (floorOf x) w (lt-of-le-of-lt (floor-small x) (lit< tt)) (le-trans (floor-small x) (lit≤ tt)) e
 
-floor-requires : tie.Need-floor-requires
-floor-requires c κs = search needs
-
 float-to-int-result : tie.Need-float-to-int-result
 float-to-int-result c = cast _ _ (c .before .floor .ensures) .0
 
@@ -27,4 +24,4 @@ returns : tie.Need-returns
 returns c = cast _ _ (c .before .floor .ensures) .1
 
 pub index-spec : {M : Type 1} → statement M
-index-spec = tie.close (tie.spec floor-requires float-to-int-result cast-result returns)
+index-spec = tie.close (tie.spec (λ c κs. search needs) float-to-int-result cast-result returns)

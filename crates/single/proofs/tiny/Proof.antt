@@ -3,11 +3,8 @@ use borrow.Author.Needs.{needs}
 use Rattle.single.proofs.tiny.Statement.{statement}
 use Rattle.single.proofs.tiny.Tie as tie
 
-abs-requires : tie.Need-abs-requires
-abs-requires c κs = search needs
-
 returns : tie.Need-returns
 returns c = rw (c .abs .ensures)
 
 pub tiny-spec : {M : Type 1} → statement M
-tiny-spec = tie.close (tie.spec abs-requires returns)
+tiny-spec = tie.close (tie.spec (λ c κs. search needs) returns)

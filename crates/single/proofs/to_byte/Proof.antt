@@ -21,9 +21,6 @@ kept x b e = rw (e, 𝟐𝟓𝟓-float) (held-split 255 (lit≤ tt) x, whole-hel
 cast : {b : Float} (s : Split 255 b) → T (inUnsigned binary32 8 (near b)) × (toUnsigned 8 (near b) ≡ s .w)
 cast s = cast-back 8 (s .w) _ (lt-of-le-of-lt (s .small) (lit< tt)) (le-trans (s .small) (lit≤ tt)) (s .whole)
 
-hold-requires : tie.Need-hold-requires
-hold-requires c κs = search needs
-
 float-to-int-k : tie.Need-float-to-int-k
 float-to-int-k c = cast (kept _ _ (c .before .hold .ensures) .0) .0
 
@@ -43,4 +40,4 @@ returns-2 c =
     ap (_+ 1) (cast s .1) ∙ sym (byte-above s (c .if1 .left)) ∙ same
 
 pub to-byte-spec : {M : Type 1} → statement M
-to-byte-spec = tie.close (tie.spec hold-requires float-to-int-k returns add-result returns-2)
+to-byte-spec = tie.close (tie.spec (λ c κs. search needs) float-to-int-k returns add-result returns-2)

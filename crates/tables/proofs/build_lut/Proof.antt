@@ -7,13 +7,10 @@ use Rattle.tables.proofs.build_lut.Tie as tie
 returns : tie.Need-returns
 returns c = let many = lt-ltb 64 (c .before .args .curve .count) (c .if1 .taken) in record { answer = rw many; table = rw many }
 
-byte-table-requires : tie.Need-byte-table-requires
-byte-table-requires c κs = search needs
-
 returns-2 : tie.Need-returns-2
 returns-2 c =
     let few = le-ltb 64 (c .before .before .args .curve .count) (c .before .if1 .left) in
     record { answer = rw few; table = rw few (c .byte-table .ensures) }
 
 pub build-lut-spec : {M : Type 1} → statement M
-build-lut-spec = tie.close (tie.spec returns byte-table-requires returns-2)
+build-lut-spec = tie.close (tie.spec returns (λ c κs. search needs) returns-2)

@@ -16,9 +16,6 @@ two-to-4096 S e = elim (ℕ-discrete S 256) [
   | no other ↦ let is : S ≡ 4096 = eqb-true S 4096 (rw (ne-eqb S 256 other) at e) in (omega arith, omega arith)
 ]
 
-is-table-length-requires : tie.Need-is-table-length-requires
-is-table-length-requires c κs = search needs
-
 returns : tie.Need-returns
 returns c = record { answer = rw (lt-ltb _ _ (c .if1 .taken)); table = refl }
 
@@ -33,9 +30,6 @@ sample-curve-requires c κs =
     let k = c .before in
     (search needs, two-to-4096 _ (sym (k .before .before .is-table-length .ensures) ∙ not-false _ (k .if2 .left)))
 
-same-length : tie.Need-same-length
-same-length c = search needs
-
 returns-3 : tie.Need-returns-3
 returns-3 c =
     let k = c .before .before .before .before in
@@ -46,9 +40,9 @@ pub build-table-spec : {M : Type 1} → statement M
 build-table-spec =
     tie.close
     (tie.spec
-    is-table-length-requires
+    (λ c κs. search needs)
     returns
     returns-2
     sample-curve-requires
-    same-length
+    (λ c. search needs)
     returns-3)

@@ -8,15 +8,6 @@ use Rattle.tables.specs.Tables.{byteAt, entryOf}
 use Rattle.tables.proofs.byte_table.Statement.{statement}
 use Rattle.tables.proofs.byte_table.Tie as tie
 
-slice-aggregate-sample-curve : tie.Need-slice-aggregate-sample-curve
-slice-aggregate-sample-curve c = search needs
-
-sample-curve-requires : tie.Need-sample-curve-requires
-sample-curve-requires c κs = search needs
-
-to-bytes-requires : tie.Need-to-bytes-requires
-to-bytes-requires c κs = search needs
-
 returns : tie.Need-returns
 unfolding byteAt entryOf
 returns c =
@@ -26,4 +17,4 @@ returns c =
 pub byte-table-spec : {M : Type 1} → statement M
 byte-table-spec =
     tie.close
-    (tie.spec slice-aggregate-sample-curve sample-curve-requires to-bytes-requires returns)
+    (tie.spec (λ c. search needs) (λ c κs. search needs) (λ c κs. search needs) returns)

@@ -15,69 +15,6 @@ use Rattle.tables.proofs.numbers.Tie as tie
 none : (n : ℕ) → n ≤ 66 → replicate 66 𝟎 ≡ filled n (λ i. 𝟎) (replicate 66 𝟎)
 none n h = stored-front (stored-kept stored-none 𝟎 (omega arith) (λ w low high. sym (getD-replicate 66 w 𝟎 𝟎 (omega arith)))) refl (omega arith)
 
-enum-told : tie.Need-enum-told
-enum-told c = search needs
-
-enum-told-2 : tie.Need-enum-told-2
-enum-told-2 c = search needs
-
-catmull-rom-requires : tie.Need-catmull-rom-requires
-catmull-rom-requires c κs = search needs
-
-enum-told-3 : tie.Need-enum-told-3
-enum-told-3 c = search needs
-
-monotone-requires : tie.Need-monotone-requires
-monotone-requires c κs = search needs
-
-enum-told-4 : tie.Need-enum-told-4
-enum-told-4 c = search needs
-
-monotone-requires-2 : tie.Need-monotone-requires-2
-monotone-requires-2 c κs = search needs
-
-enum-told-5 : tie.Need-enum-told-5
-enum-told-5 c = search needs
-
-second-derivatives-requires : tie.Need-second-derivatives-requires
-second-derivatives-requires c κs = search needs
-
-enum-told-6 : tie.Need-enum-told-6
-enum-told-6 c = search needs
-
-alpha-requires : tie.Need-alpha-requires
-alpha-requires c κs = search needs
-
-enum-told-7 : tie.Need-enum-told-7
-enum-told-7 c = search needs
-
-alpha-requires-2 : tie.Need-alpha-requires-2
-alpha-requires-2 c κs = search needs
-
-enum-known-kind : tie.Need-enum-known-kind
-enum-known-kind c = search needs
-
-cardinal-requires : tie.Need-cardinal-requires
-cardinal-requires c κs = search needs
-
-enum-known-kind-2 : tie.Need-enum-known-kind-2
-enum-known-kind-2 c = search needs
-
-slope-requires : tie.Need-slope-requires
-slope-requires c κs = search needs
-
-slope-requires-2 : tie.Need-slope-requires-2
-slope-requires-2 c κs = search needs
-
-second-derivatives-requires-2 : tie.Need-second-derivatives-requires-2
-second-derivatives-requires-2 c κs = search needs
-
-enum-told-8 : tie.Need-enum-told-8
-enum-told-8 c = search needs
-
-second-derivatives-requires-3 : tie.Need-second-derivatives-requires-3
-second-derivatives-requires-3 c κs = search needs
-
 returns : tie.Need-returns
 returns c = rw (c .enum-told .given .1) (none _ (search needs))
 
@@ -117,27 +54,10 @@ pub numbers-spec : {M : Type 1} → statement M
 numbers-spec =
     tie.close
     (tie.spec
-    enum-told
-    enum-told-2
-    catmull-rom-requires
-    enum-told-3
-    monotone-requires
-    enum-told-4
-    monotone-requires-2
-    enum-told-5
-    second-derivatives-requires
-    enum-told-6
-    alpha-requires
-    enum-told-7
-    alpha-requires-2
-    enum-known-kind
-    cardinal-requires
-    enum-known-kind-2
-    slope-requires
-    slope-requires-2
-    second-derivatives-requires-2
-    enum-told-8
-    second-derivatives-requires-3
+    (λ c. search needs) (λ c. search needs) (λ c κs. search needs) (λ c. search needs) (λ c κs. search needs) (λ c. search needs)
+    (λ c κs. search needs) (λ c. search needs) (λ c κs. search needs) (λ c. search needs) (λ c κs. search needs) (λ c. search needs)
+    (λ c κs. search needs) (λ c. search needs) (λ c κs. search needs) (λ c. search needs) (λ c κs. search needs) (λ c κs. search needs)
+    (λ c κs. search needs) (λ c. search needs) (λ c κs. search needs)
     returns
     returns-2
     returns-3

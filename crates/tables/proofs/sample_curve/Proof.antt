@@ -43,12 +43,6 @@ module _ {given : Curve} {sorted : Sorted} {k : Knots} (few : given .count ≤ 6
   unfolding sampleOf unclampedAt
   table kind S f m e = rw (f, m, rows .xs, rows .ys, rows .count) at e
 
-new-requires : tie.Need-new-requires
-new-requires c κs = search needs
-
-knots-requires : tie.Need-knots-requires
-knots-requires c κs = search needs
-
 numbers-requires : tie.Need-numbers-requires
 numbers-requires c κs =
     let k = c .before .before .before .before in
@@ -56,18 +50,12 @@ numbers-requires c κs =
     let given = n .before .before in
     count (given .pre .0) (n .new .ensures) (k .knots .ensures) (search (needs, all-take, bytes-told))
 
-form-of-requires : tie.Need-form-of-requires
-form-of-requires c κs = search needs
-
 fill-requires : tie.Need-fill-requires
 fill-requires c κs =
     let k = c .before .before .before .before .before .before .before .before .before .before in
     let n = k .before .before in
     let given = n .before .before in
     (count (given .pre .0) (n .new .ensures) (k .knots .ensures) (search (needs, all-take, bytes-told)), given .pre .1)
-
-same-length : tie.Need-same-length
-same-length c = search needs
 
 returns : tie.Need-returns
 returns c =
@@ -81,10 +69,9 @@ pub sample-curve-spec : {M : Type 1} → statement M
 sample-curve-spec =
     tie.close
     (tie.spec
-    new-requires
-    knots-requires
+    (λ c κs. search needs) (λ c κs. search needs)
     numbers-requires
-    form-of-requires
+    (λ c κs. search needs)
     fill-requires
-    same-length
+    (λ c. search needs)
     returns)

@@ -16,24 +16,6 @@ abbrev μ-loop : tie.MeasureT-loop
 loop-holds : tie.Need-loop-holds Inv-loop μ-loop
 loop-holds c = (search needs, stored-none)
 
-mul-to-byte : tie.Need-mul-to-byte Inv-loop μ-loop
-mul-to-byte c = search needs
-
-element-copy-out-to-byte : tie.Need-element-copy-out-to-byte Inv-loop μ-loop
-element-copy-out-to-byte c = search needs
-
-to-byte-requires : tie.Need-to-byte-requires Inv-loop μ-loop
-to-byte-requires c κs = search needs
-
-array-write-bytes : tie.Need-array-write-bytes Inv-loop μ-loop
-array-write-bytes c = search needs
-
-add-v : tie.Need-add-v Inv-loop μ-loop
-add-v c = search needs
-
-loop-less : tie.Need-loop-less Inv-loop μ-loop
-loop-less c = search needs
-
 loop-again : tie.Need-loop-again Inv-loop μ-loop
 unfolding byteAt
 loop-again c = (search needs, stored-next (c .before .before .before .loop .inv .1) (c .to-byte .ensures))
@@ -48,11 +30,6 @@ to-bytes-spec =
     Inv-loop
     μ-loop
     loop-holds
-    mul-to-byte
-    element-copy-out-to-byte
-    to-byte-requires
-    array-write-bytes
-    add-v
-    loop-less
+    (λ c. search needs) (λ c. search needs) (λ c κs. search needs) (λ c. search needs) (λ c. search needs) (λ c. search needs)
     loop-again
     returns)

@@ -43,13 +43,8 @@ pub tone-fine-table-spec : {M : Type 1} → statement M
 tone-fine-table-spec =
     tie.close
     (tie.spec
-    (λ c κs. search needs)
-    (λ c κs. search needs)
-    (λ c κs. search needs)
+    (λ c κs. search needs) (λ c κs. search needs) (λ c κs. search needs)
     returns
     curve-of-requires
-    (λ c κs. search needs)
-    (λ c κs. search needs)
-    (λ c κs. search needs)
-    (search needs)
+    (λ c κs. search needs) (λ c κs. search needs) (λ c κs. search needs) (search needs)
     returns-2)

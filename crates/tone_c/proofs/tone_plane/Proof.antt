@@ -31,12 +31,7 @@ pub tone-plane-spec : {M : Type 1} → statement M
 tone-plane-spec =
     tie.close
     (tie.spec
-    (λ c κs. search needs)
-    (λ c κs. search needs)
-    (λ c κs. search needs)
+    (λ c κs. search needs) (λ c κs. search needs) (λ c κs. search needs)
     returns
-    (λ c κs. search needs)
-    (λ c κs. search needs)
-    (λ c κs. search needs)
-    (search needs)
+    (λ c κs. search needs) (λ c κs. search needs) (λ c κs. search needs) (search needs)
     returns-2)

@@ -84,15 +84,9 @@ pub tone-record-copy-spec : {M : Type 1} → statement M
 tone-record-copy-spec =
     tie.close
     (tie.spec
-    (λ c κs. search needs)
-    (λ c κs. search needs)
-    (λ c κs. search needs)
+    (λ c κs. search needs) (λ c κs. search needs) (λ c κs. search needs)
     returns
-    (λ c κs. search needs)
-    (λ c κs. search needs)
-    (λ c κs. search needs)
-    (search needs)
+    (λ c κs. search needs) (λ c κs. search needs) (λ c κs. search needs) (search needs)
     returns-2
-    (λ c κs. search needs)
-    (search needs)
+    (λ c κs. search needs) (search needs)
     returns-3)

@@ -61,15 +61,10 @@ pub tone-record-table-spec : {M : Type 1} → statement M
 tone-record-table-spec =
     tie.close
     (tie.spec
-    (λ c κs. search needs)
-    (λ c κs. search needs)
-    (λ c κs. search needs)
-    (λ c κs. search needs)
-    (λ c κs. search needs)
+    (λ c κs. search needs) (λ c κs. search needs) (λ c κs. search needs) (λ c κs. search needs) (λ c κs. search needs)
     returns
     byte-table-requires
     (search needs)
     copy-bytes-requires
-    (λ c κs. search needs)
-    (search needs)
+    (λ c κs. search needs) (search needs)
     returns-2)

@@ -61,17 +61,10 @@ pub tone-table-spec : {M : Type 1} → statement M
 tone-table-spec =
     tie.close
     (tie.spec
-    (λ c κs. search needs)
-    (λ c κs. search needs)
-    (λ c κs. search needs)
-    (λ c κs. search needs)
-    (λ c κs. search needs)
+    (λ c κs. search needs) (λ c κs. search needs) (λ c κs. search needs) (λ c κs. search needs) (λ c κs. search needs)
     returns
     curve-of-requires
-    (λ c κs. search needs)
-    (λ c κs. search needs)
-    (search needs)
+    (λ c κs. search needs) (λ c κs. search needs) (search needs)
     copy-bytes-requires
-    (λ c κs. search needs)
-    (search needs)
+    (λ c κs. search needs) (search needs)
     returns-2)

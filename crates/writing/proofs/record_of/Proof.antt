@@ -83,9 +83,7 @@ record-of-spec =
     tie.close
     (tie.spec
     (λ c κs. passed-set (c .args .set) (c .pre) .master)
-    (λ c κs. search needs)
-    (λ c κs. search needs)
-    (λ c κs. search needs)
+    (λ c κs. search needs) (λ c κs. search needs) (λ c κs. search needs)
     field-requires
     field-requires-2
     field-requires-3

@@ -87,6 +87,5 @@ picture-answer-spec =
     mul-row
     plane-answer-requires
     mul-output-answer
-    (search needs)
-    (search needs)
+    (search needs) (search needs)
     returns-4)

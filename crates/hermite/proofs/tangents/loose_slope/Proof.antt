@@ -4,12 +4,9 @@ use Rattle.hermite.specs.CatmullRom.{looseSlope}
 use Rattle.hermite.proofs.tangents.loose_slope.Statement.{statement}
 use Rattle.hermite.proofs.tangents.loose_slope.Tie as tie
 
-guarded-quotient-requires : tie.Need-guarded-quotient-requires
-guarded-quotient-requires c κs = search needs
-
 returns : tie.Need-returns
 unfolding looseSlope
 returns c = c .guarded-quotient .ensures
 
 pub loose-slope-spec : {M : Type 1} → statement M
-loose-slope-spec = tie.close (tie.spec guarded-quotient-requires returns)
+loose-slope-spec = tie.close (tie.spec (λ c κs. search needs) returns)

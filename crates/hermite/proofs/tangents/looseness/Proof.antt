@@ -4,12 +4,9 @@ use Rattle.hermite.specs.CatmullRom.{looseness}
 use Rattle.hermite.proofs.tangents.looseness.Statement.{statement}
 use Rattle.hermite.proofs.tangents.looseness.Tie as tie
 
-byte-to-float-requires : tie.Need-byte-to-float-requires
-byte-to-float-requires c κs = search needs
-
 returns : tie.Need-returns
 unfolding looseness
 returns c = rw (c .byte-to-float .ensures)
 
 pub looseness-spec : {M : Type 1} → statement M
-looseness-spec = tie.close (tie.spec byte-to-float-requires returns)
+looseness-spec = tie.close (tie.spec (λ c κs. search needs) returns)
