@@ -36,15 +36,19 @@ over p d = guardedQuotient p d nano
 unfoldable pub threeTerms : Float → Float → Float → Float → Float → Float → Float
 threeTerms right across left dr ds dl = cond (tiny dl || tiny dr || tiny ds) 𝟎 (right ⊘ dr ⊖ across ⊘ ds ⊕ left ⊘ dl)
 
--- the tangent at a knot c between l and r: dy/dt over dx/dt. At the first knot and at the last both are one-sided
+-- dy/dt over dx/dt at a knot c between l and r, by the ways from l to c, from l to r and from c to r
+abbrev pub innerTangent : Knot → Knot → Knot → Float → Float → Float → Float
+innerTangent l c r dl ds dr = over (threeTerms (r .y ⊖ c .y) (r .y ⊖ l .y) (c .y ⊖ l .y) dr ds dl) (over (r .x ⊖ l .x) ds)
+
+-- and at an end of the curve, where both are one-sided, by the way d from a to b
+abbrev pub endTangent : Knot → Knot → Float → Float
+endTangent a b d = over (over (b .y ⊖ a .y) d) (over (b .x ⊖ a .x) d)
+
 unfoldable pub alphaTangent : Bool → Bool → Bool → Knot → Knot → Knot → Float
 alphaTangent centripetal first last l c r =
     let dl = spacing centripetal l c in
     let dr = spacing centripetal c r in
-    let ds = dl ⊕ dr in
-    cond first (over (over (r .y ⊖ c .y) dr) (over (r .x ⊖ c .x) dr))
-    (cond last (over (over (c .y ⊖ l .y) dl) (over (c .x ⊖ l .x) dl))
-    (over (threeTerms (r .y ⊖ c .y) (r .y ⊖ l .y) (c .y ⊖ l .y) dr ds dl) (over (r .x ⊖ l .x) ds)))
+    cond first (endTangent c r dr) (cond last (endTangent l c dl) (innerTangent l c r dl (dl ⊕ dr) dr))
 
 unfoldable pub alphaAt : Bool → List Float → List Float → ℕ → ℕ → Float
 alphaAt centripetal xs ys n i =

@@ -3,7 +3,6 @@
 ghost use mathlib.Core.Path.{_≡_};
 ghost use Prim.Native.Nat.{_-_, _≤_};
 ghost use lib.ListN.{replicate};
-ghost use Rattle.floats.specs.Notation.{_⊖_};
 ghost use Rattle.lists.specs.Tabulate.{filled};
 ghost use Rattle.lists.specs.Stored.{Stored};
 ghost use Rattle.single.specs.Constants.{𝟎};
@@ -72,15 +71,15 @@ fn three_terms(right: f32, across: f32, left: f32, dr: f32, ds: f32, dl: f32) ->
 }
 
 // The tangent at an end of the curve, by the segment from a to b there, whose spacing is d.
-fn one_sided(a: Knot, b: Knot, d: f32) -> f32
-    ensures { λ m. ⌜ m ≡ Alpha.over (Alpha.over (b .y ⊖ a .y) d) (Alpha.over (b .x ⊖ a .x) d) ⌝ }
+fn end_tangent(a: Knot, b: Knot, d: f32) -> f32
+    ensures { λ m. ⌜ m ≡ Alpha.endTangent a b d ⌝ }
 {
     over(over(b.y - a.y, d), over(b.x - a.x, d))
 }
 
 // The tangent at a knot c between l and r, with the spacings of l and c, of all three, and of c and r.
-fn inner(l: Knot, c: Knot, r: Knot, dl: f32, ds: f32, dr: f32) -> f32
-    ensures { λ m. ⌜ m ≡ Alpha.over (Alpha.threeTerms (r .y ⊖ c .y) (r .y ⊖ l .y) (c .y ⊖ l .y) dr ds dl) (Alpha.over (r .x ⊖ l .x) ds) ⌝ }
+fn inner_tangent(l: Knot, c: Knot, r: Knot, dl: f32, ds: f32, dr: f32) -> f32
+    ensures { λ m. ⌜ m ≡ Alpha.innerTangent l c r dl ds dr ⌝ }
 {
     let rise = three_terms(r.y - c.y, r.y - l.y, c.y - l.y, dr, ds, dl);
     over(rise, over(r.x - l.x, ds))
@@ -96,7 +95,7 @@ pub fn alpha(centripetal: bool, xs: &[f32; 66], ys: &[f32; 66], n: usize) -> [f3
     let mut ways = [0.0; 66];
     spacings(centripetal, &row, n, &mut ways);
     let mut tangents = [0.0; 66];
-    tangents[0] = one_sided(knot_at(xs, ys, 0), knot_at(xs, ys, 1), ways[0]);
+    tangents[0] = end_tangent(knot_at(xs, ys, 0), knot_at(xs, ys, 1), ways[0]);
     let mut i: usize = 1;
     while i + 1 < n {
         let dl = ways[i - 1];
@@ -104,9 +103,9 @@ pub fn alpha(centripetal: bool, xs: &[f32; 66], ys: &[f32; 66], n: usize) -> [f3
         let l = knot_at(xs, ys, i - 1);
         let c = knot_at(xs, ys, i);
         let r = knot_at(xs, ys, i + 1);
-        tangents[i] = inner(l, c, r, dl, dl + dr, dr);
+        tangents[i] = inner_tangent(l, c, r, dl, dl + dr, dr);
         i += 1;
     }
-    tangents[i] = one_sided(knot_at(xs, ys, i - 1), knot_at(xs, ys, i), ways[i - 1]);
+    tangents[i] = end_tangent(knot_at(xs, ys, i - 1), knot_at(xs, ys, i), ways[i - 1]);
     tangents
 }

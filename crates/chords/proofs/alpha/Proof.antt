@@ -8,23 +8,16 @@ use borrow.Author.Needs.{needs}
 use borrow.Author.Tests.{eq-eqb, ne-eqb}
 use lib.Ieee.{Float, nan}
 use lib.ListN.{replicate}
-use Rattle.floats.specs.Notation.{_⊕_, _⊖_}
+use Rattle.floats.specs.Notation.{_⊕_}
 use Rattle.lists.specs.Stored.{Stored, stored-none, stored-next, stored-inside, stored-front}
 use Rattle.single.specs.Constants.{𝟎}
 use Rattle.points.specs.declared.Knot.{Knot}
 use Rattle.points.specs.Knots.{knotAt}
 use Rattle.hermite.specs.Segments.{at}
-use Rattle.hermite.specs.CatmullRom.{before, after}
-use Rattle.chords.specs.Alpha.{spacing, over, threeTerms, alphaTangent, alphaAt, chordAt, spacingAt}
+use Rattle.hermite.specs.CatmullRom.{after}
+use Rattle.chords.specs.Alpha.{spacing, innerTangent, endTangent, alphaTangent, alphaAt, chordAt, spacingAt}
 use Rattle.chords.proofs.alpha.Statement.{statement}
 use Rattle.chords.proofs.alpha.Tie as tie
-
--- what `one_sided` and `inner` give
-abbrev one-sided : Knot → Knot → Float → Float
-one-sided a b d = over (over (b .y ⊖ a .y) d) (over (b .x ⊖ a .x) d)
-
-abbrev inner : Knot → Knot → Knot → Float → Float → Float → Float
-inner l c r dl ds dr = over (threeTerms (r .y ⊖ c .y) (r .y ⊖ l .y) (c .y ⊖ l .y) dr ds dl) (over (r .x ⊖ l .x) ds)
 
 -- ---- the definition with its three cases told apart; k tells the centripetal kind
 module _ (k : Bool) (xs ys : List Float) (n : ℕ) (two : 2 ≤ n) (most : n ≤ 66) {chords ways : List Float}
@@ -35,19 +28,19 @@ module _ (k : Bool) (xs ys : List Float) (n : ℕ) (two : 2 ≤ n) (most : n ≤
       stored-inside ways-are i nan (omega arith) (omega arith) (omega arith)
       ∙ rw (stored-inside chords-are i nan (omega arith) (omega arith) (omega arith), e)
 
-  at-first : {a b : Knot} {m : Float} → a ≡ knotAt xs ys 0 → b ≡ knotAt xs ys 1 → m ≡ one-sided a b (at ways 0) → m ≡ alphaAt k xs ys n 0
+  at-first : {a b : Knot} {m : Float} → a ≡ knotAt xs ys 0 → b ≡ knotAt xs ys 1 → m ≡ endTangent a b (at ways 0) → m ≡ alphaAt k xs ys n 0
   unfolding alphaAt alphaTangent
   at-first a-is b-is made =
       let second : after n 0 ≡ 1 = omega arith in
       made ∙ rw (second, a-is, b-is, way 0 1 (omega arith) (omega arith))
 
   module _ (i : ℕ) (low : 1 ≤ i) {l c : Knot} (l-is : l ≡ knotAt xs ys (i - 1)) (c-is : c ≡ knotAt xs ys i) {m : Float} where
-    at-last : i + 1 ≡ n → m ≡ one-sided l c (at ways (i - 1)) → m ≡ alphaAt k xs ys n i
+    at-last : i + 1 ≡ n → m ≡ endTangent l c (at ways (i - 1)) → m ≡ alphaAt k xs ys n i
     unfolding alphaAt alphaTangent
     at-last h made =
         made ∙ rw (ne-eqb i 0 (λ z. omega arith), eq-eqb (i + 1) n h, l-is, c-is, way (i - 1) i (omega arith) (omega arith))
 
-    between : {r : Knot} → i + 1 < n → r ≡ knotAt xs ys (i + 1) → m ≡ inner l c r (at ways (i - 1)) (at ways (i - 1) ⊕ at ways i) (at ways i)
+    between : {r : Knot} → i + 1 < n → r ≡ knotAt xs ys (i + 1) → m ≡ innerTangent l c r (at ways (i - 1)) (at ways (i - 1) ⊕ at ways i) (at ways i)
         → m ≡ alphaAt k xs ys n i
     unfolding alphaAt alphaTangent
     between h r-is made =
@@ -81,7 +74,7 @@ loop-holds c =
       pre .1,
       stored-next stored-none
           (at-first _ _ _ _ (pre .0) (pre .1) (h .chords .ensures) (s .spacings .ensures) (b .before .knot-at .ensures) (b .knot-at2 .ensures)
-          (c .one-sided .ensures)),
+          (c .end-tangent .ensures)),
     )
 
 loop-again : tie.Need-loop-again Inv-loop μ-loop
@@ -98,7 +91,7 @@ loop-again c =
       pre .1,
       stored-next (b .loop .inv .3)
           (between _ _ _ _ (pre .0) (pre .1) (h .chords .ensures) (s .spacings .ensures) _ (omega arith) (l .knot-at3 .ensures) (m .knot-at4 .ensures)
-          (omega arith) (r .knot-at5 .ensures) (c .inner .ensures)),
+          (omega arith) (r .knot-at5 .ensures) (c .inner-tangent .ensures)),
     )
 
 returns : tie.Need-returns Inv-loop μ-loop
@@ -112,7 +105,7 @@ returns c =
     stored-front
     (stored-next (b .loop .inv .3)
     (at-last _ _ _ _ (pre .0) (pre .1) (h .chords .ensures) (s .spacings .ensures) _ (omega arith) (l .knot-at6 .ensures) (m .knot-at7 .ensures)
-    (omega arith) (c .one-sided2 .ensures)))
+    (omega arith) (c .end-tangent2 .ensures)))
     (omega arith) (pre .1)
 
 pub alpha-spec : {M : Type 1} → statement M
