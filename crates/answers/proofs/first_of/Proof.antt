@@ -1,5 +1,5 @@
 -- `first_of`: the second answer counts only where the first is done.
-use borrow.Author.Needs.{needs}
+use native.Mathlib.Omega.{arith}
 use Rattle.answers.proofs.first_of.Statement.{statement}
 use Rattle.answers.proofs.first_of.Tie as tie
 
@@ -10,4 +10,4 @@ returns-2 : tie.Need-returns-2
 returns-2 c = rw (← c .before .is-done .ensures, c .if1 .left)
 
 pub first-of-spec : {M : Type 1} → statement M
-first-of-spec = tie.close (tie.spec (search needs) returns returns-2)
+first-of-spec = tie.close (tie.spec (omega arith) returns returns-2)

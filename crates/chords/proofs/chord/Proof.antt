@@ -1,5 +1,5 @@
 -- `chord`: the code is the formula.
-use borrow.Author.Needs.{needs}
+use native.Mathlib.Omega.{arith}
 use Rattle.chords.specs.Alpha.{chord}
 use Rattle.chords.proofs.chord.Statement.{statement}
 use Rattle.chords.proofs.chord.Tie as tie
@@ -9,4 +9,4 @@ unfolding chord
 returns c = c .sqrt .ensures
 
 pub chord-spec : {M : Type 1} → statement M
-chord-spec = tie.close (tie.spec (λ c κs. search needs) returns)
+chord-spec = tie.close (tie.spec (omega arith) returns)

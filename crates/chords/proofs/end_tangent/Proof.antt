@@ -1,5 +1,5 @@
 -- `end_tangent`: the code is the formula.
-use borrow.Author.Needs.{needs}
+use native.Mathlib.Omega.{arith}
 use Rattle.chords.proofs.end_tangent.Statement.{statement}
 use Rattle.chords.proofs.end_tangent.Tie as tie
 
@@ -7,4 +7,4 @@ returns : tie.Need-returns
 returns c = rw (← c .before .before .before .before .over .ensures, ← c .before .over2 .ensures) (c .over3 .ensures)
 
 pub end-tangent-spec : {M : Type 1} → statement M
-end-tangent-spec = tie.close (tie.spec (λ c κs. search needs) (λ c κs. search needs) (λ c κs. search needs) returns)
+end-tangent-spec = tie.close (tie.spec (omega arith) (omega arith) (omega arith) returns)

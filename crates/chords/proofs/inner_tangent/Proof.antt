@@ -1,5 +1,5 @@
 -- `inner_tangent`: the code is the formula.
-use borrow.Author.Needs.{needs}
+use native.Mathlib.Omega.{arith}
 use Rattle.chords.proofs.inner_tangent.Statement.{statement}
 use Rattle.chords.proofs.inner_tangent.Tie as tie
 
@@ -7,4 +7,4 @@ returns : tie.Need-returns
 returns c = rw (← c .before .before .before .before .three-terms .ensures, ← c .before .over .ensures) (c .over2 .ensures)
 
 pub inner-tangent-spec : {M : Type 1} → statement M
-inner-tangent-spec = tie.close (tie.spec (λ c κs. search needs) (λ c κs. search needs) (λ c κs. search needs) returns)
+inner-tangent-spec = tie.close (tie.spec (omega arith) (omega arith) (omega arith) returns)

@@ -1,5 +1,5 @@
 -- `spacing`: its test is the definition's.
-use borrow.Author.Needs.{needs}
+use native.Mathlib.Omega.{arith}
 use Rattle.chords.proofs.spacing.Statement.{statement}
 use Rattle.chords.proofs.spacing.Tie as tie
 
@@ -10,4 +10,4 @@ returns-2 : tie.Need-returns-2
 returns-2 c = rw (c .if1 .left)
 
 pub spacing-spec : {M : Type 1} → statement M
-spacing-spec = tie.close (tie.spec (λ c κs. search needs) returns returns-2)
+spacing-spec = tie.close (tie.spec (omega arith) returns returns-2)

@@ -1,5 +1,5 @@
 -- `three_terms`: its test is the definition's.
-use borrow.Author.Needs.{needs}
+use native.Mathlib.Omega.{arith}
 use Rattle.chords.specs.Alpha.{threeTerms}
 use Rattle.chords.proofs.three_terms.Statement.{statement}
 use Rattle.chords.proofs.three_terms.Tie as tie
@@ -16,4 +16,4 @@ returns-2 c =
 
 pub three-terms-spec : {M : Type 1} → statement M
 three-terms-spec =
-    tie.close (tie.spec (λ c κs. search needs) (λ c κs. search needs) (λ c κs. search needs) returns returns-2)
+    tie.close (tie.spec (omega arith) (omega arith) (omega arith) returns returns-2)

@@ -1,6 +1,5 @@
 -- `lookup::blend` meets its contract: both entries are the table's, since no index passes 4,094.
 use native.Mathlib.Omega.{arith}
-use borrow.Author.Needs.{needs}
 use Rattle.lookup.specs.Lookup.{between}
 use Rattle.lookup.specs.Laws.{entry-inside}
 use Rattle.lookup.proofs.blend.Statement.{statement}
@@ -22,8 +21,8 @@ pub blend-spec : {M : Type 1} → statement M
 blend-spec =
     tie.close
     (tie.spec
-    (λ c. search needs) (λ c κs. search needs) (λ c κs. search needs) (λ c. search needs)
+    (omega arith) (omega arith) (omega arith) (omega arith)
     shared-slice-read-result
-    (λ c. search needs)
+    (omega arith)
     shared-slice-read-result-2
     returns)

@@ -1,7 +1,6 @@
 -- `lookup::index` meets its contract: a floor of at most 4,094 fits 16 bits.
 use mathlib.Core.Path.{ap, _∙_}
 use native.Mathlib.Omega.{arith}
-use borrow.Author.Needs.{needs}
 use Rattle.single.specs.Rules.{floorOf}
 use Rattle.single.specs.ByteLaws.{floor-small}
 use Rattle.lookup.proofs.index.Statement.{statement}
@@ -14,4 +13,4 @@ returns : tie.Need-returns
 returns c = c .index .ensures ∙ ap floorOf (c .before .position .ensures)
 
 pub index-spec : {M : Type 1} → statement M
-index-spec = tie.close (tie.spec (λ c κs. search needs) (λ c κs. search needs) cast-result returns)
+index-spec = tie.close (tie.spec (omega arith) (omega arith) cast-result returns)

@@ -48,7 +48,7 @@ lookup-spec =
     μ-loop
     returns
     loop-holds
-    (λ c. search needs) (λ c κs. search needs) (λ c κs. search needs) (λ c κs. search needs) (λ c. search needs) (λ c. search needs)
+    (omega arith) (omega arith) (omega arith) (λ c κs. search needs) (omega arith) (omega arith)
     loop-again
-    (λ c. search needs)
+    (omega arith)
     returns-2)

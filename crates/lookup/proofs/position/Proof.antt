@@ -1,5 +1,5 @@
 -- `lookup::position` meets its contract.
-use borrow.Author.Needs.{needs}
+use native.Mathlib.Omega.{arith}
 use Rattle.lookup.specs.Lookup.{position}
 use Rattle.lookup.proofs.position.Statement.{statement}
 use Rattle.lookup.proofs.position.Tie as tie
@@ -9,4 +9,4 @@ unfolding position
 returns c = rw (c .clamp-unit .ensures)
 
 pub position-spec : {M : Type 1} → statement M
-position-spec = tie.close (tie.spec (λ c κs. search needs) returns)
+position-spec = tie.close (tie.spec (omega arith) returns)

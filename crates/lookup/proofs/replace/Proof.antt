@@ -40,9 +40,9 @@ replace-spec =
     Inv-loop
     μ-loop
     loop-holds
-    (λ c. search needs) (λ c. search needs) (λ c. search needs) (λ c. search needs) (λ c. search needs)
+    (omega arith) (omega arith) (omega arith) (omega arith) (omega arith)
     blend-requires
-    (λ c. search needs) (λ c. search needs) (λ c. search needs) (λ c. search needs) (λ c. search needs)
+    (omega arith) (omega arith) (omega arith) (omega arith) (omega arith)
     loop-again
-    (λ c. search needs)
+    (omega arith)
     returns)

@@ -1,4 +1,5 @@
 -- `adjusted`: its tests are the definition's.
+use native.Mathlib.Omega.{arith}
 use borrow.Author.Needs.{needs}
 use Rattle.monotone.specs.Monotone.{adjusted}
 use Rattle.monotone.proofs.adjusted.Statement.{statement}
@@ -23,4 +24,8 @@ returns-3 c =
 pub adjusted-spec : {M : Type 1} → statement M
 adjusted-spec =
     tie.close
-    (tie.spec (λ c κs. search needs) returns (λ c κs. search needs) (λ c κs. search needs) returns-2 returns-3)
+    (tie.spec
+    (omega arith)
+    returns
+    (λ c κs. search needs) (λ c κs. search needs)
+    returns-2 returns-3)

@@ -1,5 +1,5 @@
 -- `by_box`: both tangents are capped.
-use borrow.Author.Needs.{needs}
+use native.Mathlib.Omega.{arith}
 use Rattle.monotone.specs.Monotone.{boxed}
 use Rattle.monotone.proofs.by_box.Statement.{statement}
 use Rattle.monotone.proofs.by_box.Tie as tie
@@ -9,4 +9,4 @@ unfolding boxed
 returns c = rw (c .before .capped .ensures, c .capped2 .ensures, c .before .before .pre)
 
 pub by-box-spec : {M : Type 1} → statement M
-by-box-spec = tie.close (tie.spec (λ c κs. search needs) (λ c κs. search needs) returns)
+by-box-spec = tie.close (tie.spec (omega arith) (omega arith) returns)

@@ -1,5 +1,5 @@
 -- `by_circle`: its test is the definition's.
-use borrow.Author.Needs.{needs}
+use native.Mathlib.Omega.{arith}
 use Rattle.monotone.specs.Monotone.{circled}
 use Rattle.monotone.proofs.by_circle.Statement.{statement}
 use Rattle.monotone.proofs.by_circle.Tie as tie
@@ -15,4 +15,6 @@ returns-2 c = rw (← c .before .before .before .pre, c .if1 .left, c .before .b
 pub by-circle-spec : {M : Type 1} → statement M
 by-circle-spec =
     tie.close
-    (tie.spec (λ c κs. search needs) (λ c κs. search needs) (λ c κs. search needs) returns returns-2)
+    (tie.spec
+    (omega arith) (omega arith) (omega arith)
+    returns returns-2)

@@ -1,5 +1,5 @@
 -- `capped`: its test is the definition's.
-use borrow.Author.Needs.{needs}
+use native.Mathlib.Omega.{arith}
 use Rattle.monotone.proofs.capped.Statement.{statement}
 use Rattle.monotone.proofs.capped.Tie as tie
 
@@ -10,4 +10,4 @@ returns-2 : tie.Need-returns-2
 returns-2 c = rw (c .before .if1 .left) (c .nonnegative .ensures)
 
 pub capped-spec : {M : Type 1} → statement M
-capped-spec = tie.close (tie.spec (λ c κs. search needs) returns returns-2)
+capped-spec = tie.close (tie.spec (omega arith) returns returns-2)

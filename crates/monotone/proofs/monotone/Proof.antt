@@ -102,11 +102,11 @@ monotone-spec =
     (tie.spec
     Inv-loop
     μ-loop
-    (λ c κs. search needs) (λ c κs. search needs) (λ c κs. search needs) (λ c. search needs)
+    (omega arith) (omega arith) (omega arith) (omega arith)
     loop-holds
-    (λ c. search needs) (λ c. search needs) (λ c. search needs) (λ c. search needs) (λ c. search needs) (λ c. search needs) (λ c. search needs)
+    (omega arith) (omega arith) (omega arith) (omega arith) (omega arith) (omega arith) (omega arith)
     adjusted-requires
-    (λ c. search needs) (λ c. search needs) (λ c. search needs) (λ c. search needs)
+    (omega arith) (omega arith) (omega arith) (omega arith)
     loop-again
-    (λ c. search needs) (λ c. search needs)
+    (omega arith) (omega arith)
     returns)

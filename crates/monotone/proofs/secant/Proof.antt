@@ -1,5 +1,5 @@
 -- `secant`: the slope from knot i to knot i + 1.
-use borrow.Author.Needs.{needs}
+use native.Mathlib.Omega.{arith}
 use Rattle.monotone.specs.Monotone.{secantAt}
 use Rattle.monotone.proofs.secant.Statement.{statement}
 use Rattle.monotone.proofs.secant.Tie as tie
@@ -10,4 +10,4 @@ returns c = rw (← c .before .before .knot-at .ensures, ← c .before .knot-at2
 
 pub secant-spec : {M : Type 1} → statement M
 secant-spec =
-    tie.close (tie.spec (λ c κs. search needs) (λ c. search needs) (λ c κs. search needs) (λ c κs. search needs) returns)
+    tie.close (tie.spec (omega arith) (omega arith) (omega arith) (omega arith) returns)

@@ -2,7 +2,6 @@
 use mathlib.Core.Path.{_≡_, sym, _∙_}
 use mathlib.Core.Bool.{true}
 use native.Mathlib.Omega.{arith}
-use borrow.Author.Needs.{needs}
 use borrow.Author.Tests.{eq-eqb, ne-eqb, not-true, not-false}
 use Rattle.answers.specs.Numbers.{isDone}
 use Rattle.pictures.specs.Runs.{Run, Lent, given, hasChroma, answer}
@@ -95,15 +94,15 @@ pub apply-pixels-spec : {M : Type 1} → statement M
 apply-pixels-spec =
     tie.close
     (tie.spec
-    (search needs) (search needs) (search needs) (search needs) (search needs)
+    (omega arith) (omega arith) (omega arith) (omega arith) (omega arith)
     returns
     tone-first-requires
-    (search needs)
+    (omega arith)
     mul-row
-    (search needs)
+    (omega arith)
     copy-bytes-requires
     copy-bytes-requires-2
-    (search needs) (search needs) (search needs)
+    (omega arith) (omega arith) (omega arith)
     returns-2
-    (search needs)
+    (omega arith)
     returns-3)

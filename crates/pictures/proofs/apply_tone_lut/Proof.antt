@@ -1,7 +1,7 @@
 -- `apply_tone_lut`: a plane that passes has its rows, which the kernel tones.
+use native.Mathlib.Omega.{arith}
 use mathlib.Core.Path.{sym, _∙_}
 use lib.ListN.{length}
-use borrow.Author.Needs.{needs}
 use Rattle.formats.specs.CheckLaws.{GoodPlane, done, lut-done}
 use Rattle.formats.specs.FormatLaws.{in-place}
 use Rattle.pictures.proofs.apply_tone_lut.Statement.{statement}
@@ -38,4 +38,8 @@ returns-2 c = record {
 pub apply-tone-lut-spec : {M : Type 1} → statement M
 apply-tone-lut-spec =
     tie.close
-    (tie.spec (search needs) (search needs) (search needs) (search needs) tone-rows-requires (search needs) returns returns-2)
+    (tie.spec
+    (omega arith) (omega arith) (omega arith) (omega arith)
+    tone-rows-requires
+    (omega arith)
+    returns returns-2)

@@ -1,5 +1,5 @@
 -- `tone_first`: the kernel is given the table of each channel.
-use borrow.Author.Needs.{needs}
+use native.Mathlib.Omega.{arith}
 use Rattle.sets.specs.Sets.{viewOf}
 use Rattle.sets.specs.Legal.{Passed, passed-set, passed-count}
 use Rattle.formats.specs.FormatLaws.{tight}
@@ -54,12 +54,12 @@ pub tone-first-spec : {M : Type 1} → statement M
 tone-first-spec =
     tie.close
     (tie.spec
-    (search needs)
+    (omega arith)
     byte-table-requires
     own-table-requires
     own-table-requires-2
     own-table-requires-3
-    (search needs) (search needs) (search needs) (search needs)
+    (omega arith) (omega arith) (omega arith) (omega arith)
     tone-rows-into-requires
-    (search needs)
+    (omega arith)
     returns)

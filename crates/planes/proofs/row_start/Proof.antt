@@ -3,7 +3,6 @@ use mathlib.Core.Path.{_≡_}
 use Prim.Native.Nat.{ℕ, _*_, min}
 use native.Mathlib.Nat.{mul-zero, zero-min, le-div-iff-mul-le, div-lt-iff-lt-mul}
 use native.Mathlib.Omega.{arith}
-use borrow.Author.Needs.{needs}
 use Rattle.planes.proofs.row_start.Statement.{statement}
 use Rattle.planes.proofs.row_start.Tie as tie
 
@@ -23,4 +22,4 @@ returns-3 : tie.Need-returns-3
 returns-3 c = omega (arith, le-div-iff-mul-le {k = c .before .before .args .step} {x = c .before .before .args .y} (omega arith) .0 (c .if2 .left))
 
 pub row-start-spec : {M : Type 1} → statement M
-row-start-spec = tie.close (tie.spec returns (search needs) returns-2 mul-result returns-3)
+row-start-spec = tie.close (tie.spec returns (omega arith) returns-2 mul-result returns-3)

@@ -1,4 +1,5 @@
 -- `no_curve` meets its contract: an empty list passes the check.
+use native.Mathlib.Omega.{arith}
 use mathlib.Core.Path.{_≡_, refl}
 use borrow.Author.Needs.{needs}
 use lib.ListN.{length}
@@ -13,4 +14,4 @@ returns c =
     (refl, empty-passes (c .empty .result) long (c .empty .ensures))
 
 pub no-curve-spec : {M : Type 1} → statement M
-no-curve-spec = tie.close (tie.spec (λ c κs. search needs) returns)
+no-curve-spec = tie.close (tie.spec (omega arith) returns)

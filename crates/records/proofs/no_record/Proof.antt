@@ -1,4 +1,5 @@
 -- `no_record` meets its contract: the empty set passes the check.
+use native.Mathlib.Omega.{arith}
 use mathlib.Core.Path.{_≡_, refl}
 use borrow.Author.Needs.{needs}
 use lib.ListN.{length}
@@ -18,4 +19,4 @@ returns c =
     }
 
 pub no-record-spec : {M : Type 1} → statement M
-no-record-spec = tie.close (tie.spec (λ c κs. search needs) returns)
+no-record-spec = tie.close (tie.spec (omega arith) returns)

@@ -1,5 +1,5 @@
 -- `read_carried` meets its contract, case by case.
-use borrow.Author.Needs.{needs}
+use native.Mathlib.Omega.{arith}
 use borrow.Author.Tests.{eq-eqb, ne-eqb}
 use Rattle.records.specs.Format.{readCarried}
 use Rattle.records.proofs.read_carried.Statement.{statement}
@@ -23,4 +23,4 @@ returns-3 c =
 
 pub read-carried-spec : {M : Type 1} → statement M
 read-carried-spec =
-    tie.close (tie.spec (λ c κs. search needs) (λ c κs. search needs) (λ c κs. search needs) returns returns-2 returns-3)
+    tie.close (tie.spec (omega arith) (omega arith) (omega arith) returns returns-2 returns-3)

@@ -3,7 +3,6 @@ use mathlib.Core.Path.{_≡_, sym, ap, _∙_}
 use mathlib.Core.Bool.{cond}
 use Prim.Native.Nat.{_+_, _*_}
 use native.Mathlib.Omega.{arith}
-use borrow.Author.Needs.{needs}
 use lib.ListN.{drop}
 use Rattle.answers.specs.declared.Answer.the-variants.{PointsNotRising}
 use Rattle.points.specs.Points.{listOf, rises}
@@ -87,14 +86,14 @@ pub read-curve-spec : {M : Type 1} → statement M
 read-curve-spec =
     tie.close
     (tie.spec
-    (λ c κs. search needs)
+    (omega arith)
     returns
-    (λ c. search needs) (λ c κs. search needs) (λ c κs. search needs)
+    (omega arith) (omega arith) (omega arith)
     returns-2
-    (λ c κs. search needs)
+    (omega arith)
     returns-3
-    (λ c. search needs) (λ c. search needs) (λ c. search needs) (λ c κs. search needs)
+    (omega arith) (omega arith) (omega arith) (omega arith)
     returns-4
-    (λ c κs. search needs) (λ c κs. search needs) (λ c. search needs) (λ c. search needs) (λ c κs. search needs)
+    (omega arith) (omega arith) (omega arith) (omega arith) (omega arith)
     returns-5
     returns-6)

@@ -1,4 +1,5 @@
 -- `read_field` meets its contract.
+use native.Mathlib.Omega.{arith}
 use mathlib.Core.Path.{_≡_}
 use borrow.Author.Needs.{needs}
 use lib.ListN.{length}
@@ -16,4 +17,4 @@ returns-2 c =
     record { list = rw (c .before .if1 .left, c .empty .ensures); legal = empty-passes (c .empty .result) long (c .empty .ensures) }
 
 pub read-field-spec : {M : Type 1} → statement M
-read-field-spec = tie.close (tie.spec (λ c κs. search needs) (λ c κs. search needs) returns returns-2)
+read-field-spec = tie.close (tie.spec (omega arith) (omega arith) returns returns-2)

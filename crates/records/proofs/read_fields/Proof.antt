@@ -1,4 +1,5 @@
 -- `read_fields` meets its contract: the fields one after the other, each keeping the set within the check.
+use native.Mathlib.Omega.{arith}
 use mathlib.Core.Path.{_≡_, ap}
 use borrow.Author.Needs.{needs}
 use lib.ListN.{length, drop}
@@ -44,6 +45,6 @@ pub read-fields-spec : {M : Type 1} → statement M
 read-fields-spec =
     tie.close
     (tie.spec
-    (λ c κs. search needs) (λ c κs. search needs) (λ c κs. search needs) (λ c κs. search needs) (λ c κs. search needs) (λ c κs. search needs)
+    (omega arith) (omega arith) (omega arith) (omega arith) (omega arith) (omega arith)
     end-requires
     returns)

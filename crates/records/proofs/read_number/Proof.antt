@@ -1,7 +1,6 @@
 -- `read_number` meets its contract.
 use mathlib.Core.Path.{sym, _∙_}
 use native.Mathlib.Omega.{arith}
-use borrow.Author.Needs.{needs}
 use borrow.Author.Tests.{lt-ltb, le-ltb}
 use Rattle.records.specs.Format.{readNumber}
 use Rattle.records.proofs.Kind.{number-none, number-at}
@@ -35,10 +34,10 @@ pub read-number-spec : {M : Type 1} → statement M
 read-number-spec =
     tie.close
     (tie.spec
-    (λ c κs. search needs)
+    (omega arith)
     returns
-    (λ c. search needs) (λ c κs. search needs)
+    (omega arith) (omega arith)
     returns-2
-    (λ c. search needs) (λ c κs. search needs)
+    (omega arith) (omega arith)
     returns-3
     returns-4)

@@ -1,6 +1,6 @@
 -- `read_point` meets its contract.
+use native.Mathlib.Omega.{arith}
 use native.Mathlib.Nat.{add-zero}
-use borrow.Author.Needs.{needs}
 use lib.Seq.{getD-drop}
 use Rattle.records.proofs.read_point.Statement.{statement}
 use Rattle.records.proofs.read_point.Tie as tie
@@ -11,4 +11,4 @@ returns c =
     rw (getD-drop (a .at) (a .s .now) 0 0, getD-drop (a .at) (a .s .now) 1 0, add-zero (a .at))
 
 pub read-point-spec : {M : Type 1} → statement M
-read-point-spec = tie.close (tie.spec (λ c. search needs) (λ c. search needs) (λ c. search needs) returns)
+read-point-spec = tie.close (tie.spec (omega arith) (omega arith) (omega arith) returns)

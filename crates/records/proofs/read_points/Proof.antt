@@ -3,7 +3,6 @@ use Prim.Native.Nat.{_≤_, _-_, _+_, _*_}
 use mathlib.Core.Path.{_≡_, refl, _∙_}
 use mathlib.Core.List.{_++_}
 use native.Mathlib.Omega.{arith}
-use borrow.Author.Needs.{needs}
 use lib.ListN.{length, take, drop, length-set}
 use Rattle.records.specs.Format.{pairs, pointBytes}
 use Rattle.records.proofs.Lists.{pairs-more, pairs-done}
@@ -44,6 +43,6 @@ read-points-spec =
     Inv-loop
     μ-loop
     loop-holds
-    (λ c κs. search needs) (λ c. search needs) (λ c. search needs) (λ c. search needs) (λ c. search needs) (λ c. search needs)
+    (omega arith) (omega arith) (omega arith) (omega arith) (omega arith) (omega arith)
     loop-again
     returns)

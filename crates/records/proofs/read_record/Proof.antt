@@ -1,6 +1,5 @@
 -- `read_record` meets its contract: no map, bit 7, or the fields.
 use native.Mathlib.Omega.{arith}
-use borrow.Author.Needs.{needs}
 use Rattle.records.proofs.Fields.{record-none, record-reserved, record-mapped}
 use Rattle.records.proofs.read_record.Statement.{statement}
 use Rattle.records.proofs.read_record.Tie as tie
@@ -24,9 +23,9 @@ pub read-record-spec : {M : Type 1} → statement M
 read-record-spec =
     tie.close
     (tie.spec
-    (λ c κs. search needs)
+    (omega arith)
     returns
-    (λ c. search needs) (λ c κs. search needs) (λ c κs. search needs)
+    (omega arith) (omega arith) (omega arith)
     returns-2
-    (λ c κs. search needs)
+    (omega arith)
     returns-3)

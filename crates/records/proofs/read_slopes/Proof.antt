@@ -32,10 +32,9 @@ pub read-slopes-spec : {M : Type 1} → statement M
 read-slopes-spec =
     tie.close
     (tie.spec
-    (λ c κs. search needs)
+    (omega arith)
     returns
-    (λ c. search needs) (λ c κs. search needs)
+    (omega arith) (omega arith)
     returns-2
-    (λ c. search needs) (λ c. search needs) (λ c. search needs) (λ c. search needs) (λ c κs. search needs) (λ c. search needs) (λ c. search needs)
-    (λ c. search needs) (λ c. search needs) (λ c κs. search needs)
+    (omega arith) (omega arith) (omega arith) (omega arith) (omega arith) (omega arith) (omega arith) (omega arith) (omega arith) (omega arith)
     returns-3)

@@ -1,7 +1,6 @@
 -- `read_tension` meets its contract.
 use mathlib.Core.Path.{sym}
 use native.Mathlib.Omega.{arith}
-use borrow.Author.Needs.{needs}
 use Rattle.records.proofs.Kind.{tension-none, tension-at}
 use Rattle.records.proofs.read_tension.Statement.{statement}
 use Rattle.records.proofs.read_tension.Tie as tie
@@ -15,4 +14,4 @@ returns-2 : tie.Need-returns-2
 returns-2 c = let a = c .before .before .before .args in sym (tension-at (a .at) (a .s .now) (omega arith))
 
 pub read-tension-spec : {M : Type 1} → statement M
-read-tension-spec = tie.close (tie.spec (λ c κs. search needs) returns (λ c. search needs) (λ c. search needs) returns-2)
+read-tension-spec = tie.close (tie.spec (omega arith) returns (omega arith) (omega arith) returns-2)

@@ -1,7 +1,6 @@
 -- `slope` meets its contract: below 32,768 the bits are the slope; from there on it is −1 less what they lack to 65,535.
 use Prim.Native.Nat.{_+_, _*_}
 use native.Mathlib.Omega.{arith}
-use borrow.Author.Needs.{needs}
 use Rattle.records.proofs.Kind.{signed-low, signed-fits, signed-high}
 use Rattle.records.proofs.slope.Statement.{statement}
 use Rattle.records.proofs.slope.Tie as tie
@@ -19,7 +18,7 @@ pub slope-spec : {M : Type 1} → statement M
 slope-spec =
     tie.close
     (tie.spec
-    (λ c. search needs) (λ c. search needs) (λ c. search needs) (λ c. search needs) (λ c. search needs)
+    (omega arith) (omega arith) (omega arith) (omega arith) (omega arith)
     sub-result-2
     returns
     returns-2)

@@ -1,6 +1,6 @@
 -- `replay::print_table` ends: 256 entries are printed.
+use native.Mathlib.Omega.{arith}
 use Prim.Native.Nat.{_≤_, _-_}
-use borrow.Author.Needs.{needs}
 use Rattle.replay.proofs.print_table.Statement.{statement}
 use Rattle.replay.proofs.print_table.Tie as tie
 
@@ -16,4 +16,4 @@ print-table-spec =
     (tie.spec
     Inv-loop
     μ-loop
-    (λ c. search needs) (λ c. search needs) (λ c κs. search needs) (λ c. search needs) (λ c. search needs) (λ c. search needs) (λ c. search needs))
+    (omega arith) (omega arith) (omega arith) (omega arith) (omega arith) (omega arith) (omega arith))

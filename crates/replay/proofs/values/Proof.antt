@@ -1,6 +1,6 @@
 -- `replay::values` ends: there are 256.
+use native.Mathlib.Omega.{arith}
 use Prim.Native.Nat.{_≤_, _-_}
-use borrow.Author.Needs.{needs}
 use Rattle.replay.proofs.values.Statement.{statement}
 use Rattle.replay.proofs.values.Tie as tie
 
@@ -16,5 +16,4 @@ values-spec =
     (tie.spec
     Inv-loop
     μ-loop
-    (λ c. search needs) (λ c κs. search needs) (λ c. search needs) (λ c. search needs) (λ c. search needs) (λ c. search needs) (λ c. search needs)
-    (λ c. search needs))
+    (omega arith) (omega arith) (omega arith) (omega arith) (omega arith) (omega arith) (omega arith) (omega arith))

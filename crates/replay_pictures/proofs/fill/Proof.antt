@@ -1,4 +1,5 @@
 -- `replay_pictures::fill` ends: each place is filled once.
+use native.Mathlib.Omega.{arith}
 use Prim.Native.Nat.{_≤_, _-_}
 use mathlib.Core.Path.{_≡_}
 use lib.ListN.{length}
@@ -18,5 +19,4 @@ fill-spec =
     (tie.spec
     Inv-loop
     μ-loop
-    (λ c. search needs) (λ c. search needs) (λ c κs. search needs) (λ c. search needs) (λ c. search needs) (λ c. search needs) (λ c. search needs)
-    (λ c. search needs) (λ c. search needs))
+    (omega arith) (omega arith) (omega arith) (omega arith) (omega arith) (omega arith) (λ c. search needs) (omega arith) (omega arith))

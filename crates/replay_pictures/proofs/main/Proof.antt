@@ -1,5 +1,5 @@
 -- `replay_pictures::main` ends: a turn is taken off each time.
-use borrow.Author.Needs.{needs}
+use native.Mathlib.Omega.{arith}
 use Rattle.replay_pictures.proofs.main.Statement.{statement}
 use Rattle.replay_pictures.proofs.main.Tie as tie
 
@@ -15,4 +15,4 @@ main-spec =
     (tie.spec
     Inv-loop
     μ-loop
-    (λ c. search needs) (λ c κs. search needs) (λ c. search needs) (λ c. search needs) (λ c. search needs) (λ c. search needs) (λ c. search needs))
+    (omega arith) (omega arith) (omega arith) (omega arith) (omega arith) (omega arith) (omega arith))

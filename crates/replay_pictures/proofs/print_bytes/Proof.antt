@@ -1,7 +1,7 @@
 -- `replay_pictures::print_bytes` ends: each byte is printed once.
+use native.Mathlib.Omega.{arith}
 use Prim.Native.Nat.{_≤_, _-_}
 use lib.ListN.{length}
-use borrow.Author.Needs.{needs}
 use Rattle.replay_pictures.proofs.print_bytes.Statement.{statement}
 use Rattle.replay_pictures.proofs.print_bytes.Tie as tie
 
@@ -17,4 +17,4 @@ print-bytes-spec =
     (tie.spec
     Inv-loop
     μ-loop
-    (λ c. search needs) (λ c. search needs) (λ c κs. search needs) (λ c. search needs) (λ c. search needs) (λ c. search needs) (λ c. search needs))
+    (omega arith) (omega arith) (omega arith) (omega arith) (omega arith) (omega arith) (omega arith))

@@ -2,7 +2,6 @@
 use mathlib.Core.Path.{sym}
 use native.Mathlib.Omega.{arith}
 use lib.Seq.{length-take-le}
-use borrow.Author.Needs.{needs}
 use Rattle.replay_pictures.proofs.tone_front.Statement.{statement}
 use Rattle.replay_pictures.proofs.tone_front.Tie as tie
 
@@ -10,7 +9,7 @@ pub tone-front-spec : {M : Type 1} → statement M
 tone-front-spec =
     tie.close
     (tie.spec
-    (λ c. search needs)
+    (omega arith)
     (λ c. sym (length-take-le _ _ (omega arith)))
-    (λ c κs. search needs) (λ c. search needs) (λ c κs. search needs) (λ c κs. search needs) (λ c κs. search needs) (λ c κs. search needs)
-    (λ c. search needs) (λ c κs. search needs) (λ c. search needs) (λ c κs. search needs) (λ c. search needs) (λ c. search needs) (λ c. search needs))
+    (omega arith) (omega arith) (omega arith) (omega arith) (omega arith) (omega arith) (omega arith) (omega arith) (omega arith) (omega arith)
+    (omega arith) (omega arith) (omega arith))

@@ -1,6 +1,6 @@
 -- `replay_records::list` ends: so many records at most are read.
+use native.Mathlib.Omega.{arith}
 use Prim.Native.Nat.{_≤_, _-_}
-use borrow.Author.Needs.{needs}
 use Rattle.replay_records.proofs.list.Statement.{statement}
 use Rattle.replay_records.proofs.list.Tie as tie
 
@@ -16,4 +16,4 @@ list-spec =
     (tie.spec
     Inv-loop
     μ-loop
-    (λ c. search needs) (λ c κs. search needs) (λ c. search needs) (λ c. search needs) (λ c. search needs) (λ c. search needs) (λ c. search needs))
+    (omega arith) (omega arith) (omega arith) (omega arith) (omega arith) (omega arith) (omega arith))

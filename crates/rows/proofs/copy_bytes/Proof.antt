@@ -1,6 +1,5 @@
 -- `rows::copy_bytes` meets its contract: one store after another.
 use native.Mathlib.Omega.{arith}
-use borrow.Author.Needs.{needs}
 use mathlib.Core.Path.{refl}
 use Prim.Native.Nat.{_≤_, _-_}
 use lib.ListN.{length}
@@ -16,26 +15,11 @@ abbrev μ-loop : tie.MeasureT-loop
 μ-loop src dst₀ n i₀ dst i = length src - i
 
 loop-holds : tie.Need-loop-holds Inv-loop μ-loop
-loop-holds c = (search needs, stored-none)
-
-shared-slice-read-dst : tie.Need-shared-slice-read-dst Inv-loop μ-loop
-shared-slice-read-dst c = search needs
-
-slice-write-dst : tie.Need-slice-write-dst Inv-loop μ-loop
-slice-write-dst c = search needs
-
-add-i : tie.Need-add-i Inv-loop μ-loop
-add-i c = search needs
-
-loop-less : tie.Need-loop-less Inv-loop μ-loop
-loop-less c = search needs
+loop-holds c = (omega arith, stored-none)
 
 loop-again : tie.Need-loop-again Inv-loop μ-loop
 unfolding elementOf
-loop-again c = (search needs, stored-next (c .before .before .loop .inv .1) refl)
-
-same-length : tie.Need-same-length Inv-loop μ-loop
-same-length c = search needs
+loop-again c = (omega arith, stored-next (c .before .before .loop .inv .1) refl)
 
 returns : tie.Need-returns Inv-loop μ-loop
 returns c = stored-copy 0 _ (c .before .loop .inv .1) (omega arith) (omega arith)
@@ -47,10 +31,7 @@ copy-bytes-spec =
     Inv-loop
     μ-loop
     loop-holds
-    shared-slice-read-dst
-    slice-write-dst
-    add-i
-    loop-less
+    (omega arith) (omega arith) (omega arith) (omega arith)
     loop-again
-    same-length
+    (omega arith)
     returns)

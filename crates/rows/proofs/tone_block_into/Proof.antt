@@ -1,6 +1,5 @@
 -- `rows::tone_block_into` meets its contract: the copy is the original, and then it is toned.
 use native.Mathlib.Omega.{arith}
-use borrow.Author.Needs.{needs}
 use mathlib.Core.Path.{_∙_}
 use native.Mathlib.Nat.{mod-one}
 use Rattle.rows.specs.Bytes.{three, rowByte, plainByte}
@@ -8,15 +7,6 @@ use Rattle.rows.specs.Rows.{alphaOf}
 use Rattle.rows.proofs.Walk.{plain-row, copied-each, four}
 use Rattle.rows.proofs.tone_block_into.Statement.{statement}
 use Rattle.rows.proofs.tone_block_into.Tie as tie
-
-copy-bytes-requires : tie.Need-copy-bytes-requires
-copy-bytes-requires c κs = search needs
-
-tone-bytes-requires : tie.Need-tone-bytes-requires
-tone-bytes-requires c κs = search needs
-
-same-length : tie.Need-same-length
-same-length c = search needs
 
 returns : tie.Need-returns
 unfolding alphaOf
@@ -42,9 +32,6 @@ tone-colours-alpha-requires c κs =
     let size = rw (four (start .pre .0) (c .before .before .if1 .left) (c .before .if2 .left)) at (start .pre .2) in
     omega arith
 
-same-length-2 : tie.Need-same-length-2
-same-length-2 c = search needs
-
 returns-2 : tie.Need-returns-2
 unfolding alphaOf
 returns-2 c =
@@ -55,9 +42,6 @@ returns-2 c =
     let tables = three (given .red .now) (given .green .now) (given .blue .now) in
     rw (test .if2 .taken)
     (copied-each (rowByte 3 3 tables) (given .src .now) (given .dst .now) (omega arith) (copy .copy-bytes .ensures) (k .tone-colours .ensures))
-
-same-length-3 : tie.Need-same-length-3
-same-length-3 c = search needs
 
 returns-3 : tie.Need-returns-3
 unfolding alphaOf
@@ -75,13 +59,11 @@ pub tone-block-into-spec : {M : Type 1} → statement M
 tone-block-into-spec =
     tie.close
     (tie.spec
-    copy-bytes-requires
-    tone-bytes-requires
-    same-length
+    (omega arith) (omega arith) (omega arith)
     returns
     tone-colours-requires
     tone-colours-alpha-requires
-    same-length-2
+    (omega arith)
     returns-2
-    same-length-3
+    (omega arith)
     returns-3)

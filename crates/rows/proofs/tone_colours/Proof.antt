@@ -1,6 +1,5 @@
 -- `rows::tone_colours` meets its contract: pixel after pixel.
 use native.Mathlib.Omega.{arith}
-use borrow.Author.Needs.{needs}
 use mathlib.Core.Path.{refl}
 use Prim.Native.Nat.{_≤_, _-_, _*_}
 use Rattle.lists.specs.Replaced.{Replaced, replaced-none, replaced-end, replaced-each}
@@ -16,19 +15,7 @@ abbrev μ-loop : tie.MeasureT-loop
 μ-loop s₀ w red green blue x₀ s x = w - x
 
 loop-holds : tie.Need-loop-holds Inv-loop μ-loop
-loop-holds c = (search needs, replaced-none)
-
-mul-tone-pixel : tie.Need-mul-tone-pixel Inv-loop μ-loop
-mul-tone-pixel c = search needs
-
-tone-pixel-requires : tie.Need-tone-pixel-requires Inv-loop μ-loop
-tone-pixel-requires c κs = search needs
-
-add-x : tie.Need-add-x Inv-loop μ-loop
-add-x c = search needs
-
-loop-less : tie.Need-loop-less Inv-loop μ-loop
-loop-less c = search needs
+loop-holds c = (omega arith, replaced-none)
 
 loop-again : tie.Need-loop-again Inv-loop μ-loop
 loop-again c =
@@ -38,10 +25,7 @@ loop-again c =
     let x = start .loop .x in
     let tables = three (given .red .now) (given .green .now) (given .blue .now) in
     let r = colours-next 3 tables x (omega arith) (omega arith) refl (start .loop .inv .1) (k .tone-pixel .ensures) in
-    (search needs, replaced-end r (omega arith))
-
-same-length : tie.Need-same-length Inv-loop μ-loop
-same-length c = search needs
+    (omega arith, replaced-end r (omega arith))
 
 returns : tie.Need-returns Inv-loop μ-loop
 returns c = replaced-each (c .before .loop .inv .1) (omega arith)
@@ -53,10 +37,7 @@ tone-colours-spec =
     Inv-loop
     μ-loop
     loop-holds
-    mul-tone-pixel
-    tone-pixel-requires
-    add-x
-    loop-less
+    (omega arith) (omega arith) (omega arith) (omega arith)
     loop-again
-    same-length
+    (omega arith)
     returns)

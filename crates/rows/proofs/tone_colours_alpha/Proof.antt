@@ -1,6 +1,5 @@
 -- `rows::tone_colours_alpha` meets its contract: the pairs, and the last pixel if their number is odd.
 use native.Mathlib.Omega.{arith}
-use borrow.Author.Needs.{needs}
 use mathlib.Core.Path.{refl}
 use Prim.Native.Nat.{_-_}
 use Rattle.lists.specs.Replaced.{replaced-end, replaced-each}
@@ -8,21 +7,6 @@ use Rattle.rows.specs.Bytes.{three}
 use Rattle.rows.proofs.Walk.{colours-next}
 use Rattle.rows.proofs.tone_colours_alpha.Statement.{statement}
 use Rattle.rows.proofs.tone_colours_alpha.Tie as tie
-
-tone-pairs-requires : tie.Need-tone-pairs-requires
-tone-pairs-requires c κs = search needs
-
-sub-tone-pixel : tie.Need-sub-tone-pixel
-sub-tone-pixel c = search needs
-
-mul-tone-pixel : tie.Need-mul-tone-pixel
-mul-tone-pixel c = search needs
-
-tone-pixel-requires : tie.Need-tone-pixel-requires
-tone-pixel-requires c κs = search needs
-
-same-length : tie.Need-same-length
-same-length c = search needs
 
 returns : tie.Need-returns
 returns c =
@@ -35,21 +19,9 @@ returns c =
     (colours-next 4 tables x (omega arith) (omega arith) refl (replaced-end (pairs .tone-pairs .ensures) (omega arith)) (last .tone-pixel .ensures))
     (omega arith)
 
-same-length-2 : tie.Need-same-length-2
-same-length-2 c = search needs
-
 returns-2 : tie.Need-returns-2
 returns-2 c = replaced-each (c .before .before .before .tone-pairs .ensures) (omega arith)
 
 pub tone-colours-alpha-spec : {M : Type 1} → statement M
 tone-colours-alpha-spec =
-    tie.close
-    (tie.spec
-    tone-pairs-requires
-    sub-tone-pixel
-    mul-tone-pixel
-    tone-pixel-requires
-    same-length
-    returns
-    same-length-2
-    returns-2)
+    tie.close (tie.spec (omega arith) (omega arith) (omega arith) (omega arith) (omega arith) returns (omega arith) returns-2)

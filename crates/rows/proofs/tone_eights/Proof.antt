@@ -1,6 +1,5 @@
 -- `rows::tone_eights` meets its contract: eight after eight; fewer than eight are left.
 use native.Mathlib.Omega.{arith}
-use borrow.Author.Needs.{needs}
 use mathlib.Core.Path.{_≡_, refl}
 use Prim.Native.Nat.{_+_, _%_}
 use lib.ListN.{length}
@@ -16,36 +15,17 @@ abbrev μ-loop : tie.MeasureT-loop
 μ-loop s₀ table i₀ left₀ s i left = left
 
 loop-holds : tie.Need-loop-holds Inv-loop μ-loop
-loop-holds c = (search needs, refl, replaced-none)
-
-tone-eight-requires : tie.Need-tone-eight-requires Inv-loop μ-loop
-tone-eight-requires c κs = search needs
-
-add-i : tie.Need-add-i Inv-loop μ-loop
-add-i c = search needs
-
-loop-less : tie.Need-loop-less Inv-loop μ-loop
-loop-less c = search needs
+loop-holds c = (omega arith, refl, replaced-none)
 
 loop-again : tie.Need-loop-again Inv-loop μ-loop
-loop-again c = let k = c .before .before in let inv = k .before .before .before .loop .inv in (omega arith, omega arith, replaced-then (inv .2) (k .tone-eight .ensures))
-
-same-length : tie.Need-same-length Inv-loop μ-loop
-same-length c = search needs
+loop-again c =
+    let k = c .before .before in
+    let inv = k .before .before .before .loop .inv in
+    (omega arith, omega arith, replaced-then (inv .2) (k .tone-eight .ensures))
 
 returns : tie.Need-returns Inv-loop μ-loop
 returns c = replaced-end (c .before .loop .inv .2) (omega arith)
 
 pub tone-eights-spec : {M : Type 1} → statement M
 tone-eights-spec =
-    tie.close
-    (tie.spec
-    Inv-loop
-    μ-loop
-    loop-holds
-    tone-eight-requires
-    add-i
-    loop-less
-    loop-again
-    same-length
-    returns)
+    tie.close (tie.spec Inv-loop μ-loop loop-holds (omega arith) (omega arith) (omega arith) loop-again (omega arith) returns)

@@ -1,6 +1,5 @@
 -- `rows::tone_grey_alpha` meets its contract: pixel after pixel, one byte toned and one kept.
 use native.Mathlib.Omega.{arith}
-use borrow.Author.Needs.{needs}
 use mathlib.Core.Path.{refl}
 use Prim.Native.Nat.{_≤_, _-_, _*_}
 use Rattle.lists.specs.Replaced.{Replaced, replaced-none, replaced-end, replaced-each}
@@ -16,19 +15,7 @@ abbrev μ-loop : tie.MeasureT-loop
 μ-loop s₀ w table x₀ s x = w - x
 
 loop-holds : tie.Need-loop-holds Inv-loop μ-loop
-loop-holds c = (search needs, replaced-none)
-
-mul-tone-one : tie.Need-mul-tone-one Inv-loop μ-loop
-mul-tone-one c = search needs
-
-tone-one-requires : tie.Need-tone-one-requires Inv-loop μ-loop
-tone-one-requires c κs = search needs
-
-add-x : tie.Need-add-x Inv-loop μ-loop
-add-x c = search needs
-
-loop-less : tie.Need-loop-less Inv-loop μ-loop
-loop-less c = search needs
+loop-holds c = (omega arith, replaced-none)
 
 loop-again : tie.Need-loop-again Inv-loop μ-loop
 unfolding plainByte
@@ -38,10 +25,7 @@ loop-again c =
     let r =
     pixel-next 2 1 (same (start .before .before .args .table .now)) (start .loop .x) refl (start .loop .inv .1) (k .tone-one .ensures)
     (omega arith) (omega arith) (λ j low high. omega arith) (λ j lt b. refl) in
-    (search needs, replaced-end r (omega arith))
-
-same-length : tie.Need-same-length Inv-loop μ-loop
-same-length c = search needs
+    (omega arith, replaced-end r (omega arith))
 
 returns : tie.Need-returns Inv-loop μ-loop
 returns c = replaced-each (c .before .loop .inv .1) (omega arith)
@@ -53,10 +37,7 @@ tone-grey-alpha-spec =
     Inv-loop
     μ-loop
     loop-holds
-    mul-tone-one
-    tone-one-requires
-    add-x
-    loop-less
+    (omega arith) (omega arith) (omega arith) (omega arith)
     loop-again
-    same-length
+    (omega arith)
     returns)

@@ -1,6 +1,5 @@
 -- `rows::tone_pairs` meets its contract: two pixels a turn; at most one is left.
 use native.Mathlib.Omega.{arith}
-use borrow.Author.Needs.{needs}
 use mathlib.Core.Path.{_≡_}
 use Prim.Native.Nat.{_≤_, _-_, _+_, _*_, _%_}
 use Rattle.lists.specs.Replaced.{Replaced, replaced-none, replaced-end}
@@ -17,22 +16,7 @@ abbrev μ-loop : tie.MeasureT-loop
 μ-loop s₀ w red green blue i₀ left₀ s i left = left
 
 loop-holds : tie.Need-loop-holds Inv-loop μ-loop
-loop-holds c = (search needs, omega arith, omega arith, replaced-none)
-
-tone-pixel-requires : tie.Need-tone-pixel-requires Inv-loop μ-loop
-tone-pixel-requires c κs = search needs
-
-add-tone-pixel : tie.Need-add-tone-pixel Inv-loop μ-loop
-add-tone-pixel c = search needs
-
-tone-pixel-requires-2 : tie.Need-tone-pixel-requires-2 Inv-loop μ-loop
-tone-pixel-requires-2 c κs = search needs
-
-add-i : tie.Need-add-i Inv-loop μ-loop
-add-i c = search needs
-
-loop-less : tie.Need-loop-less Inv-loop μ-loop
-loop-less c = search needs
+loop-holds c = (omega arith, omega arith, omega arith, replaced-none)
 
 loop-again : tie.Need-loop-again Inv-loop μ-loop
 loop-again c =
@@ -46,9 +30,6 @@ loop-again c =
     let two = colours-next 4 tables (x + 1) (omega arith) (omega arith) (omega arith) one (second .tone-pixel2 .ensures) in
     (omega arith, omega arith, omega arith, replaced-end two (omega arith))
 
-same-length : tie.Need-same-length Inv-loop μ-loop
-same-length c = search needs
-
 returns : tie.Need-returns Inv-loop μ-loop
 returns c = replaced-end (c .before .loop .inv .3) (omega arith)
 
@@ -59,11 +40,7 @@ tone-pairs-spec =
     Inv-loop
     μ-loop
     loop-holds
-    tone-pixel-requires
-    add-tone-pixel
-    tone-pixel-requires-2
-    add-i
-    loop-less
+    (omega arith) (omega arith) (omega arith) (omega arith) (omega arith)
     loop-again
-    same-length
+    (omega arith)
     returns)

@@ -1,30 +1,11 @@
 -- `rows::tone_pixel` meets its contract: one colour after another.
 use native.Mathlib.Omega.{arith}
-use borrow.Author.Needs.{needs}
 use mathlib.Core.Path.{refl}
 use Rattle.lists.specs.Replaced.{replaced-then, replaced-end}
 use Rattle.rows.specs.Bytes.{three}
 use Rattle.rows.proofs.Walk.{pixel-byte}
 use Rattle.rows.proofs.tone_pixel.Statement.{statement}
 use Rattle.rows.proofs.tone_pixel.Tie as tie
-
-tone-one-requires : tie.Need-tone-one-requires
-tone-one-requires c κs = search needs
-
-add-tone-one : tie.Need-add-tone-one
-add-tone-one c = search needs
-
-tone-one-requires-2 : tie.Need-tone-one-requires-2
-tone-one-requires-2 c κs = search needs
-
-add-tone-one-2 : tie.Need-add-tone-one-2
-add-tone-one-2 c = search needs
-
-tone-one-requires-3 : tie.Need-tone-one-requires-3
-tone-one-requires-3 c κs = search needs
-
-same-length : tie.Need-same-length
-same-length c = search needs
 
 returns : tie.Need-returns
 returns c =
@@ -39,12 +20,4 @@ returns c =
 
 pub tone-pixel-spec : {M : Type 1} → statement M
 tone-pixel-spec =
-    tie.close
-    (tie.spec
-    tone-one-requires
-    add-tone-one
-    tone-one-requires-2
-    add-tone-one-2
-    tone-one-requires-3
-    same-length
-    returns)
+    tie.close (tie.spec (omega arith) (omega arith) (omega arith) (omega arith) (omega arith) (omega arith) returns)

@@ -1,16 +1,10 @@
 -- `rows::tone_row` meets its contract: the tests find which pixels these are.
-use borrow.Author.Needs.{needs}
+use native.Mathlib.Omega.{arith}
 use mathlib.Core.Path.{refl, _∙_}
 use Rattle.rows.specs.Bytes.{same}
 use Rattle.rows.proofs.Walk.{plain-row, some-bytes, last-of-two, last-of-four, one-table}
 use Rattle.rows.proofs.tone_row.Statement.{statement}
 use Rattle.rows.proofs.tone_row.Tie as tie
-
-tone-bytes-requires : tie.Need-tone-bytes-requires
-tone-bytes-requires c κs = search needs
-
-same-length : tie.Need-same-length
-same-length c = search needs
 
 returns : tie.Need-returns
 returns c =
@@ -29,18 +23,12 @@ tone-colours-alpha-requires c κs =
     let start = c .before .before .before .before in
     rw (last-of-four (start .pre .0) (c .before .before .if1 .left) (c .before .if2 .left) .0) at (start .pre .1)
 
-same-length-2 : tie.Need-same-length-2
-same-length-2 c = search needs
-
 returns-2 : tie.Need-returns-2
 returns-2 c =
     let k = c .before .before in
     let start = k .before .before .before .before .before in
     let two = k .before .before .if2 .taken in
     rw (two, last-of-two (start .pre .0) (k .before .before .before .if1 .left) two) (k .tone-grey-alpha .ensures)
-
-same-length-3 : tie.Need-same-length-3
-same-length-3 c = search needs
 
 returns-3 : tie.Need-returns-3
 returns-3 c =
@@ -53,12 +41,11 @@ pub tone-row-spec : {M : Type 1} → statement M
 tone-row-spec =
     tie.close
     (tie.spec
-    tone-bytes-requires
-    same-length
+    (omega arith) (omega arith)
     returns
     tone-grey-alpha-requires
     tone-colours-alpha-requires
-    same-length-2
+    (omega arith)
     returns-2
-    same-length-3
+    (omega arith)
     returns-3)

@@ -1,6 +1,5 @@
 -- `rows::tone_rows` meets its contract: row after row, each with the padding behind it.
 use native.Mathlib.Omega.{arith}
-use borrow.Author.Needs.{needs}
 use mathlib.Core.Path.{_≡_}
 use Prim.Native.Nat.{_≤_, _-_, _*_}
 use native.Mathlib.Nat.{zero-mul}
@@ -26,11 +25,8 @@ returns c =
     plane-narrow (given .w * given .p) (given .h) (given .step) (rowByte (given .p) (given .kept) (same (given .table .now))) (given .plane .now)
     (rw (c .if1 .taken) (zero-mul _))
 
-mul-row : tie.Need-mul-row Inv-loop μ-loop
-mul-row c = search needs
-
 loop-holds : tie.Need-loop-holds Inv-loop μ-loop
-loop-holds c = (search needs, search needs, replaced-end replaced-none (omega arith))
+loop-holds c = (omega arith, omega arith, replaced-end replaced-none (omega arith))
 
 -- the row lies in the plane, so its bounds fit too
 part-tone-row-end : tie.Need-part-tone-row-end Inv-loop μ-loop
@@ -43,21 +39,6 @@ mul-at c = omega (arith, part-tone-row-end c)
 add-end : tie.Need-add-end Inv-loop μ-loop
 add-end c = omega (arith, part-tone-row-end c)
 
-sub-tone-row : tie.Need-sub-tone-row Inv-loop μ-loop
-sub-tone-row c = search needs
-
-part-tone-row-start : tie.Need-part-tone-row-start Inv-loop μ-loop
-part-tone-row-start c = search needs
-
-tone-row-requires : tie.Need-tone-row-requires Inv-loop μ-loop
-tone-row-requires c κs = search needs
-
-add-y : tie.Need-add-y Inv-loop μ-loop
-add-y c = search needs
-
-loop-less : tie.Need-loop-less Inv-loop μ-loop
-loop-less c = search needs
-
 loop-again : tie.Need-loop-again Inv-loop μ-loop
 loop-again c =
     let k = c .before .before in
@@ -65,14 +46,11 @@ loop-again c =
     let start = here .before .before .before .before in
     let given = start .args in
     let rule = rowByte (given .p) (given .kept) (same (given .table .now)) in (
-      search needs,
-      search needs,
+      omega arith,
+      omega arith,
       plane-next (given .w * given .p) (given .h) (given .step) rule (here .before .loop .y) (start .pre .1 .stepped) (here .loop-test .taken)
           (part-tone-row-end here) (here .before .loop .inv .2) (k .tone-row .ensures),
     )
-
-same-length : tie.Need-same-length Inv-loop μ-loop
-same-length c = search needs
 
 returns-2 : tie.Need-returns-2 Inv-loop μ-loop
 returns-2 c =
@@ -90,16 +68,14 @@ tone-rows-spec =
     Inv-loop
     μ-loop
     returns
-    mul-row
+    (omega arith)
     loop-holds
     mul-at
     add-end
-    sub-tone-row
-    part-tone-row-start
+    (omega arith) (omega arith)
     part-tone-row-end
-    tone-row-requires
-    add-y
-    loop-less
+    (λ c κs. (c .before .before .before .before .before .pre .0, omega arith))
+    (omega arith) (omega arith)
     loop-again
-    same-length
+    (omega arith)
     returns-2)

@@ -1,6 +1,5 @@
 -- `rows::tone_rows_into` meets its contract: row after row, at the step out of the plane and tight into the destination.
 use native.Mathlib.Omega.{arith}
-use borrow.Author.Needs.{needs}
 use mathlib.Core.Path.{_≡_}
 use Prim.Native.Nat.{_≤_, _-_, _*_}
 use native.Mathlib.Nat.{zero-mul, mul-zero}
@@ -28,11 +27,8 @@ returns c =
     filled-none (given .h * (given .w * given .p)) (tightByte (given .w * given .p) (given .step) rule (given .plane .now)) (given .dst .now)
     (rw (c .if1 .taken, zero-mul) (mul-zero _))
 
-mul-row : tie.Need-mul-row Inv-loop μ-loop
-mul-row c = search needs
-
 loop-holds : tie.Need-loop-holds Inv-loop μ-loop
-loop-holds c = (search needs, search needs, stored-end stored-none (omega arith))
+loop-holds c = (omega arith, omega arith, stored-end stored-none (omega arith))
 
 -- the row lies in the plane, so its bounds fit too
 part-tone-row-into-end : tie.Need-part-tone-row-into-end Inv-loop μ-loop
@@ -53,31 +49,10 @@ add-to-end c =
 mul-to : tie.Need-mul-to Inv-loop μ-loop
 mul-to c = omega (arith, add-to-end c)
 
-sub-tone-row-into : tie.Need-sub-tone-row-into Inv-loop μ-loop
-sub-tone-row-into c = search needs
-
-part-tone-row-into-start : tie.Need-part-tone-row-into-start Inv-loop μ-loop
-part-tone-row-into-start c = search needs
-
-sub-tone-row-into-2 : tie.Need-sub-tone-row-into-2 Inv-loop μ-loop
-sub-tone-row-into-2 c = search needs
-
-part-tone-row-into-start-2 : tie.Need-part-tone-row-into-start-2 Inv-loop μ-loop
-part-tone-row-into-start-2 c = search needs
-
 part-tone-row-into-end-2 : tie.Need-part-tone-row-into-end-2 Inv-loop μ-loop
 part-tone-row-into-end-2 c =
     let given = c .before .before .before .before .before .before .args in
     omega (arith, mul-room (c .before .before .loop .y) (given .h) (given .w * given .p) (c .before .loop-test .taken))
-
-tone-row-into-requires : tie.Need-tone-row-into-requires Inv-loop μ-loop
-tone-row-into-requires c κs = search needs
-
-add-y : tie.Need-add-y Inv-loop μ-loop
-add-y c = search needs
-
-loop-less : tie.Need-loop-less Inv-loop μ-loop
-loop-less c = search needs
 
 loop-again : tie.Need-loop-again Inv-loop μ-loop
 loop-again c =
@@ -85,14 +60,11 @@ loop-again c =
     let here = k .before .before .before in
     let given = here .before .before .before .before .before .args in
     let rule = rowByte (given .p) (alphaOf (given .p)) (three (given .red .now) (given .green .now) (given .blue .now)) in (
-      search needs,
-      search needs,
+      omega arith,
+      omega arith,
       tight-next (given .w * given .p) (given .step) rule (given .plane .now) (here .before .loop .y) (part-tone-row-into-end here)
           (part-tone-row-into-end-2 (k .before .before)) (here .before .loop .inv .2) (k .tone-row-into .ensures),
     )
-
-same-length : tie.Need-same-length Inv-loop μ-loop
-same-length c = search needs
 
 returns-2 : tie.Need-returns-2 Inv-loop μ-loop
 returns-2 c =
@@ -107,21 +79,18 @@ tone-rows-into-spec =
     Inv-loop
     μ-loop
     returns
-    mul-row
+    (omega arith)
     loop-holds
     mul-from
     add-from-end
     mul-to
     add-to-end
-    sub-tone-row-into
-    part-tone-row-into-start
+    (omega arith) (omega arith)
     part-tone-row-into-end
-    sub-tone-row-into-2
-    part-tone-row-into-start-2
+    (omega arith) (omega arith)
     part-tone-row-into-end-2
-    tone-row-into-requires
-    add-y
-    loop-less
+    (λ c κs. (c .before .before .before .before .before .before .before .pre .0, omega arith, omega arith))
+    (omega arith) (omega arith)
     loop-again
-    same-length
+    (omega arith)
     returns-2)

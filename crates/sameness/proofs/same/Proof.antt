@@ -1,5 +1,5 @@
 -- `same`: member by member.
-use borrow.Author.Needs.{needs}
+use native.Mathlib.Omega.{arith}
 use Rattle.sameness.proofs.Deciding.{decides-as, decides-both}
 use Rattle.sameness.proofs.same.Statement.{statement}
 use Rattle.sameness.proofs.same.Tie as tie
@@ -15,4 +15,4 @@ returns c =
     (blue .same-channel3 .ensures)) (c .same-kind .ensures))
 
 pub same-spec : {M : Type 1} → statement M
-same-spec = tie.close (tie.spec (search needs) (search needs) (search needs) (search needs) (search needs) returns)
+same-spec = tie.close (tie.spec (omega arith) (omega arith) (omega arith) (omega arith) (omega arith) returns)

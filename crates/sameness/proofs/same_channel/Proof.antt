@@ -1,7 +1,7 @@
 -- `same_channel`: present together, with the same list, or absent together.
+use native.Mathlib.Omega.{arith}
 use mathlib.Core.Path.{sym, _∙_}
 use mathlib.Core.Bool.{false≢true}
-use borrow.Author.Needs.{needs}
 use Rattle.sameness.proofs.Deciding.{decides-as, decides-both, decides-on, decides-off}
 use Rattle.sameness.proofs.same_channel.Statement.{statement}
 use Rattle.sameness.proofs.same_channel.Tie as tie
@@ -19,4 +19,4 @@ returns-2 c =
     (λ s. sym (s .present) ∙ missing) (decides-off _)
 
 pub same-channel-spec : {M : Type 1} → statement M
-same-channel-spec = tie.close (tie.spec (search needs) returns returns-2)
+same-channel-spec = tie.close (tie.spec (omega arith) returns returns-2)

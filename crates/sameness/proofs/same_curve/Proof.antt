@@ -40,4 +40,4 @@ returns-3 c =
     (take-all 64 (b .points) (omega arith) ∙ sym (take-all (b .count) (b .points) (omega arith))) (c .same-points2 .ensures)
 
 pub same-curve-spec : {M : Type 1} → statement M
-same-curve-spec = tie.close (tie.spec returns (search needs) (search needs) returns-2 returns-3)
+same-curve-spec = tie.close (tie.spec returns (omega arith) (omega arith) returns-2 returns-3)

@@ -1,6 +1,6 @@
 -- `same_kind`: a kind is known by its number and what it carries.
+use native.Mathlib.Omega.{arith}
 use mathlib.Core.Path.{sym, ap, _∙_}
-use borrow.Author.Needs.{needs}
 use Rattle.tables.specs.Kinds.{kindNumber}
 use Rattle.sets.specs.Carried.{carriedOf, kind-unique}
 use Rattle.sameness.proofs.Deciding.{decides-as, decides-both, decides-equal}
@@ -17,4 +17,4 @@ returns c =
     (λ e. (n ∙ ap kindNumber e ∙ sym m, p ∙ ap carriedOf e ∙ sym q)) (decides-both (decides-equal _ _) (c .same-carried .ensures))
 
 pub same-kind-spec : {M : Type 1} → statement M
-same-kind-spec = tie.close (tie.spec (search needs) (search needs) (search needs) (search needs) (search needs) returns)
+same-kind-spec = tie.close (tie.spec (omega arith) (omega arith) (omega arith) (omega arith) (omega arith) returns)

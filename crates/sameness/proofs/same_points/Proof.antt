@@ -55,8 +55,8 @@ same-points-spec =
     (tie.spec
     Inv-loop
     μ-loop
-    (search needs) (search needs) (search needs) (search needs) (search needs) (search needs)
+    (search needs) (omega arith) (omega arith) (omega arith) (omega arith) (omega arith)
     returns
-    (search needs) (search needs)
+    (omega arith) (omega arith)
     loop-again
     returns-2)

@@ -1,4 +1,5 @@
 -- `begin`: blocks where the guesses are right, else nothing.
+use native.Mathlib.Omega.{arith}
 use mathlib.Core.Path.{refl}
 use borrow.Author.Needs.{needs}
 use Rattle.sampling.proofs.Walk.{start}
@@ -24,7 +25,7 @@ pub begin-spec : {M : Type 1} → statement M
 begin-spec =
     tie.close
     (tie.spec
-    (λ c κs. search needs)
+    (omega arith)
     draw-requires
-    (λ c. search needs) (λ c. search needs)
+    (omega arith) (λ c. search needs)
     (λ c. start _ _ _ _ _ _ refl (c .before .before .before .before .pre .0 .0)))

@@ -1,4 +1,5 @@
 -- `draw`: whichever the form, its module's loop.
+use native.Mathlib.Omega.{arith}
 use borrow.Author.Needs.{needs}
 use Rattle.sampling.proofs.draw.Statement.{statement}
 use Rattle.sampling.proofs.draw.Tie as tie
@@ -16,7 +17,9 @@ pub draw-spec : {M : Type 1} → statement M
 draw-spec =
     tie.close
     (tie.spec
-    (λ c. search needs) (λ c κs. search needs) (λ c. search needs) (λ c κs. search needs) (λ c. search needs) (λ c κs. search needs)
-    (λ c. search needs) returns
-    (λ c. search needs) returns-2
-    (λ c. search needs) returns-3)
+    (omega arith) (λ c κs. search needs) (omega arith) (λ c κs. search needs) (omega arith) (λ c κs. search needs) (omega arith)
+    returns
+    (omega arith)
+    returns-2
+    (omega arith)
+    returns-3)

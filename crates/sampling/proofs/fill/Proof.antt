@@ -17,4 +17,4 @@ returns c =
     rw (r .before .before .before .before .begin .ensures .long) at (r .rest .ensures)
 
 pub fill-spec : {M : Type 1} → statement M
-fill-spec = tie.close (tie.spec (λ c κs. search needs) (λ c κs. search needs) rest-requires (λ c. search needs) returns)
+fill-spec = tie.close (tie.spec (omega arith) (λ c κs. search needs) rest-requires (omega arith) returns)

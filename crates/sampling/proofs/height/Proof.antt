@@ -1,5 +1,5 @@
 -- `height`: the definition's cases.
-use borrow.Author.Needs.{needs}
+use native.Mathlib.Omega.{arith}
 use Rattle.sampling.specs.Pieces.{heightOf}
 use Rattle.sampling.proofs.height.Statement.{statement}
 use Rattle.sampling.proofs.height.Tie as tie
@@ -20,6 +20,5 @@ pub height-spec : {M : Type 1} → statement M
 height-spec =
     tie.close
     (tie.spec
-    (λ c. search needs) (λ c κs. search needs) (λ c κs. search needs) (λ c. search needs) (λ c κs. search needs) (λ c κs. search needs)
-    (λ c. search needs) (λ c κs. search needs)
+    (omega arith) (omega arith) (omega arith) (omega arith) (omega arith) (omega arith) (omega arith) (omega arith)
     returns returns-2 returns-3)

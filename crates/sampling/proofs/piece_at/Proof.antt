@@ -1,9 +1,9 @@
 -- `piece_at`: two knots and their numbers.
+use native.Mathlib.Omega.{arith}
 use mathlib.Core.Path.{_≡_}
 use lib.Ieee.{Float}
 use Rattle.points.specs.declared.Knot.{Knot}
 use Rattle.sampling.specs.declared.Piece.{Piece}
-use borrow.Author.Needs.{needs}
 use Rattle.sampling.proofs.piece_at.Statement.{statement}
 use Rattle.sampling.proofs.piece_at.Tie as tie
 
@@ -18,6 +18,5 @@ pub piece-at-spec : {M : Type 1} → statement M
 piece-at-spec =
     tie.close
     (tie.spec
-    (λ c κs. search needs) (λ c. search needs) (λ c κs. search needs) (λ c. search needs) (λ c. search needs) (λ c. search needs) (λ c. search needs)
-    (λ c. search needs)
+    (omega arith) (omega arith) (omega arith) (omega arith) (omega arith) (omega arith) (omega arith) (omega arith)
     returns)

@@ -1,6 +1,6 @@
 -- `position`: the number of the sample times the step.
+use native.Mathlib.Omega.{arith}
 use Rattle.hermite.specs.Segments.{sampleAt}
-use borrow.Author.Needs.{needs}
 use Rattle.sampling.proofs.position.Statement.{statement}
 use Rattle.sampling.proofs.position.Tie as tie
 
@@ -9,4 +9,4 @@ unfolding sampleAt
 returns c = rw (c .count-to-float .ensures)
 
 pub position-spec : {M : Type 1} → statement M
-position-spec = tie.close (tie.spec (λ c κs. search needs) returns)
+position-spec = tie.close (tie.spec (omega arith) returns)

@@ -40,8 +40,7 @@ rest-spec =
     Inv-loop
     μ-loop
     loop-holds
-    (λ c κs. search needs) (λ c κs. search needs) (λ c κs. search needs) (λ c κs. search needs) (λ c κs. search needs)
-    (λ c. search needs) (λ c. search needs) (λ c. search needs) (λ c. search needs)
+    (omega arith) (omega arith) (omega arith) (omega arith) (omega arith) (omega arith) (omega arith) (omega arith) (omega arith)
     loop-again
-    (λ c. search needs)
+    (omega arith)
     returns)

@@ -1,4 +1,5 @@
 -- `carried_by`: the arms are the definition's.
+use native.Mathlib.Omega.{arith}
 use borrow.Author.Needs.{needs}
 use Rattle.sets.proofs.carried_by.Statement.{statement}
 use Rattle.sets.proofs.carried_by.Tie as tie
@@ -9,15 +10,24 @@ returns-9 c = rw (c .before .kind2 .given .1) (search needs)
 pub carried-by-spec : {M : Type 1} → statement M
 carried-by-spec =
     tie.close
-    (tie.spec (search needs) (search needs) (search needs) (search needs) (search needs) (search needs) (search needs) (search needs) (search needs)
-    (search needs)
-    (λ c. rw (c .enum-told .given .1) (search needs))
-    (λ c. rw (c .enum-told2 .given .1) (search needs))
-    (λ c. rw (c .enum-told3 .given .1) (search needs))
-    (λ c. rw (c .enum-told4 .given .1) (search needs))
-    (λ c. rw (c .enum-told5 .given .1) (search needs))
-    (λ c. rw (c .enum-told6 .given .1) (search needs))
-    (λ c. rw (c .enum-told7 .given .1) (search needs))
-    (λ c. rw (c .before .kind .given .1) (search needs))
+    (tie.spec
+    (omega arith) (omega arith) (omega arith) (omega arith) (omega arith) (omega arith) (omega arith) (omega arith) (omega arith) (omega arith)
+    (λ c. rw (c .enum-told .given .1)
+    (search needs))
+    (λ c. rw (c .enum-told2 .given .1)
+    (search needs))
+    (λ c. rw (c .enum-told3 .given .1)
+    (search needs))
+    (λ c. rw (c .enum-told4 .given .1)
+    (search needs))
+    (λ c. rw (c .enum-told5 .given .1)
+    (search needs))
+    (λ c. rw (c .enum-told6 .given .1)
+    (search needs))
+    (λ c. rw (c .enum-told7 .given .1)
+    (search needs))
+    (λ c. rw (c .before .kind .given .1)
+    (search needs))
     returns-9
-    (λ c. rw (c .enum-told8 .given .1) (search needs)))
+    (λ c. rw (c .enum-told8 .given .1)
+    (search needs)))

@@ -1,5 +1,5 @@
 -- `check_curve`: 3, then 4.
-use borrow.Author.Needs.{needs}
+use native.Mathlib.Omega.{arith}
 use borrow.Author.Tests.{lt-ltb, le-ltb}
 use Rattle.sets.specs.Sets.{curveAnswer}
 use Rattle.sets.proofs.check_curve.Statement.{statement}
@@ -18,4 +18,4 @@ unfolding curveAnswer
 returns-3 c = rw (le-ltb _ _ (c .before .before .if1 .left), ← c .before .is-rising .ensures, c .if2 .left)
 
 pub check-curve-spec : {M : Type 1} → statement M
-check-curve-spec = tie.close (tie.spec returns (search needs) returns-2 returns-3)
+check-curve-spec = tie.close (tie.spec returns (omega arith) returns-2 returns-3)

@@ -1,4 +1,5 @@
 -- `single::count_to_float` meets its contract: the count is the same signed, and a float holds it exactly.
+use native.Mathlib.Omega.{arith}
 use mathlib.Core.Path.{_≡_, ap}
 use Prim.Native.Nat.{ℕ, _≤_, _^_}
 use native.Mathlib.Nat.{lt-of-le-of-lt}
@@ -8,7 +9,6 @@ use lib.Ieee.{binary32, inFloat, ofInt}
 use mir.Syntax.{w32}
 use mir.Val.{toZ}
 use mir.Facts.{toZ-pos}
-use borrow.Author.Needs.{needs}
 use Rattle.single.proofs.count_to_float.Statement.{statement}
 use Rattle.single.proofs.count_to_float.Tie as tie
 
@@ -26,4 +26,4 @@ returns : tie.Need-returns
 returns c = ap (ofInt binary32) (signed _ (c .before .pre))
 
 pub count-to-float-spec : {M : Type 1} → statement M
-count-to-float-spec = tie.close (tie.spec (λ c. search needs) int-to-float-result returns)
+count-to-float-spec = tie.close (tie.spec (omega arith) int-to-float-result returns)

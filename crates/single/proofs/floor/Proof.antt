@@ -5,7 +5,6 @@ use native.Mathlib.Nat.{lt-of-le-of-lt}
 use native.Mathlib.Omega.{arith}
 use lib.Dec.{lit<, lit≤}
 use lib.Ieee.{Float}
-use borrow.Author.Needs.{needs}
 use Rattle.floats.specs.Notation.{_⊖_}
 use Rattle.floats.specs.Whole.{whole-less}
 use Rattle.single.specs.Constants.{𝟏, 𝟒𝟎𝟗𝟒}
@@ -36,4 +35,4 @@ returns-2 c =
     s .whole ∙ ap float (sym (floor-here s (c .if1 .left)) ∙ same)
 
 pub floor-spec : {M : Type 1} → statement M
-floor-spec = tie.close (tie.spec (λ c κs. search needs) returns returns-2)
+floor-spec = tie.close (tie.spec (omega arith) returns returns-2)

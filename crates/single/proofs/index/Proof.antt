@@ -4,7 +4,6 @@ use native.Mathlib.Nat.{le-trans, lt-of-le-of-lt}
 use native.Mathlib.Omega.{arith}
 use lib.Dec.{T, lit<, lit≤}
 use lib.Ieee.{Float, binary32, toUnsigned, inUnsigned}
-use borrow.Author.Needs.{needs}
 use Rattle.single.specs.Rules.{float, floorOf}
 use Rattle.single.specs.ByteLaws.{floor-small}
 use Rattle.single.proofs.Nearest.{cast-back}
@@ -24,4 +23,4 @@ returns : tie.Need-returns
 returns c = cast _ _ (c .before .floor .ensures) .1
 
 pub index-spec : {M : Type 1} → statement M
-index-spec = tie.close (tie.spec (λ c κs. search needs) float-to-int-result cast-result returns)
+index-spec = tie.close (tie.spec (omega arith) float-to-int-result cast-result returns)

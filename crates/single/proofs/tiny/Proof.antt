@@ -1,5 +1,5 @@
 -- `tiny`: `abs` gives the size.
-use borrow.Author.Needs.{needs}
+use native.Mathlib.Omega.{arith}
 use Rattle.single.proofs.tiny.Statement.{statement}
 use Rattle.single.proofs.tiny.Tie as tie
 
@@ -7,4 +7,4 @@ returns : tie.Need-returns
 returns c = rw (c .abs .ensures)
 
 pub tiny-spec : {M : Type 1} → statement M
-tiny-spec = tie.close (tie.spec (λ c κs. search needs) returns)
+tiny-spec = tie.close (tie.spec (omega arith) returns)

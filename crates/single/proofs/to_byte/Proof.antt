@@ -5,7 +5,6 @@ use native.Mathlib.Nat.{lt-of-le-of-lt, le-trans}
 use native.Mathlib.Omega.{arith}
 use lib.Dec.{T, lit<, lit≤}
 use lib.Ieee.{Float, binary32, toUnsigned, inUnsigned}
-use borrow.Author.Needs.{needs}
 use Rattle.single.specs.Constants.{𝟐𝟓𝟓}
 use Rattle.single.specs.Rules.{nearestWhole, held, byteOf}
 use Rattle.single.specs.RuleLaws.{𝟐𝟓𝟓-float}
@@ -40,4 +39,4 @@ returns-2 c =
     ap (_+ 1) (cast s .1) ∙ sym (byte-above s (c .if1 .left)) ∙ same
 
 pub to-byte-spec : {M : Type 1} → statement M
-to-byte-spec = tie.close (tie.spec (λ c κs. search needs) float-to-int-k returns add-result returns-2)
+to-byte-spec = tie.close (tie.spec (omega arith) float-to-int-k returns add-result returns-2)

@@ -2,7 +2,6 @@
 use mathlib.Core.Path.{refl, sym}
 use Prim.Native.Nat.{_+_, _≤_, _-_}
 use native.Mathlib.Omega.{arith}
-use borrow.Author.Needs.{needs}
 use lib.ListN.{replicate}
 use Rattle.lists.specs.Stored.{Stored, stored-none, stored-next, stored-front}
 use Rattle.single.specs.Constants.{𝟎}
@@ -37,10 +36,9 @@ framed-spec =
     (tie.spec
     Inv-loop
     μ-loop
-    (λ c. search needs)
+    (omega arith)
     loop-holds
-    (λ c. search needs) (λ c. search needs) (λ c. search needs) (λ c. search needs) (λ c. search needs) (λ c. search needs) (λ c. search needs)
-    (λ c. search needs)
+    (omega arith) (omega arith) (omega arith) (omega arith) (omega arith) (omega arith) (omega arith) (omega arith)
     loop-again
-    (λ c. search needs) (λ c. search needs)
+    (omega arith) (omega arith)
     returns)

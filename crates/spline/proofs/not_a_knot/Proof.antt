@@ -1,7 +1,6 @@
 -- `spline::not_a_knot`: the tests are the definition's.
 use mathlib.Core.Path.{_≡_, _∙_}
 use native.Mathlib.Omega.{arith}
-use borrow.Author.Needs.{needs}
 use borrow.Author.Tests.{le-ltb, ne-eqb}
 use Rattle.lists.specs.Tabulate.{filled, tabulate}
 use Rattle.spline.specs.Second.{notAKnotAt}
@@ -33,7 +32,7 @@ not-a-knot-spec =
     tie.close
     (tie.spec
     returns
-    (λ c κs. search needs) (λ c κs. search needs) (λ c κs. search needs) (λ c. search needs) (λ c. search needs) (λ c. search needs)
+    (omega arith) (omega arith) (omega arith) (omega arith) (omega arith) (omega arith)
     returns-2
     ends-recovered-requires
     returns-3)

@@ -1,5 +1,5 @@
 -- `spline::not_a_knot_row`: the tests are the definition's.
-use borrow.Author.Needs.{needs}
+use native.Mathlib.Omega.{arith}
 use borrow.Author.Tests.{eq-eqb, ne-eqb}
 use Rattle.spline.specs.Second.{rowAt}
 use Rattle.spline.proofs.not_a_knot_row.Statement.{statement}
@@ -31,9 +31,9 @@ pub not-a-knot-row-spec : {M : Type 1} → statement M
 not-a-knot-row-spec =
     tie.close
     (tie.spec
-    (λ c κs. search needs) (λ c. search needs) (λ c κs. search needs) (λ c κs. search needs)
+    (omega arith) (omega arith) (omega arith) (omega arith)
     returns
-    (λ c. search needs) (λ c κs. search needs)
+    (omega arith) (omega arith)
     returns-2
-    (λ c κs. search needs)
+    (omega arith)
     returns-3)

@@ -1,5 +1,5 @@
 -- `spline::recovered`: the ratio of the widths is a guarded quotient.
-use borrow.Author.Needs.{needs}
+use native.Mathlib.Omega.{arith}
 use Rattle.spline.specs.Second as M
 use Rattle.spline.proofs.recovered.Statement.{statement}
 use Rattle.spline.proofs.recovered.Tie as tie
@@ -9,4 +9,4 @@ unfolding M.recovered
 returns c = rw (c .guarded-quotient .ensures)
 
 pub recovered-spec : {M : Type 1} → statement M
-recovered-spec = tie.close (tie.spec (λ c κs. search needs) returns)
+recovered-spec = tie.close (tie.spec (omega arith) returns)

@@ -37,13 +37,13 @@ pub row-at-spec : {M : Type 1} → statement M
 row-at-spec =
     tie.close
     (tie.spec
-    (λ c. search needs)
+    (omega arith)
     segment-at-requires
     add-segment-at
     segment-at-requires-2
-    (λ c κs. search needs) (λ c. search needs)
+    (omega arith) (omega arith)
     clamped-row-requires
-    (λ c. search needs)
+    (omega arith)
     not-a-knot-row-requires
     returns
     returns-2

@@ -1,5 +1,5 @@
 -- `spline::scaled`: both parts times the inverse.
-use borrow.Author.Needs.{needs}
+use native.Mathlib.Omega.{arith}
 use Rattle.spline.specs.Thomas as T
 use Rattle.spline.proofs.scaled.Statement.{statement}
 use Rattle.spline.proofs.scaled.Tie as tie
@@ -9,4 +9,4 @@ unfolding T.scaled
 returns c = rw (c .inverse .ensures)
 
 pub scaled-spec : {M : Type 1} → statement M
-scaled-spec = tie.close (tie.spec (λ c κs. search needs) returns)
+scaled-spec = tie.close (tie.spec (omega arith) returns)

@@ -1,6 +1,6 @@
 -- `spline::second_derivatives`: the arms are the definition's.
+use native.Mathlib.Omega.{arith}
 use mathlib.Core.Path.{_∙_}
-use borrow.Author.Needs.{needs}
 use Rattle.spline.specs.declared.SplineBoundary.the-variants.{Natural}
 use Rattle.spline.specs.Second.{unknown, secondAt}
 use Rattle.spline.proofs.Rows.{framed-row}
@@ -27,8 +27,7 @@ pub second-derivatives-spec : {M : Type 1} → statement M
 second-derivatives-spec =
     tie.close
     (tie.spec
-    (λ c. search needs) (λ c. search needs) (λ c κs. search needs) (λ c κs. search needs) (λ c. search needs) (λ c κs. search needs) (λ c. search needs)
-    (λ c κs. search needs)
+    (omega arith) (omega arith) (omega arith) (omega arith) (omega arith) (omega arith) (omega arith) (omega arith)
     returns
     returns-2
     returns-3)

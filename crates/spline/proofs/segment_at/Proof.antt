@@ -1,5 +1,5 @@
 -- `spline::segment_at`: the segment between the two knots read.
-use borrow.Author.Needs.{needs}
+use native.Mathlib.Omega.{arith}
 use Rattle.spline.specs.Segments.{segmentAt}
 use Rattle.spline.proofs.segment_at.Statement.{statement}
 use Rattle.spline.proofs.segment_at.Tie as tie
@@ -10,4 +10,4 @@ returns c = rw (← c .before .before .knot-at .ensures, ← c .before .knot-at2
 
 pub segment-at-spec : {M : Type 1} → statement M
 segment-at-spec =
-    tie.close (tie.spec (λ c κs. search needs) (λ c. search needs) (λ c κs. search needs) (λ c κs. search needs) returns)
+    tie.close (tie.spec (omega arith) (omega arith) (omega arith) (omega arith) returns)

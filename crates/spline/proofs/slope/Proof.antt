@@ -1,7 +1,7 @@
 -- `spline::slope`: single precision has every signed 16-bit number.
+use native.Mathlib.Omega.{arith}
 use mathlib.Core.Path.{ap}
 use mir.Facts.{toZ-ofZ}
-use borrow.Author.Needs.{needs}
 use Rattle.spline.specs.Segments.{slopeOf}
 use Rattle.spline.proofs.slope.Statement.{statement}
 use Rattle.spline.proofs.slope.Tie as tie
@@ -11,4 +11,4 @@ unfolding slopeOf
 returns c = ap slopeOf (toZ-ofZ (c .before .fits .q))
 
 pub slope-spec : {M : Type 1} → statement M
-slope-spec = tie.close (tie.spec (λ c. search needs) returns)
+slope-spec = tie.close (tie.spec (omega arith) returns)

@@ -1,5 +1,5 @@
 -- `spline::spline_piece`: the code is the formula.
-use borrow.Author.Needs.{needs}
+use native.Mathlib.Omega.{arith}
 use Rattle.spline.specs.Segments.{splinePiece}
 use Rattle.spline.proofs.spline_piece.Statement.{statement}
 use Rattle.spline.proofs.spline_piece.Tie as tie
@@ -17,4 +17,4 @@ returns-2 c =
     rw (← test .before .abs .ensures, test .if1 .left, ← first .first-coefficient .ensures, ← third .third-coefficient .ensures) (c .polynomial-from .ensures)
 
 pub spline-piece-spec : {M : Type 1} → statement M
-spline-piece-spec = tie.close (tie.spec (λ c κs. search needs) returns (λ c κs. search needs) (λ c κs. search needs) (λ c κs. search needs) returns-2)
+spline-piece-spec = tie.close (tie.spec (omega arith) returns (omega arith) (omega arith) (omega arith) returns-2)

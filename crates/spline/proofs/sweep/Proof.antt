@@ -1,5 +1,5 @@
 -- `spline::sweep`: the test is the definition's.
-use borrow.Author.Needs.{needs}
+use native.Mathlib.Omega.{arith}
 use borrow.Author.Tests.{eq-eqb, ne-eqb}
 use Rattle.spline.specs.Thomas as T
 use Rattle.spline.proofs.sweep.Statement.{statement}
@@ -16,4 +16,4 @@ returns-2 c =
     rw (ne-eqb _ _ (b .if1 .left)) (c .scaled2 .ensures)
 
 pub sweep-spec : {M : Type 1} → statement M
-sweep-spec = tie.close (tie.spec (λ c κs. search needs) returns (λ c κs. search needs) returns-2)
+sweep-spec = tie.close (tie.spec (omega arith) returns (omega arith) returns-2)

@@ -2,7 +2,6 @@
 use mathlib.Core.Path.{sym, _∙_}
 use Prim.Native.Nat.{_≤_, _-_}
 use native.Mathlib.Omega.{arith}
-use borrow.Author.Needs.{needs}
 use Rattle.lists.specs.Tabulate.{filled, tabulate}
 use Rattle.spline.specs.Second.{rowAt, unknown}
 use Rattle.spline.proofs.Sweeping.{Sweeping, sweeping-none, sweeping-next, sweeping-end}
@@ -40,7 +39,7 @@ unknowns-spec =
     μ-loop
     returns
     loop-holds
-    (λ c κs. search needs) (λ c κs. search needs) (λ c. search needs) (λ c. search needs) (λ c. search needs) (λ c. search needs)
+    (omega arith) (omega arith) (omega arith) (omega arith) (omega arith) (omega arith)
     loop-again
-    (λ c κs. search needs)
+    (omega arith)
     returns-2)

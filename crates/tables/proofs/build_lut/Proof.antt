@@ -1,5 +1,5 @@
 -- `tables::build_lut`: too many points, or the byte table.
-use borrow.Author.Needs.{needs}
+use native.Mathlib.Omega.{arith}
 use borrow.Author.Tests.{lt-ltb, le-ltb}
 use Rattle.tables.proofs.build_lut.Statement.{statement}
 use Rattle.tables.proofs.build_lut.Tie as tie
@@ -13,4 +13,4 @@ returns-2 c =
     record { answer = rw few; table = rw few (c .byte-table .ensures) }
 
 pub build-lut-spec : {M : Type 1} → statement M
-build-lut-spec = tie.close (tie.spec returns (λ c κs. search needs) returns-2)
+build-lut-spec = tie.close (tie.spec returns (omega arith) returns-2)

@@ -40,9 +40,9 @@ pub build-table-spec : {M : Type 1} → statement M
 build-table-spec =
     tie.close
     (tie.spec
-    (λ c κs. search needs)
+    (omega arith)
     returns
     returns-2
     sample-curve-requires
-    (λ c. search needs)
+    (omega arith)
     returns-3)

@@ -1,6 +1,6 @@
 -- `tables::byte_table`: the bytes of the 256 samples of the fine table.
+use native.Mathlib.Omega.{arith}
 use mathlib.Core.Path.{ap, _∙_}
-use borrow.Author.Needs.{needs}
 use lib.Ieee.{nan}
 use Rattle.lists.specs.Tabulate.{getD-tabulate, tabulate-same}
 use Rattle.single.specs.Rules.{byteOf}
@@ -17,4 +17,6 @@ returns c =
 pub byte-table-spec : {M : Type 1} → statement M
 byte-table-spec =
     tie.close
-    (tie.spec (λ c. search needs) (λ c κs. search needs) (λ c κs. search needs) returns)
+    (tie.spec
+    (omega arith) (omega arith) (omega arith)
+    returns)

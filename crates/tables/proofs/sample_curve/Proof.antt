@@ -69,9 +69,9 @@ pub sample-curve-spec : {M : Type 1} → statement M
 sample-curve-spec =
     tie.close
     (tie.spec
-    (λ c κs. search needs) (λ c κs. search needs)
+    (omega arith) (omega arith)
     numbers-requires
-    (λ c κs. search needs)
+    (omega arith)
     fill-requires
-    (λ c. search needs)
+    (omega arith)
     returns)

@@ -1,4 +1,5 @@
 -- `tables::to_bytes`: the loop stores the byte of sample v at v.
+use native.Mathlib.Omega.{arith}
 use mathlib.Core.Path.{refl}
 use Prim.Native.Nat.{_-_, _≤_}
 use borrow.Author.Needs.{needs}
@@ -30,6 +31,6 @@ to-bytes-spec =
     Inv-loop
     μ-loop
     loop-holds
-    (λ c. search needs) (λ c. search needs) (λ c κs. search needs) (λ c. search needs) (λ c. search needs) (λ c. search needs)
+    (omega arith) (omega arith) (omega arith) (omega arith) (omega arith) (omega arith)
     loop-again
     returns)

@@ -1,6 +1,6 @@
 -- `text::refusal_text`: the stores are the characters, one by one.
+use native.Mathlib.Omega.{arith}
 use lib.Dec.{lit≤}
-use borrow.Author.Needs.{needs}
 use borrow.Author.Tests.{lt-ltb, le-ltb}
 use Rattle.text.proofs.refusal_text.Statement.{statement}
 use Rattle.text.proofs.refusal_text.Tie as tie
@@ -14,6 +14,9 @@ returns-2 c = (rw (le-ltb _ _ (c .if1 .left)), lit≤ tt)
 pub refusal-text-spec : {M : Type 1} → statement M
 refusal-text-spec =
     tie.close
-    (tie.spec (λ c. search needs) (λ c. search needs) (λ c. search needs) (λ c. search needs) (λ c. search needs) (λ c. search needs) (λ c. search needs)
-    (λ c. search needs) (λ c. search needs) (λ c. search needs) (λ c. search needs) returns (λ c. search needs) (λ c. search needs) (λ c. search needs)
-    (λ c. search needs) returns-2)
+    (tie.spec
+    (omega arith) (omega arith) (omega arith) (omega arith) (omega arith) (omega arith) (omega arith) (omega arith) (omega arith) (omega arith)
+    (omega arith)
+    returns
+    (omega arith) (omega arith) (omega arith) (omega arith)
+    returns-2)

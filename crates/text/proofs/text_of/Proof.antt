@@ -1,10 +1,10 @@
 -- `text::text_of`: what is read, and the text of its table or of its refusal.
+use native.Mathlib.Omega.{arith}
 use mathlib.Core.Path.{_≡_, sym, ap, _∙_}
 use mathlib.Core.Bool.{true, false}
 use mathlib.Core.List.{List}
 use Prim.Native.Nat.{ℕ, _<_}
 use lib.Dec.{lit<}
-use borrow.Author.Needs.{needs}
 use Rattle.answers.specs.declared.Answer.{Answer}
 use Rattle.answers.specs.declared.Answer.the-variants.{
   Done,
@@ -96,5 +96,11 @@ returns-2 c =
 pub text-of-spec : {M : Type 1} → statement M
 text-of-spec =
     tie.close
-    (tie.spec (λ c κs. search needs) (λ c κs. search needs) byte-table-requires (λ c κs. search needs) returns (λ c κs. search needs) refusal-text-requires
+    (tie.spec
+    (omega arith) (omega arith)
+    byte-table-requires
+    (omega arith)
+    returns
+    (omega arith)
+    refusal-text-requires
     returns-2)

@@ -1,6 +1,6 @@
 -- `tone_fine_table`: 3 and 5 first, with the table as it was; the rest is the fine table's own call.
+use native.Mathlib.Omega.{arith}
 use mathlib.Core.Path.{_≡_, sym, ap, _∙_}
-use borrow.Author.Needs.{needs}
 use borrow.Author.Tests.{le-ltb}
 use mir.Facts.{toZ-ofZ}
 use Rattle.answers.specs.declared.Answer.the-variants.{Done}
@@ -43,8 +43,8 @@ pub tone-fine-table-spec : {M : Type 1} → statement M
 tone-fine-table-spec =
     tie.close
     (tie.spec
-    (λ c κs. search needs) (λ c κs. search needs) (λ c κs. search needs)
+    (omega arith) (omega arith) (omega arith)
     returns
     curve-of-requires
-    (λ c κs. search needs) (λ c κs. search needs) (λ c κs. search needs) (search needs)
+    (omega arith) (omega arith) (omega arith) (omega arith)
     returns-2)

@@ -1,7 +1,7 @@
 -- `tone_lookup`: the lookup's answer as its number.
+use native.Mathlib.Omega.{arith}
 use mathlib.Core.Path.{_≡_, refl, _∙_}
 use mathlib.Core.Bool.{Bool, true, false, cond}
-use borrow.Author.Needs.{needs}
 use lib.Dec.{eqb}
 use lib.ListN.{length}
 use Rattle.answers.specs.declared.Answer.the-variants.{Done, TableLength}
@@ -20,4 +20,4 @@ returns c =
     record { number = c .number .ensures ∙ call .number ∙ number-is (eqb (length table) 4096); values = call .replaced }
 
 pub tone-lookup-spec : {M : Type 1} → statement M
-tone-lookup-spec = tie.close (tie.spec (λ c κs. search needs) (λ c κs. search needs) (search needs) returns)
+tone-lookup-spec = tie.close (tie.spec (omega arith) (omega arith) (omega arith) returns)

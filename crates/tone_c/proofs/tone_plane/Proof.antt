@@ -1,6 +1,6 @@
 -- `tone_plane`: an unknown format first, with the plane as it was; the rest is the one-table call.
+use native.Mathlib.Omega.{arith}
 use mathlib.Core.Path.{_≡_, sym, ap, _∙_}
-use borrow.Author.Needs.{needs}
 use Rattle.answers.specs.declared.Answer.the-variants.{Done}
 use Rattle.answers.specs.Numbers.{numberOf}
 use Rattle.tone_c.specs.Boundary.{formatAnswer}
@@ -31,7 +31,7 @@ pub tone-plane-spec : {M : Type 1} → statement M
 tone-plane-spec =
     tie.close
     (tie.spec
-    (λ c κs. search needs) (λ c κs. search needs) (λ c κs. search needs)
+    (omega arith) (omega arith) (omega arith)
     returns
-    (λ c κs. search needs) (λ c κs. search needs) (λ c κs. search needs) (search needs)
+    (omega arith) (omega arith) (omega arith) (omega arith)
     returns-2)

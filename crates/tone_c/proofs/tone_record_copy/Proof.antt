@@ -1,10 +1,10 @@
 -- `tone_record_copy`: the record's refusals first, with the output and the length as they were; the rest is the writer, whose set the record's reader
 -- has checked.
+use native.Mathlib.Omega.{arith}
 use Prim.Native.Nat.{ℕ}
 use mathlib.Core.Path.{_≡_, refl, sym, ap, _∙_}
 use mathlib.Core.Bool.{Bool, true, false, cond}
 use mathlib.Core.List.{List, _++_}
-use borrow.Author.Needs.{needs}
 use lib.Dec.{ltb}
 use lib.ListN.{length, drop}
 use Rattle.answers.specs.declared.Answer.the-variants.{Done, OutputTooSmall}
@@ -84,9 +84,9 @@ pub tone-record-copy-spec : {M : Type 1} → statement M
 tone-record-copy-spec =
     tie.close
     (tie.spec
-    (λ c κs. search needs) (λ c κs. search needs) (λ c κs. search needs)
+    (omega arith) (omega arith) (omega arith)
     returns
-    (λ c κs. search needs) (λ c κs. search needs) (λ c κs. search needs) (search needs)
+    (omega arith) (omega arith) (omega arith) (omega arith)
     returns-2
-    (λ c κs. search needs) (search needs)
+    (omega arith) (omega arith)
     returns-3)

@@ -1,4 +1,5 @@
 -- `tone_table`: refused, with the output as it was; else the byte table is written.
+use native.Mathlib.Omega.{arith}
 use mathlib.Core.Path.{_≡_, sym, ap, _∙_}
 use borrow.Author.Needs.{needs}
 use lib.ListN.{length}
@@ -61,10 +62,10 @@ pub tone-table-spec : {M : Type 1} → statement M
 tone-table-spec =
     tie.close
     (tie.spec
-    (λ c κs. search needs) (λ c κs. search needs) (λ c κs. search needs) (λ c κs. search needs) (λ c κs. search needs)
+    (omega arith) (omega arith) (omega arith) (omega arith) (omega arith)
     returns
     curve-of-requires
-    (λ c κs. search needs) (λ c κs. search needs) (search needs)
+    (omega arith) (omega arith) (omega arith)
     copy-bytes-requires
-    (λ c κs. search needs) (search needs)
+    (omega arith) (omega arith)
     returns-2)

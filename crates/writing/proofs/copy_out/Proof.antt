@@ -36,7 +36,7 @@ copy-out-spec =
     Inv-loop
     μ-loop
     (λ c. (search needs, stored-none))
-    (λ c. search needs) (λ c. search needs) (λ c. search needs) (λ c. search needs)
+    (omega arith) (omega arith) (omega arith) (omega arith)
     loop-again
-    (λ c. search needs)
+    (omega arith)
     returns)

@@ -8,7 +8,6 @@ use Rattle.writing.specs.Encode.{fieldBytes, encode}
 use Rattle.records.specs.Format.{longestField}
 use Rattle.writing.specs.Lengths.{FieldLengths, field-lengths, encode-length}
 use Rattle.writing.proofs.Laws.{appended-then, appended-as, holds}
-use borrow.Author.Needs.{needs}
 use Rattle.writing.proofs.record_of.Statement.{statement}
 use Rattle.writing.proofs.record_of.Tie as tie
 
@@ -83,7 +82,7 @@ record-of-spec =
     tie.close
     (tie.spec
     (λ c κs. passed-set (c .args .set) (c .pre) .master)
-    (λ c κs. search needs) (λ c κs. search needs) (λ c κs. search needs)
+    (omega arith) (omega arith) (omega arith)
     field-requires
     field-requires-2
     field-requires-3

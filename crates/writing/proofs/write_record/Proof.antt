@@ -1,10 +1,10 @@
 -- `write_record`: by the two refusals, then the copy.
+use native.Mathlib.Omega.{arith}
 use mathlib.Core.Path.{sym, _∙_}
 use Rattle.points.specs.Owned.{length-told}
 use Rattle.sets.specs.SameLaws.{Full}
 use Rattle.writing.proofs.Laws.{passed, wrote-refused, wrote-short, wrote-done}
 use borrow.Author.Tests.{not-true}
-use borrow.Author.Needs.{needs}
 use Rattle.writing.proofs.write_record.Statement.{statement}
 use Rattle.writing.proofs.write_record.Tie as tie
 
@@ -43,4 +43,8 @@ returns-3 c =
 pub write-record-spec : {M : Type 1} → statement M
 write-record-spec =
     tie.close
-    (tie.spec (λ c κs. search needs) (λ c κs. search needs) returns record-of-requires returns-2 (λ c κs. search needs) (λ c. search needs) returns-3)
+    (tie.spec
+    (omega arith) (omega arith)
+    returns record-of-requires returns-2
+    (omega arith) (omega arith)
+    returns-3)

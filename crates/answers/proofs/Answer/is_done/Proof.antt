@@ -1,5 +1,5 @@
 -- `Answer::is_done`: the number is 0.
-use borrow.Author.Needs.{needs}
+use native.Mathlib.Omega.{arith}
 use Rattle.answers.proofs.Answer.is_done.Statement.{statement}
 use Rattle.answers.proofs.Answer.is_done.Tie as tie
 
@@ -7,4 +7,4 @@ returns : tie.Need-returns
 returns c = rw (c .number .ensures)
 
 pub is-done-spec : {M : Type 1} → statement M
-is-done-spec = tie.close (tie.spec (λ c κs. search needs) returns)
+is-done-spec = tie.close (tie.spec (omega arith) returns)

@@ -36,7 +36,6 @@ catmull-rom-spec =
     Inv-loop
     μ-loop
     (λ c. (search needs, stored-none))
-    (λ c κs. search needs) (λ c κs. search needs) (λ c κs. search needs) (λ c κs. search needs) (λ c κs. search needs) (λ c. search needs)
-    (λ c. search needs) (λ c. search needs) (λ c. search needs)
+    (omega arith) (omega arith) (omega arith) (omega arith) (omega arith) (omega arith) (omega arith) (omega arith) (omega arith)
     loop-again
     returns)

@@ -1,5 +1,5 @@
 -- `tangents::looseness`: the code is the formula.
-use borrow.Author.Needs.{needs}
+use native.Mathlib.Omega.{arith}
 use Rattle.hermite.specs.CatmullRom.{looseness}
 use Rattle.hermite.proofs.tangents.looseness.Statement.{statement}
 use Rattle.hermite.proofs.tangents.looseness.Tie as tie
@@ -9,4 +9,4 @@ unfolding looseness
 returns c = rw (c .byte-to-float .ensures)
 
 pub looseness-spec : {M : Type 1} → statement M
-looseness-spec = tie.close (tie.spec (λ c κs. search needs) returns)
+looseness-spec = tie.close (tie.spec (omega arith) returns)

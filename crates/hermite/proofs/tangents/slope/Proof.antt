@@ -1,5 +1,5 @@
 -- `tangents::slope`: a guarded quotient.
-use borrow.Author.Needs.{needs}
+use native.Mathlib.Omega.{arith}
 use Rattle.hermite.specs.CatmullRom.{slope}
 use Rattle.hermite.proofs.tangents.slope.Statement.{statement}
 use Rattle.hermite.proofs.tangents.slope.Tie as tie
@@ -9,4 +9,4 @@ unfolding slope
 returns c = c .guarded-quotient .ensures
 
 pub slope-spec : {M : Type 1} → statement M
-slope-spec = tie.close (tie.spec (λ c κs. search needs) returns)
+slope-spec = tie.close (tie.spec (omega arith) returns)

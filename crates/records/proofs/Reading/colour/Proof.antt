@@ -1,6 +1,6 @@
 -- `Reading::colour` meets its contract, whichever colour it is.
+use native.Mathlib.Omega.{arith}
 use mathlib.Core.Path.{_≡_, ap, _∙_}
-use borrow.Author.Needs.{needs}
 use Rattle.points.specs.Points.{listOf}
 use Rattle.sets.specs.declared.Channel.{Channel}
 use Rattle.sets.specs.Replaced.{colour-replaced}
@@ -35,6 +35,6 @@ pub colour-spec : {M : Type 1} → statement M
 colour-spec =
     tie.close
     (tie.spec
-    (λ c κs. search needs) (λ c κs. search needs) (λ c κs. search needs) (λ c κs. search needs) (λ c κs. search needs)
+    (omega arith) (omega arith) (omega arith) (omega arith) (omega arith)
     returns
     returns-2)

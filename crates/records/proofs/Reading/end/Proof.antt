@@ -2,7 +2,6 @@
 use mathlib.Core.Path.{_≡_, refl, _∙_}
 use mathlib.Core.Bool.{true}
 use native.Mathlib.Omega.{arith}
-use borrow.Author.Needs.{needs}
 use lib.ListN.{drop}
 use Rattle.points.specs.Owned.{length-told}
 use Rattle.sets.specs.SameLaws.{Full}
@@ -54,4 +53,4 @@ returns-3 c =
 
 pub end-spec : {M : Type 1} → statement M
 end-spec =
-    tie.close (tie.spec (λ c κs. search needs) (λ c κs. search needs) (λ c κs. search needs) returns returns-2 returns-3)
+    tie.close (tie.spec (omega arith) (omega arith) (omega arith) returns returns-2 returns-3)

@@ -1,6 +1,6 @@
 -- `Reading::kind` meets its contract.
+use native.Mathlib.Omega.{arith}
 use mathlib.Core.Path.{ap}
-use borrow.Author.Needs.{needs}
 use Rattle.sets.specs.Sets.{viewOf, withKind}
 use Rattle.records.specs.Format.{readKind, kindStep}
 use Rattle.records.proofs.Fields.{refusal-stays, member-read}
@@ -24,4 +24,4 @@ returns-2 c =
     refusal-stays (a .s .now) (a .self) (c .before .is-done .result) (c .before .is-done .ensures) (kindStep (a .unnamed) (a .map)) (c .if1 .left)
 
 pub kind-spec : {M : Type 1} → statement M
-kind-spec = tie.close (tie.spec (λ c κs. search needs) (λ c κs. search needs) (λ c κs. search needs) returns returns-2)
+kind-spec = tie.close (tie.spec (omega arith) (omega arith) (omega arith) returns returns-2)

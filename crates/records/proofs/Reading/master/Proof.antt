@@ -1,6 +1,6 @@
 -- `Reading::master` meets its contract.
+use native.Mathlib.Omega.{arith}
 use mathlib.Core.Path.{ap}
-use borrow.Author.Needs.{needs}
 use Rattle.points.specs.Points.{listOf}
 use Rattle.sets.specs.Sets.{viewOf, withMaster}
 use Rattle.records.specs.Format.{bit, readField, masterStep}
@@ -27,4 +27,4 @@ returns-2 c =
 
 pub master-spec : {M : Type 1} → statement M
 master-spec =
-    tie.close (tie.spec (λ c κs. search needs) (λ c κs. search needs) (λ c κs. search needs) (λ c κs. search needs) returns returns-2)
+    tie.close (tie.spec (omega arith) (omega arith) (omega arith) (omega arith) returns returns-2)

@@ -1,5 +1,5 @@
 -- `blocks::next`: its test is the definition's.
-use borrow.Author.Needs.{needs}
+use native.Mathlib.Omega.{arith}
 use borrow.Author.Tests.{lt-ltb, le-ltb}
 use Rattle.sampling.specs.Walk.{nextPlace}
 use Rattle.sampling.proofs.blocks.next.Statement.{statement}
@@ -17,7 +17,7 @@ pub next-spec : {M : Type 1} → statement M
 next-spec =
     tie.close
     (tie.spec
-    (λ c. search needs) (λ c. search needs) (λ c κs. search needs) (λ c. search needs) (λ c. search needs)
+    (omega arith) (omega arith) (omega arith) (omega arith) (omega arith)
     returns
-    (λ c κs. search needs) (λ c. search needs)
+    (omega arith) (omega arith)
     returns-2)

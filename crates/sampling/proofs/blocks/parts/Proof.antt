@@ -1,10 +1,10 @@
 -- `blocks::parts`: the four parts of the definition.
+use native.Mathlib.Omega.{arith}
 use mathlib.Core.Path.{_≡_, ap, _∙_}
 use mathlib.Core.Bool.{false}
 use mathlib.Core.List.{List, [], _∷_}
 use Prim.Native.Nat.{ℕ, _+_}
 use native.Mathlib.Nat.{add-zero}
-use borrow.Author.Needs.{needs}
 use lib.Ieee.{Float}
 use Rattle.lists.specs.Tabulate.{tabulate}
 use Rattle.hermite.specs.Segments.{sampleAt}
@@ -43,9 +43,12 @@ pub parts-spec : {M : Type 1} → statement M
 parts-spec =
     tie.close
     (tie.spec
-    (λ c κs. search needs)
-    (λ c κs. search needs) (λ c κs. wide (c .before))
-    (λ c. search needs) (λ c κs. search needs) (λ c κs. wide (c .before .before .before))
-    (λ c. search needs) (λ c κs. search needs) (λ c κs. wide (c .before .before .before .before .before))
-    (λ c. search needs) (λ c κs. search needs) (λ c κs. wide (c .before .before .before .before .before .before .before))
+    (omega arith) (omega arith)
+    (λ c κs. wide (c .before))
+    (omega arith) (omega arith)
+    (λ c κs. wide (c .before .before .before))
+    (omega arith) (omega arith)
+    (λ c κs. wide (c .before .before .before .before .before))
+    (omega arith) (omega arith)
+    (λ c κs. wide (c .before .before .before .before .before .before .before))
     returns)

@@ -91,13 +91,13 @@ guess-spec =
     (tie.spec
     Inv-loop
     μ-loop
-    (λ c. search needs) (λ c. search needs) (λ c κs. search needs)
+    (omega arith) (omega arith) (omega arith)
     loop-holds
-    (λ c. search needs) (λ c. search needs) (λ c. search needs) (λ c. search needs) (λ c κs. search needs)
+    (omega arith) (omega arith) (omega arith) (omega arith) (omega arith)
     (λ c. omega (arith, index-most _ (c .index .ensures)))
     (λ c. omega (arith, index-most _ (c .index .ensures)))
-    (λ c. search needs) (λ c. search needs)
+    (omega arith) (omega arith)
     (λ c κs. omega (arith, index-most _ (c .index .ensures)))
-    (λ c. search needs) (λ c. search needs) (λ c. search needs) (λ c κs. search needs) (λ c. search needs) (λ c. search needs)
+    (omega arith) (omega arith) (omega arith) (omega arith) (omega arith) (omega arith)
     loop-again
     returns)

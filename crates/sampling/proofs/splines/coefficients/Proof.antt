@@ -35,7 +35,6 @@ coefficients-spec =
     Inv-loop
     μ-loop
     (λ c. (search needs, stored-none, stored-none))
-    (λ c. search needs) (λ c κs. search needs) (λ c κs. search needs) (λ c. search needs) (λ c. search needs)
-    (λ c κs. search needs) (λ c. search needs) (λ c. search needs) (λ c. search needs) (λ c. search needs)
+    (omega arith) (omega arith) (omega arith) (omega arith) (omega arith) (omega arith) (omega arith) (omega arith) (omega arith) (omega arith)
     loop-again
     returns)

@@ -2,7 +2,6 @@
 use mathlib.Core.Path.{refl}
 use Prim.Native.Nat.{_<_}
 use native.Mathlib.Omega.{arith}
-use borrow.Author.Needs.{needs}
 use lib.ListN.{length}
 use Rattle.sampling.proofs.Walk.{start}
 use Rattle.sampling.proofs.Drawing.{left, on-rows, first-place, next-place, block-room, ByCoefficients, by-coefficients-next}
@@ -39,10 +38,14 @@ draw-spec =
     μ-loop
     (λ c κs. let given = c .before .before .before .pre in (given .two, given .most))
     loop-holds
-    (λ c. search needs)
+    (omega arith)
     (λ c κs. omega (arith, here (c .before .before)))
-    (λ c. search needs) (λ c. omega (arith, here (c .before .before .before))) (λ c. search needs) (λ c. omega (arith, here (c .before .before .before)))
-    (λ c. search needs) (λ c. omega (arith, here (c .before .before .before .before)))
+    (omega arith)
+    (λ c. omega (arith, here (c .before .before .before)))
+    (omega arith)
+    (λ c. omega (arith, here (c .before .before .before)))
+    (omega arith)
+    (λ c. omega (arith, here (c .before .before .before .before)))
     (λ c κs. let inv = c .before .before .before .before .before .loop .inv in block-room (inv .place) (inv .state) (omega arith))
     (λ c κs. on-rows (c .before .before .before .before .before .before .before .before .loop .inv .place))
     (λ c. next-place (c .before .before .before .before .before .before .before .before .before .loop .inv .place) (omega arith) (c .next .ensures) .1)

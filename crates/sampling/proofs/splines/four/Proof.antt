@@ -19,7 +19,7 @@ four-spec =
     tie.close
     (tie.spec Inv-loop μ-loop
     (λ c. (search needs, stored-end stored-none (omega arith)))
-    (λ c. search needs) (λ c κs. search needs) (λ c. search needs) (λ c. search needs) (λ c. search needs) (λ c. search needs) (λ c. search needs)
+    (omega arith) (omega arith) (omega arith) (omega arith) (omega arith) (omega arith) (omega arith)
     (λ c. (search needs, block-next _ _ _ (c .before .before .loop .inv .1) (c .sample .ensures)))
-    (λ c. search needs)
+    (omega arith)
     (λ c. stored-end (c .before .loop .inv .1) (omega arith)))

@@ -1,7 +1,6 @@
 -- `straights::draw`: a turn draws the block at the place, by the parts found the turn before.
 use mathlib.Core.Path.{refl}
 use native.Mathlib.Omega.{arith}
-use borrow.Author.Needs.{needs}
 use lib.ListN.{length}
 use Rattle.sampling.specs.declared.Form.the-variants.{Straight}
 use Rattle.sampling.proofs.Walk.{start}
@@ -32,7 +31,7 @@ draw-spec =
     μ-loop
     (λ c κs. wide-piece (first-place (c .before .pre)))
     (λ c. let given = c .before .before .pre in record { place = first-place given; state = start _ _ _ _ _ _ refl (given .two); parts = c .parts .ensures })
-    (λ c. search needs)
+    (omega arith)
     (λ c κs. on-rows (c .before .before .loop .inv .place))
     (λ c κs. wide-piece (next-place (c .before .before .before .loop .inv .place) (omega arith) (c .next .ensures) .0))
     (λ c κs. on-rows (c .before .before .before .before .loop .inv .place) .1)

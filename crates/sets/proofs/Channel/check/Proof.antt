@@ -1,5 +1,5 @@
 -- `Channel::check`: of a present list only.
-use borrow.Author.Needs.{needs}
+use native.Mathlib.Omega.{arith}
 use Rattle.sets.specs.Sets.{channelAnswer}
 use Rattle.sets.proofs.Channel.check.Statement.{statement}
 use Rattle.sets.proofs.Channel.check.Tie as tie
@@ -13,4 +13,4 @@ unfolding channelAnswer
 returns-2 c = rw (c .if1 .left)
 
 pub check-spec : {M : Type 1} → statement M
-check-spec = tie.close (tie.spec (search needs) returns returns-2)
+check-spec = tie.close (tie.spec (omega arith) returns returns-2)

@@ -1,5 +1,5 @@
 -- `Curves::check`: its calls are the definition's.
-use borrow.Author.Needs.{needs}
+use native.Mathlib.Omega.{arith}
 use Rattle.sets.specs.Sets.{setAnswer}
 use Rattle.sets.proofs.Curves.check.Statement.{statement}
 use Rattle.sets.proofs.Curves.check.Tie as tie
@@ -21,4 +21,6 @@ returns c =
 pub check-spec : {M : Type 1} → statement M
 check-spec =
     tie.close
-    (tie.spec (search needs) (search needs) (search needs) (search needs) (search needs) (search needs) (search needs) returns)
+    (tie.spec
+    (omega arith) (omega arith) (omega arith) (omega arith) (omega arith) (omega arith) (omega arith)
+    returns)

@@ -1,6 +1,6 @@
 -- `Curves::new`: no colour is present.
+use native.Mathlib.Omega.{arith}
 use mathlib.Core.Path.{refl}
-use borrow.Author.Needs.{needs}
 use Rattle.sets.proofs.Curves.new.Statement.{statement}
 use Rattle.sets.proofs.Curves.new.Tie as tie
 
@@ -11,4 +11,4 @@ returns c = record {
 }
 
 pub new-spec : {M : Type 1} → statement M
-new-spec = tie.close (tie.spec (search needs) (search needs) (search needs) returns)
+new-spec = tie.close (tie.spec (omega arith) (omega arith) (omega arith) returns)

@@ -1,5 +1,5 @@
 -- `Curves::with_channel`: an arm for each colour.
-use borrow.Author.Needs.{needs}
+use native.Mathlib.Omega.{arith}
 use Rattle.sets.proofs.Curves.with_channel.Statement.{statement}
 use Rattle.sets.proofs.Curves.with_channel.Tie as tie
 
@@ -13,4 +13,4 @@ returns-3 : tie.Need-returns-3
 returns-3 c = rw (c .enum-told3 .given .1)
 
 pub with-channel-spec : {M : Type 1} → statement M
-with-channel-spec = tie.close (tie.spec (search needs) (search needs) (search needs) returns returns-2 returns-3)
+with-channel-spec = tie.close (tie.spec (omega arith) (omega arith) (omega arith) returns returns-2 returns-3)

@@ -2,7 +2,6 @@
 use Prim.Native.Nat.{_*_, _^_, _≤_}
 use native.Mathlib.Nat.{le-of-lt, mul-le-mul, mul-le-mul-left}
 use native.Mathlib.Omega.{arith}
-use borrow.Author.Needs.{needs}
 use mir.Facts.{fits-below}
 use Rattle.single.proofs.root.falling.Statement.{statement}
 use Rattle.single.proofs.root.falling.Tie as tie
@@ -14,4 +13,4 @@ sub-result : tie.Need-sub-result
 sub-result c = omega (arith, mul-le-mul-left (c .args .d) (le-of-lt (c .pre .2)))
 
 pub falling-spec : {M : Type 1} → statement M
-falling-spec = tie.close (tie.spec mul-result sub-result (λ c. search needs))
+falling-spec = tie.close (tie.spec mul-result sub-result (omega arith))

@@ -2,7 +2,6 @@
 use Prim.Native.Nat.{ℕ, _+_, _-_, _*_, _/_, _^_, _≤_}
 use native.Mathlib.Nat.{le-trans, le-of-lt, sub-le, mul-le-mul}
 use native.Mathlib.Omega.{arith}
-use borrow.Author.Needs.{needs}
 use lib.Dec.{lit≤}
 use mir.Facts.{fits-below}
 use Rattle.single.proofs.root.guess.Statement.{statement}
@@ -82,14 +81,14 @@ pub guess-spec : {M : Type 1} → statement M
 guess-spec =
     tie.close
     (tie.spec
-    (λ c. search needs) (λ c κs. search needs) (λ c. search needs) (λ c. search needs)
+    (omega arith) (omega arith) (omega arith) (omega arith)
     mul-s-2
     mul-s-3
     mul-if1
     returns
-    (λ c. search needs) (λ c. search needs)
+    (omega arith) (omega arith)
     mul-inverse-2
-    (λ c. search needs) (λ c. search needs)
+    (omega arith) (omega arith)
     mul-result-2
     add-result
     add-result-2

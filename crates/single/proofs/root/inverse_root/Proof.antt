@@ -24,7 +24,7 @@ inverse-root-spec =
     tie.close
     (tie.spec
     mul-square
-    (λ c κs. search needs) (λ c κs. search needs) (λ c κs. search needs)
+    (omega arith) (omega arith) (omega arith)
     rising-requires
     rising-requires-2
-    (λ c. search needs))
+    (omega arith))

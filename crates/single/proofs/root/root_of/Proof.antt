@@ -1,7 +1,6 @@
 -- `root_of` meets its contract: what `lowered` ensures makes p the one nearest root.
 use Prim.Native.Nat.{ℕ, _^_, _<_}
 use native.Mathlib.Omega.{arith}
-use borrow.Author.Needs.{needs}
 use Rattle.single.proofs.root.Units.{Wide, scaled, scaled-wide, at-most, root-pattern, no-nan}
 use Rattle.single.proofs.root.root_of.Statement.{statement}
 use Rattle.single.proofs.root.root_of.Tie as tie
@@ -47,12 +46,12 @@ pub root-of-spec : {M : Type 1} → statement M
 root-of-spec =
     tie.close
     (tie.spec
-    (λ c. search needs) (λ c. search needs) (λ c. search needs)
+    (omega arith) (omega arith) (omega arith)
     mul-m-2
     guess-requires
     raised-requires
     lowered-requires
-    (λ c. search needs) (λ c. search needs)
+    (omega arith) (omega arith)
     cast-result
     add-result-2
     float-from-bits-result

@@ -2,7 +2,6 @@
 use mathlib.Core.Path.{_≡_, refl, sym, ap, _∙_, subst}
 use Prim.Native.Nat.{ℕ}
 use native.Mathlib.Omega.{arith}
-use borrow.Author.Needs.{needs}
 use lib.Dec.{T}
 use lib.Ieee.{Float, binary32, fits, toBits, div, ofBits, nan}
 use lib.Ieee.Bits.{ofBits-toBits, toBits-lt}
@@ -65,7 +64,7 @@ sqrt-spec =
     returns-2
     returns-3
     returns-4
-    (λ c κs. search needs) (λ c. search needs) (λ c. search needs) (λ c κs. search needs)
+    (omega arith) (omega arith) (omega arith) (omega arith)
     returns-5
-    (λ c. search needs) (λ c. search needs) (λ c κs. search needs)
+    (omega arith) (omega arith) (omega arith)
     returns-6)

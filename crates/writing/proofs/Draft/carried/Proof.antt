@@ -1,4 +1,5 @@
 -- `Draft::carried`: by the two kinds that carry something; the others carry nothing.
+use native.Mathlib.Omega.{arith}
 use mathlib.Core.Path.{_≡_, refl}
 use mathlib.Core.List.{[], _∷_}
 use lib.Dec.{lit<}
@@ -81,10 +82,10 @@ pub carried-spec : {M : Type 1} → statement M
 carried-spec =
     tie.close
     (tie.spec
-    (λ c. search needs)
+    (omega arith)
     push-requires
     returns
-    (λ c. search needs)
+    (omega arith)
     slope-requires
     slope-requires-2
     returns-2

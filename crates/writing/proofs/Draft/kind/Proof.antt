@@ -1,6 +1,6 @@
 -- `Draft::kind`: by whether the kind is named.
+use native.Mathlib.Omega.{arith}
 use Rattle.writing.proofs.Laws.{appended-none}
-use borrow.Author.Needs.{needs}
 use Rattle.writing.proofs.Draft.kind.Statement.{statement}
 use Rattle.writing.proofs.Draft.kind.Tie as tie
 
@@ -16,4 +16,4 @@ returns-2 : tie.Need-returns-2
 returns-2 c = rw (← c .before .names-kind .ensures, c .if1 .left) appended-none
 
 pub kind-spec : {M : Type 1} → statement M
-kind-spec = tie.close (tie.spec (λ c κs. search needs) (λ c κs. search needs) push-requires returns returns-2)
+kind-spec = tie.close (tie.spec (omega arith) (omega arith) push-requires returns returns-2)

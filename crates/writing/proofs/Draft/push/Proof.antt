@@ -14,4 +14,4 @@ returns c =
     stored-one (c .args .t1 .bytes) (c .args .t1 .length) (c .args .b) (omega arith)
 
 pub push-spec : {M : Type 1} → statement M
-push-spec = tie.close (tie.spec (λ c. search needs) (λ c. search needs) returns)
+push-spec = tie.close (tie.spec (omega arith) (omega arith) returns)

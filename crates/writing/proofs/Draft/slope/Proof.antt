@@ -1,7 +1,7 @@
 -- `Draft::slope`: two bytes behind, low byte first.
+use native.Mathlib.Omega.{arith}
 use mir.Facts.{toZ-ofZ}
 use Rattle.writing.proofs.Laws.{appended-then, appended-as}
-use borrow.Author.Needs.{needs}
 use Rattle.writing.proofs.Draft.slope.Statement.{statement}
 use Rattle.writing.proofs.Draft.slope.Tie as tie
 
@@ -13,4 +13,6 @@ returns c =
 pub slope-spec : {M : Type 1} → statement M
 slope-spec =
     tie.close
-    (tie.spec (λ c κs. search needs) (λ c. search needs) (λ c κs. search needs) (λ c. search needs) (λ c κs. search needs) returns)
+    (tie.spec
+    (omega arith) (omega arith) (omega arith) (omega arith) (omega arith)
+    returns)
