@@ -10,9 +10,8 @@ use Rattle.single.specs.Constants.{𝟎, nano}
 use Rattle.single.specs.Rules.{guardedQuotient, tiny}
 use Rattle.single.specs.Root.{rootOf}
 use Rattle.points.specs.declared.Knot.{Knot}
-use Rattle.points.specs.Knots.{knotAt}
+use Rattle.points.specs.Knots.{knotAt, at}
 use Rattle.hermite.specs.CatmullRom.{before, after}
-use Rattle.hermite.specs.Segments.{at}
 
 -- the distance of a and b
 unfoldable pub chord : Knot → Knot → Float

@@ -1,11 +1,8 @@
 // The tangents of CentripetalCatmullRom and ChordalCatmullRom at the knots, by the chords between them. n knots stand in the rows xs and ys; what stands
-// behind them is not read. A row of tangents has zeros behind its first n.
+// behind them is not read. The tangents go to the front of a lent row.
 ghost use mathlib.Core.Path.{_≡_};
 ghost use Prim.Native.Nat.{_-_, _≤_};
-ghost use lib.ListN.{replicate};
-ghost use Rattle.lists.specs.Tabulate.{filled};
 ghost use Rattle.lists.specs.Stored.{Stored};
-ghost use Rattle.single.specs.Constants.{𝟎};
 ghost use Rattle.chords.specs.Alpha as Alpha;
 use points::Knot;
 use points::knot_at;
@@ -86,15 +83,14 @@ fn inner_tangent(l: Knot, c: Knot, r: Knot, dl: f32, ds: f32, dr: f32) -> f32
 }
 
 // The tangents of ChordalCatmullRom, or where centripetal of CentripetalCatmullRom.
-pub fn alpha(centripetal: bool, xs: &[f32; 66], ys: &[f32; 66], n: usize) -> [f32; 66]
+pub fn alpha(centripetal: bool, xs: &[f32; 66], ys: &[f32; 66], n: usize, tangents: &mut [f32; 66])
     requires { ⌜ (2 ≤ n) × (n ≤ 66) ⌝ }
-    ensures { λ r. ⌜ r ≡ filled n (Alpha.alphaAt centripetal (now (xs .entry)) (now (ys .entry)) n) (replicate 66 𝟎) ⌝ }
+    ensures { λ _. ⌜ Stored (Alpha.alphaAt centripetal (now (xs .entry)) (now (ys .entry)) n) 0 n (now (tangents .entry)) (now (tangents .exit)) ⌝ }
 {
     let mut row = [0.0; 66];
     chords(xs, ys, n, &mut row);
     let mut ways = [0.0; 66];
     spacings(centripetal, &row, n, &mut ways);
-    let mut tangents = [0.0; 66];
     tangents[0] = end_tangent(knot_at(xs, ys, 0), knot_at(xs, ys, 1), ways[0]);
     let mut i: usize = 1;
     while i + 1 < n {
@@ -107,5 +103,4 @@ pub fn alpha(centripetal: bool, xs: &[f32; 66], ys: &[f32; 66], n: usize) -> [f3
         i += 1;
     }
     tangents[i] = end_tangent(knot_at(xs, ys, i - 1), knot_at(xs, ys, i), ways[i - 1]);
-    tangents
 }

@@ -13,17 +13,17 @@ use Rattle.hermite.specs.Segments.{step, sampleAt, seek, segment}
 use Rattle.hermite.specs.Pieces as Piece
 use Rattle.hermite.specs.CatmullRom.{looseness, looseSlope, cardinalAt}
 use Rattle.spline.specs.Segments.{between, segmentAt, firstCoefficient, splinePiece, slopeOf}
-use Rattle.spline.specs.Second.{rowAt, unknown, framed, secondAt}
+use Rattle.spline.specs.Second.{rowAt, unknown, framed, naturalAt, secondAt}
 use Rattle.spline.specs.Thomas.{scaled, sweep, swept, sweptRow, backward, substituted, solution}
-use Rattle.sampling.specs.Pieces.{heightOf, heightAt, sampled}
+use Rattle.sampling.specs.Pieces.{pieceHeight, heightAt, sampled}
 use Rattle.tables.specs.declared.CurveInterpolation.{CurveInterpolation}
 use Rattle.tables.specs.Tables.{unclampedAt, sampleOf, entryOf}
 use Rattle.records.specs.Format.{Read, pairs, readPoints, readList, readKind, readNumber, readCarried, readFields, readRecord}
 
 -- an entry of a byte table
 unfoldable pub entry : CurveInterpolation → List Point → ℕ → ℕ
-unfolding entryOf sampleOf sampled unclampedAt heightAt heightOf kept keptBelow firstAt knots rest xRow yRow xAt yAt filled tabulate step sampleAt seek
-    segment Piece.part Piece.straight Piece.hermite looseness looseSlope cardinalAt between segmentAt firstCoefficient splinePiece slopeOf secondAt
+unfolding entryOf sampleOf sampled unclampedAt heightAt pieceHeight kept keptBelow firstAt knots rest xRow yRow xAt yAt filled tabulate step sampleAt seek
+    segment Piece.part Piece.straight Piece.hermite looseness looseSlope cardinalAt between segmentAt firstCoefficient splinePiece slopeOf secondAt naturalAt
     framed unknown rowAt solution substituted backward sweptRow swept sweep scaled guardedQuotient absolute clamped byteOf add sub neg mul div lt ofInt
     ofBits
 entry = entryOf

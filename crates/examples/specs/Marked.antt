@@ -11,7 +11,7 @@ use Rattle.answers.specs.declared.Answer.the-variants.{Done}
 use Rattle.answers.specs.Numbers.{numberOf}
 use Rattle.single.specs.Constants.{𝟐}
 use Rattle.single.specs.Root.{rootOf}
-use Rattle.points.specs.Points.{pt, straight}
+use Rattle.points.specs.Points.{pt, straightCurve}
 use Rattle.spline.specs.Segments.{slopeOf}
 use Rattle.tables.specs.declared.CurveInterpolation.the-variants.{Linear, NaturalCubic, Cardinal, ClampedCubic}
 use Rattle.tables.specs.Tables.{entryOf, byteTable}
@@ -44,17 +44,17 @@ unfolding Computed.entry
 P4 = refl
 
 -- "P5 straight curve, Natural: entry v is v."
-pub P5 : byteTable NaturalCubic straight ≡ tabulate 256 (λ v. v)
+pub P5 : byteTable NaturalCubic straightCurve ≡ tabulate 256 (λ v. v)
 unfolding Computed.entry
 P5 = refl
 
 -- "P6 straight, Cardinal q = 255: entry 51 is 27."
-pub P6 : entryOf (Cardinal 255) straight 51 ≡ 27
+pub P6 : entryOf (Cardinal 255) straightCurve 51 ≡ 27
 unfolding Computed.entry
 P6 = refl
 
 -- "P7 straight, Clamped 256, 256: entry v is v."
-pub P7 : byteTable (ClampedCubic (pos 256) (pos 256)) straight ≡ tabulate 256 (λ v. v)
+pub P7 : byteTable (ClampedCubic (pos 256) (pos 256)) straightCurve ≡ tabulate 256 (λ v. v)
 unfolding Computed.entry
 P7 = refl
 
@@ -69,7 +69,7 @@ unfolding rootOf ofBits toBits
 P9 = refl
 
 -- "P10 record (hexadecimal) 11 02 00 00 FF FF 00: straight master, Linear; .."
-pub P10 : readRecord (0x11 ∷ 0x02 ∷ 0x00 ∷ 0x00 ∷ 0xFF ∷ 0xFF ∷ 0x00 ∷ []) ≡ record { answer = Done; set = withKind Linear (masterOnly straight) }
+pub P10 : readRecord (0x11 ∷ 0x02 ∷ 0x00 ∷ 0x00 ∷ 0xFF ∷ 0xFF ∷ 0x00 ∷ []) ≡ record { answer = Done; set = withKind Linear (masterOnly straightCurve) }
 unfolding Computed.read
 P10 = refl
 

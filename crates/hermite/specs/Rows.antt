@@ -13,11 +13,10 @@ use Rattle.floats.specs.Order.{above-equal, below-equal}
 use Rattle.floats.specs.Segment.{Segment}
 use Rattle.single.specs.Constants.{𝟎, 𝟐𝟓𝟓, 𝟎-is, 𝟐𝟓𝟓-is}
 use Rattle.points.specs.declared.Point.{Point}
-use Rattle.points.specs.Knots.{xOf, yOf, xRow, yRow}
+use Rattle.points.specs.Knots.{xOf, yOf, xRow, yRow, at}
 use Rattle.points.specs.Order.{Bytes, all-at, rising-to}
 use Rattle.points.specs.Shape.{Shape}
 use Rattle.points.specs.Rows.{x-is, y-is, y-at, height-fits}
-use Rattle.hermite.specs.Segments.{at}
 
 -- The first n places of xs and ys hold knots: knot i stands at the whole number a i and has the height h i / 256. The x rise strictly from 0 to 255.
 pub record Rows (xs ys : List Float) (n : ℕ) (a h : ℕ → ℕ) : Type 0 where

@@ -3,15 +3,11 @@
 use Prim.Native.Nat.{ℕ, zero, suc, _-_}
 use mathlib.Core.Bool.{cond}
 use mathlib.Core.List.{List}
-use lib.ListN.{getD}
-use lib.Ieee.{Float, nan, lt}
+use lib.Ieee.{Float, lt}
 use Rattle.floats.specs.Notation.{_⊗_, _⊘_}
 use Rattle.single.specs.Constants.{𝟐𝟓𝟓}
 use Rattle.single.specs.Rules.{float}
-
--- what stands at place i of a row
-abbrev pub at : List Float → ℕ → Float
-at row i = getD row i nan
+use Rattle.points.specs.Knots.{at}
 
 -- "step = 255 / (S − 1)", for S samples
 unfoldable pub step : ℕ → Float

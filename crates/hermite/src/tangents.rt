@@ -1,10 +1,8 @@
 // The tangents of CatmullRom and Cardinal at the knots. n knots stand in the rows xs and ys; what stands behind them is not read.
-// A row of tangents has zeros behind its first n.
+// The tangents go to the front of a lent row.
 ghost use mathlib.Core.Path.{_≡_};
 ghost use Prim.Native.Nat.{_≤_, _<_};
-ghost use lib.ListN.{replicate};
-ghost use Rattle.lists.specs.Tabulate.{filled};
-ghost use Rattle.single.specs.Constants.{𝟎};
+ghost use Rattle.lists.specs.Stored.{Stored};
 ghost use Rattle.hermite.specs.CatmullRom as CatmullRom;
 use points::Knot;
 use points::knot_at;
@@ -34,11 +32,10 @@ fn after(n: usize, i: usize) -> usize
 }
 
 // The tangents of CatmullRom.
-pub fn catmull_rom(xs: &[f32; 66], ys: &[f32; 66], n: usize) -> [f32; 66]
+pub fn catmull_rom(xs: &[f32; 66], ys: &[f32; 66], n: usize, tangents: &mut [f32; 66])
     requires { ⌜ (2 ≤ n) × (n ≤ 66) ⌝ }
-    ensures { λ r. ⌜ r ≡ filled n (CatmullRom.catmullRomAt (now (xs .entry)) (now (ys .entry)) n) (replicate 66 𝟎) ⌝ }
+    ensures { λ _. ⌜ Stored (CatmullRom.catmullRomAt (now (xs .entry)) (now (ys .entry)) n) 0 n (now (tangents .entry)) (now (tangents .exit)) ⌝ }
 {
-    let mut tangents = [0.0; 66];
     let mut i: usize = 0;
     while i < n {
         let l = knot_at(xs, ys, before(i));
@@ -46,7 +43,6 @@ pub fn catmull_rom(xs: &[f32; 66], ys: &[f32; 66], n: usize) -> [f32; 66]
         tangents[i] = slope(l, r);
         i += 1;
     }
-    tangents
 }
 
 // 1 − c, where c is the tension q / 255.
@@ -64,12 +60,11 @@ fn loose_slope(c: f32, l: Knot, r: Knot) -> f32
 }
 
 // The tangents of Cardinal with the tension q.
-pub fn cardinal(q: u8, xs: &[f32; 66], ys: &[f32; 66], n: usize) -> [f32; 66]
+pub fn cardinal(q: u8, xs: &[f32; 66], ys: &[f32; 66], n: usize, tangents: &mut [f32; 66])
     requires { ⌜ (2 ≤ n) × (n ≤ 66) ⌝ }
-    ensures { λ r. ⌜ r ≡ filled n (CatmullRom.cardinalAt q (now (xs .entry)) (now (ys .entry)) n) (replicate 66 𝟎) ⌝ }
+    ensures { λ _. ⌜ Stored (CatmullRom.cardinalAt q (now (xs .entry)) (now (ys .entry)) n) 0 n (now (tangents .entry)) (now (tangents .exit)) ⌝ }
 {
     let c = looseness(q);
-    let mut tangents = [0.0; 66];
     let mut i: usize = 0;
     while i < n {
         let l = knot_at(xs, ys, before(i));
@@ -77,5 +72,4 @@ pub fn cardinal(q: u8, xs: &[f32; 66], ys: &[f32; 66], n: usize) -> [f32; 66]
         tangents[i] = loose_slope(c, l, r);
         i += 1;
     }
-    tangents
 }

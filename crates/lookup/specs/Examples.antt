@@ -10,11 +10,11 @@ use Rattle.lists.specs.Tabulate.{tabulate}
 use Rattle.single.specs.Constants.{𝟎, ½, 𝟏, 𝟐𝟓𝟓}
 use Rattle.single.specs.Rules.{floorOf}
 use Rattle.single.specs.Examples.{−𝟎}
-use Rattle.lookup.specs.Lookup.{clampedUnit, position, between, looked, lookedUp}
+use Rattle.lookup.specs.Lookup.{clampedUnit, position, blended, looked, lookedUp}
 
 -- a table of nothing but 255 gives 1 at both zeros, within, at the end, for NaN and for the infinities
 pub flat : lookedUp (replicate 4096 𝟐𝟓𝟓) (𝟎 ∷ −𝟎 ∷ ½ ∷ 𝟏 ∷ nan ∷ inf true ∷ inf false ∷ []) ≡ replicate 7 𝟏
-unfolding lookedUp tabulate looked between position clampedUnit floorOf lt le add sub mul div ofInt ofBits
+unfolding lookedUp tabulate looked blended position clampedUnit floorOf lt le add sub mul div ofInt ofBits
 flat = refl
 
 -- At a quarter the position is 1,023¾: three parts of entry 1,024 and one of the entry before it.
@@ -28,7 +28,7 @@ abbrev ¾ : Float
 ¾ = ofBits binary32 0x3f40_0000
 
 pub weights : lookedUp (tabulate 4096 spike) (¼ ∷ []) ≡ ¾ ∷ []
-unfolding lookedUp tabulate looked between position clampedUnit floorOf lt le add sub mul div ofInt ofBits
+unfolding lookedUp tabulate looked blended position clampedUnit floorOf lt le add sub mul div ofInt ofBits
 weights = refl
 
 -- 4,095 entries are refused: nothing changes

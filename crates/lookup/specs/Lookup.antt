@@ -22,15 +22,15 @@ unfoldable pub position : Float → Float
 position v = clampedUnit v ⊗ 𝟒𝟎𝟗𝟓
 
 -- "i its floor, at most 4,094; f the rest; the result is (T[i] × (1 − f) + T[i+1] × f) / 255": T is the table, p the position
-unfoldable pub between : List Float → Float → Float
-between table p =
+unfoldable pub blended : List Float → Float → Float
+blended table p =
     let i = floorOf p in
     let f = p ⊖ float i in
     (getD table i nan ⊗ (𝟏 ⊖ f) ⊕ getD table (i + 1) nan ⊗ f) ⊘ 𝟐𝟓𝟓
 
 -- what replaces the value at place k
 unfoldable pub looked : List Float → List Float → ℕ → Float
-looked table values k = between table (position (getD values k nan))
+looked table values k = blended table (position (getD values k nan))
 
 -- the index, i, of the value j places after the place at
 unfoldable pub indexFrom : List Float → ℕ → ℕ → ℕ

@@ -38,7 +38,7 @@ fn index(v: f32) -> u16
 // The result for the value v, whose index is i.
 fn blend(table: &[f32], v: f32, i: u16) -> f32
     requires { ⌜ (length (now table) ≡ 4096) × (i ≡ floorOf (L.position v)) ⌝ }
-    ensures { λ r. ⌜ r ≡ L.between (now (table .entry)) (L.position v) ⌝ }
+    ensures { λ r. ⌜ r ≡ L.blended (now (table .entry)) (L.position v) ⌝ }
 {
     let i = i as usize;
     let next = i + 1;

@@ -10,9 +10,8 @@ use Rattle.single.specs.Constants.{𝟎, ½, 𝟑, 𝟗}
 use Rattle.single.specs.Rules.{tiny}
 use Rattle.single.specs.Root.{rootOf}
 use Rattle.monotone.specs.declared.Tangents.{Tangents}
-use Rattle.points.specs.Knots.{knotAt}
+use Rattle.points.specs.Knots.{knotAt, at}
 use Rattle.hermite.specs.CatmullRom.{slope}
-use Rattle.hermite.specs.Segments.{at}
 
 -- the secant of the segment i
 unfoldable pub secantAt : List Float → List Float → ℕ → Float

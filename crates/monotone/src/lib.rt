@@ -1,12 +1,9 @@
 // The tangents of MonotoneCubic and MonotoneCubicBox at the knots. n knots stand in the rows xs and ys; what stands behind them is not read.
-// A row of tangents has zeros behind its first n.
+// The tangents go to the front of a lent row.
 ghost use mathlib.Core.Path.{_≡_};
 ghost use Prim.Native.Nat.{_-_, _≤_, _<_};
-ghost use lib.ListN.{replicate};
 ghost use Rattle.floats.specs.Notation.{_⊘_};
-ghost use Rattle.lists.specs.Tabulate.{filled};
 ghost use Rattle.lists.specs.Stored.{Stored};
-ghost use Rattle.single.specs.Constants.{𝟎};
 ghost use Rattle.monotone.specs.Monotone as Monotone;
 use hermite::tangents::slope;
 use points::knot_at;
@@ -129,9 +126,9 @@ fn quotients(rs: &[f32; 66], ds: &[f32; 66], n: usize, row: &mut [f32; 66])
 // The tangents of MonotoneCubic, or where boxed of MonotoneCubicBox, segment by segment from the left. m is the tangent of knot i as the segments before
 // it leave it. What does not wait for m is found before, in rows: with m / d and r / d in one turn LLVM makes one vector of them, and each turn waits for
 // the one before it.
-pub fn monotone(boxed: bool, xs: &[f32; 66], ys: &[f32; 66], n: usize) -> [f32; 66]
+pub fn monotone(boxed: bool, xs: &[f32; 66], ys: &[f32; 66], n: usize, tangents: &mut [f32; 66])
     requires { ⌜ (2 ≤ n) × (n ≤ 66) ⌝ }
-    ensures { λ r. ⌜ r ≡ filled n (Monotone.monotoneAt boxed (now (xs .entry)) (now (ys .entry)) n) (replicate 66 𝟎) ⌝ }
+    ensures { λ _. ⌜ Stored (Monotone.monotoneAt boxed (now (xs .entry)) (now (ys .entry)) n) 0 n (now (tangents .entry)) (now (tangents .exit)) ⌝ }
 {
     let mut ds = [0.0; 66];
     secants(xs, ys, n, &mut ds);
@@ -139,7 +136,6 @@ pub fn monotone(boxed: bool, xs: &[f32; 66], ys: &[f32; 66], n: usize) -> [f32; 
     means(&ds, n, &mut rs);
     let mut bs = [0.0; 66];
     quotients(&rs, &ds, n, &mut bs);
-    let mut tangents = [0.0; 66];
     let mut m = ds[0];
     let mut i: usize = 0;
     while i + 1 < n {
@@ -149,5 +145,4 @@ pub fn monotone(boxed: bool, xs: &[f32; 66], ys: &[f32; 66], n: usize) -> [f32; 
         i += 1;
     }
     tangents[i] = m;
-    tangents
 }

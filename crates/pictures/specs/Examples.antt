@@ -20,7 +20,7 @@ use Rattle.lists.specs.Each.{each}
 use Rattle.lists.specs.Tabulate.{tabulate}
 use Rattle.points.specs.declared.Point.{Point}
 use Rattle.points.specs.declared.Curve.{Curve}
-use Rattle.points.specs.Points.{pt, straight, risesFrom}
+use Rattle.points.specs.Points.{pt, straightCurve, risesFrom}
 use Rattle.tables.specs.declared.CurveInterpolation.the-variants.{Linear}
 use Rattle.sets.specs.declared.Curves.{Curves}
 use Rattle.sets.specs.declared.Channel.{Channel}
@@ -44,7 +44,7 @@ abbrev alone : Curve → Curves
 alone c = record { master = c; red = absent; green = absent; blue = absent; interpolation = Linear }
 
 abbrev pub line : Curve
-line = stored straight 2
+line = stored straightCurve 2
 
 -- a run of w columns and h rows, out of a plane of len bytes, with chroma of 3 bytes each
 abbrev pub run : Curve → PixelFormat → ℕ → ℕ → ℕ → ℕ → ℕ → ℕ → ℕ → Run
@@ -84,7 +84,7 @@ four-inks = refl
 
 -- ---- the order of the refusals: each line mends the first fault of the line before it, and has all the later ones still
 abbrev many : Curve
-many = stored straight 65
+many = stored straightCurve 65
 
 abbrev falling : Curve
 falling = stored (pt 9 0 ∷ pt 8 0 ∷ []) 2

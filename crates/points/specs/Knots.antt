@@ -1,13 +1,15 @@
 -- The knots of a list, and its exact broken line, as document 01's section "Points" has them. Definitions only.
 use Prim.Native.Nat.{ℕ, suc, _+_, _-_, _*_, _≤_, _<_}
 use mathlib.Core.Path.{_≡_}
-use mathlib.Core.Bool.{cond}
+use mathlib.Core.Bool.{Bool, cond}
 use mathlib.Core.List.{List, [], _∷_}
 use lib.Dec.{eqb}
 use lib.ListN.{length, getD, replicate}
-use lib.Ieee.{Float, nan}
+use lib.Ieee.{Float, nan, lt}
 use Rattle.lists.specs.Tabulate.{filled}
-use Rattle.single.specs.Constants.{𝟎}
+use Rattle.floats.specs.Notation.{_⊖_}
+use Rattle.floats.specs.Value.{absolute}
+use Rattle.single.specs.Constants.{𝟎, micro}
 use Rattle.single.specs.Rules.{float}
 use Rattle.points.specs.declared.Point.{Point}
 use Rattle.points.specs.declared.Knot.{Knot}
@@ -53,9 +55,17 @@ unfoldable pub yRow : List Point → List Float
 unfolding yAt filled
 yRow ks = filled (length ks) (yAt ks) (replicate 66 𝟎)
 
+-- what stands at place i of a row
+abbrev pub at : List Float → ℕ → Float
+at row i = getD row i nan
+
 -- knot i of two rows
 abbrev pub knotAt : List Float → List Float → ℕ → Knot
-knotAt xs ys i = record { x = getD xs i nan; y = getD ys i nan }
+knotAt xs ys i = record { x = at xs i; y = at ys i }
+
+-- whether a segment, with its knots at l and r, is too narrow to divide by its width: narrower than 1e-6
+abbrev pub narrow : Float → Float → Bool
+narrow l r = lt (absolute (r ⊖ l)) micro
 
 -- r holds the knots ks
 pub record KnotsOf (ks : List Point) (r : Knots) : Type 0 where

@@ -9,7 +9,7 @@ use lib.Dec.{lit<, lit≤}
 use lib.ListN.{getD}
 use lib.Seq.{getD-take}
 use Rattle.points.specs.declared.Point.{Point}
-use Rattle.points.specs.Points.{pt, straight}
+use Rattle.points.specs.Points.{pt, straightCurve}
 use Rattle.points.specs.Knots.{rest, knots, OnLine}
 use Rattle.hermite.specs.CatmullRom.{slope}
 use Rattle.monotone.specs.Monotone.{secantAt, meanAt, boxed, adjusted, reached, monotoneAt}
@@ -181,7 +181,7 @@ through-points-wants-no-spline through =
 
 -- ---- "rows alone": alpha and chroma are written too, so it is not enough that runs are alike in their toned bytes, or in their rows
 abbrev straightLine : Toning
-straightLine = record { list = straight; kind = Linear; bytes = ((lit< tt, lit< tt), ((lit< tt, lit< tt), tt)); tension = lit< tt }
+straightLine = record { list = straightCurve; kind = Linear; bytes = ((lit< tt, lit< tt), ((lit< tt, lit< tt), tt)); tension = lit< tt }
 
 abbrev colours : ℕ → List ℕ
 colours alpha = 5 ∷ 6 ∷ 7 ∷ alpha ∷ []

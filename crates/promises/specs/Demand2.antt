@@ -22,7 +22,7 @@ use Rattle.monotone.specs.Monotone.{monotoneAt}
 use Rattle.chords.specs.Alpha.{alphaAt}
 use Rattle.spline.specs.declared.SplineBoundary.the-variants.{Natural, Clamped, NotAKnot}
 use Rattle.spline.specs.Segments.{slopeOf}
-use Rattle.sampling.specs.Pieces.{heightOf}
+use Rattle.sampling.specs.Pieces.{pieceHeight}
 use Rattle.tables.specs.declared.CurveInterpolation.{CurveInterpolation}
 use Rattle.tables.specs.declared.CurveInterpolation.the-variants.{
   Linear,
@@ -97,47 +97,47 @@ apply-pixels = as-defined
 module _ (l : List Point) (S v : ℕ) where
   -- the straight line
   pub linear : sampleOf Linear l S v ≡ straightly l S v
-  unfolding heightOf
+  unfolding pieceHeight
   linear = drawn l S v Linear
 
   -- Catmull and Rom, "A class of local interpolating splines", 1974
   pub catmull-rom : sampleOf CatmullRom l S v ≡ hermiteBy l S v catmullRomAt
-  unfolding heightOf
+  unfolding pieceHeight
   catmull-rom = drawn l S v CatmullRom
 
   pub cardinal : (q : ℕ) → sampleOf (Cardinal q) l S v ≡ hermiteBy l S v (cardinalAt q)
-  unfolding heightOf
+  unfolding pieceHeight
   cardinal q = drawn l S v (Cardinal q)
 
   -- Fritsch and Carlson, "Monotone Piecewise Cubic Interpolation", 1980: the circle, and the box
   pub monotone-cubic : sampleOf MonotoneCubic l S v ≡ hermiteBy l S v (monotoneAt false)
-  unfolding heightOf
+  unfolding pieceHeight
   monotone-cubic = drawn l S v MonotoneCubic
 
   pub monotone-cubic-box : sampleOf MonotoneCubicBox l S v ≡ hermiteBy l S v (monotoneAt true)
-  unfolding heightOf
+  unfolding pieceHeight
   monotone-cubic-box = drawn l S v MonotoneCubicBox
 
   -- Barry and Goldman, "A recursive evaluation algorithm for a class of Catmull-Rom splines", 1988: by the root of the chord, and by the chord
   pub centripetal-catmull-rom : sampleOf CentripetalCatmullRom l S v ≡ hermiteBy l S v (alphaAt true)
-  unfolding heightOf
+  unfolding pieceHeight
   centripetal-catmull-rom = drawn l S v CentripetalCatmullRom
 
   pub chordal-catmull-rom : sampleOf ChordalCatmullRom l S v ≡ hermiteBy l S v (alphaAt false)
-  unfolding heightOf
+  unfolding pieceHeight
   chordal-catmull-rom = drawn l S v ChordalCatmullRom
 
   -- de Boor, "A Practical Guide to Splines", 1978
   pub natural-cubic : sampleOf NaturalCubic l S v ≡ splineBy l S v Natural
-  unfolding heightOf
+  unfolding pieceHeight
   natural-cubic = drawn l S v NaturalCubic
 
   pub clamped-cubic : (start end : ℤ) → sampleOf (ClampedCubic start end) l S v ≡ splineBy l S v (Clamped (slopeOf start) (slopeOf end))
-  unfolding heightOf
+  unfolding pieceHeight
   clamped-cubic start end = drawn l S v (ClampedCubic start end)
 
   pub not-a-knot-cubic : sampleOf NotAKnotCubic l S v ≡ splineBy l S v NotAKnot
-  unfolding heightOf
+  unfolding pieceHeight
   not-a-knot-cubic = drawn l S v NotAKnotCubic
 
 -- ---- "and records survive writing then reading."

@@ -13,11 +13,11 @@ use Rattle.single.specs.Rules.{clamped}
 use Rattle.single.specs.RuleLaws.{by-test}
 use Rattle.points.specs.declared.Point.{Point}
 use Rattle.points.specs.Points.{kept}
-use Rattle.points.specs.Knots.{rest, knots}
-use Rattle.hermite.specs.Segments.{at, seek, segment}
-use Rattle.sampling.specs.Pieces.{heightOf, heightAt, sampled}
+use Rattle.points.specs.Knots.{rest, knots, at}
+use Rattle.hermite.specs.Segments.{seek, segment}
+use Rattle.sampling.specs.Pieces.{pieceHeight, heightAt, sampled}
 use Rattle.tables.specs.declared.CurveInterpolation.{CurveInterpolation}
-use Rattle.tables.specs.Kinds.{formOf, numbersAt, rowOf}
+use Rattle.tables.specs.Kinds.{formOf, numbersAt, numbersRow}
 use Rattle.tables.specs.Tables.{unclampedAt, sampleOf}
 use Rattle.promises.specs.Results.{xs, ys, n, x, i, a, b}
 
@@ -42,11 +42,11 @@ module _ (l : List Point) (S v : ℕ) where
   right-end = omega (arith, seek-most (xs l) (x l S v) (n l - 2) 0, two-knots (kept l))
 
   module _ (kind : CurveInterpolation) where
-    number : (k : ℕ) → k < n l → at (rowOf kind (xs l) (ys l) (n l)) k ≡ numbersAt kind (xs l) (ys l) (n l) k
+    number : (k : ℕ) → k < n l → at (numbersRow kind (xs l) (ys l) (n l)) k ≡ numbersAt kind (xs l) (ys l) (n l) k
     number k inside = getD-filled (n l) (numbersAt kind (xs l) (ys l) (n l)) (replicate 66 𝟎) k nan inside
 
     pub drawn : sampleOf kind l S v
-        ≡ clamped (heightOf (formOf kind) (record {
+        ≡ clamped (pieceHeight (formOf kind) (record {
           a = a l S v;
           b = b l S v;
           p = numbersAt kind (xs l) (ys l) (n l) (i l S v);

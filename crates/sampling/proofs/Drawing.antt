@@ -13,17 +13,17 @@ use Rattle.lists.specs.Stored.{Stored, stored-next, stored-end, stored-as, stor
 use Rattle.single.specs.Constants.{𝟎, 𝟐}
 use Rattle.single.specs.Rules.{clamped}
 use Rattle.floats.specs.Notation.{_⊘_}
-use Rattle.hermite.specs.Segments.{at, sampleAt}
+use Rattle.hermite.specs.Segments.{sampleAt}
 use Rattle.hermite.specs.Pieces.{part}
 use Rattle.spline.specs.Segments.{splinePiece, firstCoefficient, thirdCoefficient}
 use Rattle.points.specs.declared.Knot.{Knot}
-use Rattle.points.specs.Knots.{knotAt}
+use Rattle.points.specs.Knots.{at, knotAt, narrow}
 use Rattle.sampling.specs.declared.Form.{Form}
 use Rattle.sampling.specs.declared.Form.the-variants.{Straight, Cubic, Spline}
 use Rattle.sampling.specs.declared.blocks.Place.{Place}
 use Rattle.sampling.specs.declared.Piece.{Piece}
-use Rattle.sampling.specs.Pieces.{pieceAt, heightOf}
-use Rattle.sampling.specs.Walk.{narrow, endAt, Ends, nextPlace, along, State}
+use Rattle.sampling.specs.Pieces.{pieceAt, pieceHeight}
+use Rattle.sampling.specs.Walk.{endAt, Ends, nextPlace, pieceSample, State}
 use Rattle.sampling.specs.Walk.{partFrom, partsOf, fromParts, straightSample, cubicSample, firstCoefficientAt, thirdCoefficientAt, splineSample}
 use Rattle.sampling.proofs.Walk.{end-most, end-inner, end-last, start, after-block}
 
@@ -97,14 +97,14 @@ from-parts f piece s v w low high =
 
 -- f gives the form's sample at each part
 pub record SampleOf (form : Form) (f : Piece → Float → Float) : Type 0 where
-  pub is : (piece : Piece) (x : Float) → f piece (part (piece .a) (piece .b) x) ≡ clamped (heightOf form piece x)
+  pub is : (piece : Piece) (x : Float) → f piece (part (piece .a) (piece .b) x) ≡ clamped (pieceHeight form piece x)
 
 pub straight-sample : SampleOf Straight straightSample
-unfolding heightOf
+unfolding pieceHeight
 straight-sample = record { is = λ piece x. refl }
 
 pub cubic-sample : SampleOf Cubic cubicSample
-unfolding heightOf
+unfolding pieceHeight
 cubic-sample = record { is = λ piece x. refl }
 
 -- the invariant: t are the parts of the block that comes next
@@ -116,8 +116,8 @@ pub record ByParts (form : Form) (xs ys ms : List Float) (n : ℕ) (ends : List 
 module _ {form : Form} {xs ys ms : List Float} {n : ℕ} {ends : List ℕ} {s : Float} {S : ℕ} {p : Place} {t l : List Float}
     (d : ByParts form xs ys ms n ends s S p t l) where
   block-by-parts : {f : Piece → Float → Float} {piece : Piece} {m : List Float} → SampleOf form f → piece ≡ pieceAt xs ys ms (p .i)
-      → Stored (fromParts (f piece) t (p .v)) (p .v) (p .v + 4) l m → Stored (along form (pieceAt xs ys ms (p .i)) s) (p .v) (p .v + 4) l m
-  unfolding along
+      → Stored (fromParts (f piece) t (p .v)) (p .v) (p .v + 4) l m → Stored (pieceSample form (pieceAt xs ys ms (p .i)) s) (p .v) (p .v + 4) l m
+  unfolding pieceSample
   block-by-parts {f} law same r =
       let here = pieceAt xs ys ms (p .i) in
       stored-as (rw (same, d .parts) at r) (λ w low high. from-parts (f here) here s (p .v) w low high ∙ law .is here (sampleAt s w))
@@ -135,8 +135,8 @@ module _ {form : Form} {xs ys ms : List Float} {n : ℕ} {ends : List ℕ} {s : 
 by-coefficients : (piece : Piece) (s : Float) (w : ℕ) → narrow (piece .a .x) (piece .b .x) ≡ false
     → splineSample (piece .a) (firstCoefficient (piece .a) (piece .b) (piece .p) (piece .q)) (piece .p ⊘ 𝟐)
     (thirdCoefficient (piece .a) (piece .b) (piece .p) (piece .q)) s w
-    ≡ along Spline piece s w
-unfolding splineSample along heightOf splinePiece
+    ≡ pieceSample Spline piece s w
+unfolding splineSample pieceSample pieceHeight splinePiece
 by-coefficients piece s w wide = rw wide
 
 -- the invariant: the rows c1s and c3s hold them
@@ -151,7 +151,7 @@ module _ {xs ys ms : List Float} {n : ℕ} {ends : List ℕ} {s : Float} {S : �
     (d : ByCoefficients xs ys ms n ends s S c1s c3s p l) where
   block-by-coefficients : {a : Knot} {m : List Float} → a ≡ knotAt xs ys (p .i)
       → Stored (splineSample a (at c1s (p .i)) (at ms (p .i) ⊘ 𝟐) (at c3s (p .i)) s) (p .v) (p .v + 4) l m
-      → Stored (along Spline (pieceAt xs ys ms (p .i)) s) (p .v) (p .v + 4) l m
+      → Stored (pieceSample Spline (pieceAt xs ys ms (p .i)) s) (p .v) (p .v + 4) l m
   unfolding firstCoefficientAt thirdCoefficientAt
   block-by-coefficients a-is r =
       let here = d .place in

@@ -17,12 +17,13 @@ use Rattle.single.specs.Rules.{clamped}
 use Rattle.single.specs.ByteLaws.{floor-small}
 use Rattle.single.specs.RuleLaws.{by-test}
 use Rattle.floats.specs.Notation.{_⊘_}
-use Rattle.hermite.specs.Segments.{at, step, sampleAt, seek, segment}
+use Rattle.hermite.specs.Segments.{step, sampleAt, seek, segment}
+use Rattle.points.specs.Knots.{at}
 use Rattle.sampling.specs.declared.Form.{Form}
 use Rattle.sampling.specs.declared.blocks.Place.{Place}
 use Rattle.sampling.specs.declared.Piece.{Piece}
-use Rattle.sampling.specs.Pieces.{pieceAt, heightOf, heightAt, sampled}
-use Rattle.sampling.specs.Walk.{isEnd, endAt, Ends, nextPlace, along, State}
+use Rattle.sampling.specs.Pieces.{pieceAt, pieceHeight, heightAt, sampled}
+use Rattle.sampling.specs.Walk.{isEnd, endAt, Ends, nextPlace, pieceSample, State}
 use Rattle.sampling.specs.Positions.{past-later, inside-earlier}
 
 -- ---- the search for a segment, from the segment i on
@@ -73,12 +74,12 @@ module _ (form : Form) (xs ys ms : List Float) (n S : ℕ) where
 
   -- a sample that lies in the segment i is that of its piece
   here : {i : ℕ} (w : ℕ) → segment xs n (position w) ≡ i
-      → along form (pieceAt xs ys ms i) (step S) w ≡ sampled (heightAt form xs ys ms n) S w
-  unfolding along sampled heightAt
+      → pieceSample form (pieceAt xs ys ms i) (step S) w ≡ sampled (heightAt form xs ys ms n) S w
+  unfolding pieceSample sampled heightAt
   here w same = rw same
 
   module _ {p : Place} {l m : List Float} (state : State form xs ys ms n S p l)
-      (block : Stored (along form (pieceAt xs ys ms (p .i)) (step S)) (p .v) (p .v + 4) l m) where
+      (block : Stored (pieceSample form (pieceAt xs ys ms (p .i)) (step S)) (p .v) (p .v + 4) l m) where
     -- up to a sample r in the block, if the piece has those before it
     done-to : (r : ℕ) → r ≤ p .v + 4 → ((w : ℕ) → p .v ≤ w → w < r → w < S → segment xs n (position w) ≡ p .i)
         → (w : ℕ) → w < r → w < S → getD m w nan ≡ sampled (heightAt form xs ys ms n) S w
@@ -111,7 +112,7 @@ module _ (form : Form) (xs ys ms : List Float) (n S : ℕ) where
 
   -- after a block
   after : {p : Place} {ends : List ℕ} {l m : List Float} → Ends xs n ends (step S) S → p .v + 4 ≤ S → State form xs ys ms n S p l
-      → Stored (along form (pieceAt xs ys ms (p .i)) (step S)) (p .v) (p .v + 4) l m → State form xs ys ms n S (nextPlace ends p) m
+      → Stored (pieceSample form (pieceAt xs ys ms (p .i)) (step S)) (p .v) (p .v + 4) l m → State form xs ys ms n S (nextPlace ends p) m
   unfolding nextPlace
   after {p} given room state block = elim (decLt (p .i + 2) n) [
     | yes inner ↦
@@ -138,7 +139,7 @@ module _ (form : Form) (xs ys ms : List Float) (n S : ℕ) where
   ]
 
   pub after-block : {p q : Place} {ends : List ℕ} {s : Float} {l m : List Float} → Ends xs n ends s S → p .v + 4 ≤ S → q ≡ nextPlace ends p
-      → State form xs ys ms n S p l → Stored (along form (pieceAt xs ys ms (p .i)) s) (p .v) (p .v + 4) l m → State form xs ys ms n S q m
+      → State form xs ys ms n S p l → Stored (pieceSample form (pieceAt xs ys ms (p .i)) s) (p .v) (p .v + 4) l m → State form xs ys ms n S q m
   after-block given room q-is state block = rw q-is (after (rw (given .step-is) at given) room state (rw (given .step-is) at block))
 
   -- ---- one by one: the samples before v are the curve's
@@ -163,7 +164,7 @@ module _ (form : Form) (xs ys ms : List Float) (n S : ℕ) where
 
   -- sample v by its segment, sought from that of the place
   pub one-sample : {p : Place} {l : List Float} {v i : ℕ} {s x h y : Float} {piece : Piece} → State form xs ys ms n S p l → p .v ≤ v → v < S → s ≡ step S
-      → x ≡ sampleAt s v → i ≡ seek xs x (n - 2 - p .i) (p .i) → piece ≡ pieceAt xs ys ms i → h ≡ heightOf form piece x → y ≡ clamped h
+      → x ≡ sampleAt s v → i ≡ seek xs x (n - 2 - p .i) (p .i) → piece ≡ pieceAt xs ys ms i → h ≡ pieceHeight form piece x → y ≡ clamped h
       → y ≡ sampled (heightAt form xs ys ms n) S v
   unfolding sampled heightAt
   one-sample {v = v} state low high step-is x-is i-is piece-is h-is y-is =

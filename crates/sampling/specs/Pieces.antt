@@ -3,8 +3,8 @@ use Prim.Native.Nat.{ℕ, _+_}
 use mathlib.Core.List.{List}
 use lib.Ieee.{Float}
 use Rattle.single.specs.Rules.{clamped}
-use Rattle.points.specs.Knots.{knotAt}
-use Rattle.hermite.specs.Segments.{at, step, sampleAt, segment}
+use Rattle.points.specs.Knots.{knotAt, at}
+use Rattle.hermite.specs.Segments.{step, sampleAt, segment}
 use Rattle.hermite.specs.Pieces.{part, straight, hermite}
 use Rattle.spline.specs.Segments.{splinePiece}
 use Rattle.sampling.specs.declared.Form.{Form}
@@ -16,14 +16,14 @@ abbrev pub pieceAt : List Float → List Float → List Float → ℕ → Piece
 pieceAt xs ys ms i = record { a = knotAt xs ys i; b = knotAt xs ys (i + 1); p = at ms i; q = at ms (i + 1) }
 
 -- the height of a piece at x, unclamped
-unfoldable pub heightOf : Form → Piece → Float → Float
-heightOf Straight piece x = straight (piece .a) (piece .b) (part (piece .a) (piece .b) x)
-heightOf Cubic piece x = hermite (piece .a) (piece .b) (piece .p) (piece .q) (part (piece .a) (piece .b) x)
-heightOf Spline piece x = splinePiece (piece .a) (piece .b) (piece .p) (piece .q) x
+unfoldable pub pieceHeight : Form → Piece → Float → Float
+pieceHeight Straight piece x = straight (piece .a) (piece .b) (part (piece .a) (piece .b) x)
+pieceHeight Cubic piece x = hermite (piece .a) (piece .b) (piece .p) (piece .q) (part (piece .a) (piece .b) x)
+pieceHeight Spline piece x = splinePiece (piece .a) (piece .b) (piece .p) (piece .q) x
 
 -- the height of the curve with n knots at x, unclamped: that of the piece in whose segment x lies
 unfoldable pub heightAt : Form → List Float → List Float → List Float → ℕ → Float → Float
-heightAt form xs ys ms n x = heightOf form (pieceAt xs ys ms (segment xs n x)) x
+heightAt form xs ys ms n x = pieceHeight form (pieceAt xs ys ms (segment xs n x)) x
 
 -- sample v of S of a curve, which is given by its height at each x: "Samples are clamped"
 unfoldable pub sampled : (Float → Float) → ℕ → ℕ → Float

@@ -13,20 +13,16 @@ use Rattle.lists.specs.Stored.{Stored}
 use Rattle.single.specs.Constants.{micro}
 use Rattle.single.specs.Rules.{clamped, floorOf}
 use Rattle.points.specs.declared.Knot.{Knot}
-use Rattle.points.specs.Knots.{knotAt}
-use Rattle.hermite.specs.Segments.{at, step, sampleAt, seek, segment}
+use Rattle.points.specs.Knots.{at, knotAt, narrow}
+use Rattle.hermite.specs.Segments.{step, sampleAt, seek, segment}
 use Rattle.hermite.specs.Pieces.{part, straight, hermite}
 use Rattle.spline.specs.Segments.{firstCoefficient, thirdCoefficient, polynomialFrom}
 use Rattle.sampling.specs.declared.Form.{Form}
 use Rattle.sampling.specs.declared.Piece.{Piece}
 use Rattle.sampling.specs.declared.blocks.Place.{Place}
-use Rattle.sampling.specs.Pieces.{heightOf, heightAt, sampled}
+use Rattle.sampling.specs.Pieces.{pieceHeight, heightAt, sampled}
 
 -- ---- where the pieces end, s being the step
--- whether the segment from l to r is too narrow to divide by its width
-abbrev pub narrow : Float → Float → Bool
-narrow l r = lt (absolute (r ⊖ l)) micro
-
 -- whether sample e is the first past x
 abbrev pub isEnd : Float → Float → ℕ → Bool
 isEnd x s e = lt x (sampleAt s e) && not (lt x (sampleAt s (e - 1)))
@@ -93,8 +89,8 @@ splineSample a c1 c2 c3 s v = clamped (polynomialFrom a c1 c2 c3 (sampleAt s v))
 
 -- ---- on the way
 -- sample v, where the step is s, on the piece
-unfoldable pub along : Form → Piece → Float → ℕ → Float
-along form piece s v = clamped (heightOf form piece (sampleAt s v))
+unfoldable pub pieceSample : Form → Piece → Float → ℕ → Float
+pieceSample form piece s v = clamped (pieceHeight form piece (sampleAt s v))
 
 -- at the place p among S samples: those before it are the curve's, and no later one lies left of its piece
 pub record State (form : Form) (xs ys ms : List Float) (n S : ℕ) (p : Place) (samples : List Float) : Type 0 where

@@ -2,10 +2,10 @@
 ghost use mathlib.Core.Path.{_≡_};
 ghost use mathlib.Core.Bool.{false};
 ghost use Prim.Native.Nat.{_+_, _≤_, _<_, max};
-ghost use Rattle.hermite.specs.Segments.{at};
+ghost use Rattle.points.specs.Knots.{at, narrow};
 ghost use Rattle.hermite.specs.Pieces as P;
 ghost use Rattle.sampling.specs.Pieces.{pieceAt};
-ghost use Rattle.sampling.specs.Walk.{narrow, nextPlace, partsOf};
+ghost use Rattle.sampling.specs.Walk.{nextPlace, partsOf};
 use crate::Piece;
 use crate::piece_at;
 use crate::position;

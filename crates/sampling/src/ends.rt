@@ -3,13 +3,7 @@ ghost use mathlib.Core.Path.{_≡_};
 ghost use Prim.Native.Nat.{_≤_};
 ghost use Rattle.sampling.specs.Walk as W;
 use crate::position;
-
-// Whether the segment from l to r is too narrow to divide by its width.
-fn narrow(l: f32, r: f32) -> bool
-    ensures { λ t. ⌜ t ≡ W.narrow l r ⌝ }
-{
-    single::abs(r - l) < 0.000001
-}
+use points::narrow;
 
 // Whether sample e is the first past x.
 fn is_end(x: f32, step: f32, e: usize) -> bool

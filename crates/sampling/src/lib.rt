@@ -6,7 +6,7 @@ ghost use Prim.Native.Nat.{_+_, _-_, _<_, _≤_};
 ghost use lib.ListN.{length};
 ghost use Rattle.lists.specs.Tabulate.{tabulate};
 ghost use Rattle.hermite.specs.Segments as S;
-ghost use Rattle.sampling.specs.Pieces.{pieceAt, heightOf, heightAt, sampled};
+ghost use Rattle.sampling.specs.Pieces.{pieceAt, pieceHeight, heightAt, sampled};
 ghost use Rattle.sampling.specs.Walk.{Ends, State};
 use blocks::Place;
 use points::Knot;
@@ -56,7 +56,7 @@ fn position(step: f32, v: usize) -> f32
 
 // The height of a piece at x.
 fn height(form: Form, piece: Piece, x: f32) -> f32
-    ensures { λ r. ⌜ r ≡ heightOf form piece x ⌝ }
+    ensures { λ r. ⌜ r ≡ pieceHeight form piece x ⌝ }
 {
     match form {
         Form::Straight => hermite::straight(piece.a, piece.b, hermite::part(piece.a, piece.b, x)),

@@ -1,45 +1,33 @@
--- Rows of floats by their rules: rules that agree make the same row, and the laws of `framed`.
-use mathlib.Core.Path.{_≡_, refl}
+-- Rows of floats by their rules, one that starts at the front, and one whose inner knots are stored first and its ends after that.
+use mathlib.Core.Path.{_≡_, refl, sym, _∙_}
 use mathlib.Core.List.{List}
-use Prim.Native.Nat.{ℕ, zero, suc, _+_, _-_, _<_}
-use native.Mathlib.Decide.{ℕ-discrete}
+use Prim.Native.Nat.{ℕ, _+_, _-_, _<_, _≤_}
 use native.Mathlib.Omega.{arith}
 use borrow.Author.Tests.{eq-eqb, ne-eqb}
-use lib.ListN.{getD, replicate}
+use lib.ListN.{length, getD, set}
 use lib.Ieee.{Float, nan}
-use Rattle.lists.specs.Tabulate.{filled, tabulate-same, getD-filled}
-use Rattle.single.specs.Constants.{𝟎}
-use Rattle.spline.specs.Second.{framed, at}
+use Rattle.lists.specs.Stored.{Stored, stored-as, stored-before, stored-end, stored-next, stored-inside}
+use Rattle.spline.specs.Thomas.{startingAt}
+use Rattle.spline.specs.Second.{framed}
 
--- rules that agree below n make the same row
-pub filled-same : {n : ℕ} {f g : ℕ → Float} → ((k : ℕ) → k < n → f k ≡ g k)
-    → filled n f (replicate 66 𝟎) ≡ filled n g (replicate 66 𝟎)
-unfolding filled
-filled-same {n} h = rw (tabulate-same n h)
+-- a rule that starts at the front
+pub from-front : {b n : ℕ} (f : ℕ → Float) {l m : List Float} → Stored (startingAt 0 f) 0 b l m → b ≡ n → Stored f 0 n l m
+unfolding startingAt
+from-front f r e = stored-end (stored-as r (λ w low high. let place : w - 0 ≡ w = omega arith in rw place)) e
 
--- ---- what `framed` picks at an inner knot, and at the last
-module _ (n : ℕ) (first last : Float) (f : ℕ → Float) where
-  pub framed-inside : (i : ℕ) → 0 < i → i + 1 < n → framed n first last f i ≡ f (i - 1)
-  unfolding framed
-  framed-inside i low high = rw (ne-eqb i 0 (λ e. omega arith), ne-eqb (i + 1) n (λ e. omega arith))
+-- the values f of the inner knots of n, stored from place 1 on
+module _ {n : ℕ} (f : ℕ → Float) {l m : List Float} (r : Stored (startingAt 1 f) 1 (1 + (n - 2)) l m) where
+  pub inner-value : n ≤ length l → (k j : ℕ) → j + 1 ≡ k → k + 1 < n → getD m k nan ≡ f j
+  unfolding startingAt
+  inner-value room k j e high =
+      let place : k - 1 ≡ j = omega arith in
+      stored-inside r k nan (omega arith) (omega arith) (omega arith) ∙ rw place
 
-  pub framed-last : (i : ℕ) → 0 < i → i + 1 ≡ n → framed n first last f i ≡ last
-  unfolding framed
-  framed-last i low e = rw (ne-eqb i 0 (λ e. omega arith), eq-eqb (i + 1) n e)
-
--- ---- the inner knots' values in a row
-module _ (n : ℕ) (f : ℕ → Float) {row : List Float} (all : row ≡ filled (n - 2) f (replicate 66 𝟎)) where
-  pub read : (k : ℕ) → k < n - 2 → getD row k nan ≡ f k
-  read k h = rw all (getD-filled (n - 2) f (replicate 66 𝟎) k nan h)
-
-  module _ (first last : Float) where
-    at-each : (i : ℕ) → i < n → framed n first last (at row) i ≡ framed n first last f i
-    unfolding framed at
-    at-each zero h = refl
-    at-each (suc i) h = elim (ℕ-discrete (suc i + 1) n) [
-      | yes e ↦ rw (eq-eqb (suc i + 1) n e)
-      | no e ↦ rw (ne-eqb (suc i + 1) n e, read (suc i - 1) (omega arith))
-    ]
-
-    pub framed-row : filled n (framed n first last (at row)) (replicate 66 𝟎) ≡ filled n (framed n first last f) (replicate 66 𝟎)
-    framed-row = filled-same at-each
+  -- with a value at each end the row is framed
+  pub framed-row : (first last : Float) → 2 ≤ n → Stored (framed n first last f) 0 n l (set (set m 0 first) (n - 1) last)
+  unfolding startingAt framed
+  framed-row first last two =
+      let inside = stored-as {g = framed n first last f} r (λ w low high. sym (rw (ne-eqb w 0 (λ e. omega arith), ne-eqb (w + 1) n (λ e. omega arith)) refl)) in
+      let front = stored-end {a = 0} {c = n - 1} (stored-before inside refl (omega arith)) (omega arith) in
+      let end : framed n first last f (n - 1) ≡ last = rw (ne-eqb (n - 1) 0 (λ e. omega arith), eq-eqb (n - 1 + 1) n (omega arith)) in
+      stored-end (stored-next front (sym end)) (omega arith)

@@ -6,7 +6,7 @@ use lib.Ieee.{Float}
 use Rattle.single.specs.Constants.{𝟎}
 use Rattle.spline.specs.declared.SplineBoundary.the-variants.{Natural, NotAKnot}
 use Rattle.spline.specs.Segments.{segmentAt}
-use Rattle.spline.specs.Second.{parabola, framed, notAKnotAt, secondAt}
+use Rattle.spline.specs.Second.{parabola, framed, naturalAt, notAKnotAt, secondAt}
 
 -- ---- not-a-knot: two knots, three knots
 pub two-knots : (xs ys : List Float) (i : ℕ) → secondAt xs ys 2 NotAKnot i ≡ 𝟎
@@ -19,5 +19,5 @@ three-knots xs ys i = refl
 
 -- ---- natural: the first knot
 pub natural-start : (xs ys : List Float) (n : ℕ) → secondAt xs ys n Natural 0 ≡ 𝟎
-unfolding framed secondAt
+unfolding framed naturalAt secondAt
 natural-start xs ys n = refl

@@ -4,8 +4,7 @@ use Prim.Native.Nat.{ℕ, _+_, _-_}
 use mathlib.Core.Bool.{cond}
 use mathlib.Core.List.{List}
 use lib.Dec.{eqb, ltb}
-use lib.ListN.{getD}
-use lib.Ieee.{Float, nan}
+use lib.Ieee.{Float}
 use Rattle.floats.specs.Notation.{_⊕_, _⊖_, _⊗_}
 use Rattle.single.specs.Constants.{𝟎, 𝟐, 𝟔, pico}
 use Rattle.single.specs.Rules.{guardedQuotient}
@@ -67,10 +66,6 @@ recovered g h p q = p ⊕ guardedQuotient (g .width) (h .width) pico ⊗ (p ⊖ 
 unfoldable pub framed : ℕ → Float → Float → (ℕ → Float) → ℕ → Float
 framed n first last inside i = cond (eqb i 0) first (cond (eqb (i + 1) n) last (inside (i - 1)))
 
--- the rule that a row of floats holds
-unfoldable pub at : List Float → ℕ → Float
-at row i = getD row i nan
-
 -- the system of n knots has a row for each inner knot, or for each knot where the slopes are given
 abbrev pub rowCount : SplineBoundary → ℕ → ℕ
 rowCount Natural n = n - 2
@@ -98,6 +93,10 @@ module _ (xs ys : List Float) (n : ℕ) where
   unfoldable pub unknown : SplineBoundary → ℕ → Float
   unknown e = solution (rowAt e) (rowCount e n)
 
+  -- natural: 0 at both ends
+  unfoldable pub naturalAt : ℕ → Float
+  naturalAt = framed n 𝟎 𝟎 (unknown Natural)
+
   -- not-a-knot with at least 4 knots: the two end values are recovered from the unknowns
   unfoldable pub endsRecovered : ℕ → Float
   endsRecovered =
@@ -112,6 +111,6 @@ module _ (xs ys : List Float) (n : ℕ) where
 
   -- the second derivative at knot i
   unfoldable pub secondAt : SplineBoundary → ℕ → Float
-  secondAt Natural = framed n 𝟎 𝟎 (unknown Natural)
+  secondAt Natural = naturalAt
   secondAt (Clamped s0 s1) = unknown (Clamped s0 s1)
   secondAt NotAKnot = notAKnotAt

@@ -5,11 +5,11 @@ use mathlib.Core.Path.{_≡_}
 use mathlib.Core.Bool.{cond}
 use mathlib.Core.List.{List}
 use lib.Dec.{eqb}
-use lib.ListN.{getD}
-use lib.Ieee.{Float, nan}
+use lib.Ieee.{Float}
 use Rattle.floats.specs.Notation.{_⊖_, _⊗_}
 use Rattle.single.specs.Constants.{𝟎, 𝟏, pico}
 use Rattle.single.specs.Rules.{guardedQuotient}
+use Rattle.points.specs.Knots.{at}
 use Rattle.spline.specs.declared.Row.{Row}
 use Rattle.spline.specs.declared.Swept.{Swept}
 
@@ -53,17 +53,22 @@ substituted s m k = backward s m (m - k)
 unfoldable pub solution : (ℕ → Row) → ℕ → ℕ → Float
 solution rows m = substituted (sweptRow rows) m
 
--- the rule that an array of swept rows holds
-unfoldable pub sweptIn : List Swept → ℕ → Swept
-sweptIn l k = getD l k (record { above = nan; right = nan })
+-- ---- in rows of floats
+-- the rule of the swept rows whose parts stand in two of them
+unfoldable pub sweptIn : List Float → List Float → ℕ → Swept
+sweptIn aboves rights k = record { above = at aboves k; right = at rights k }
 
--- the rule of the rows whose parts stand in four rows of floats
+-- the rule of the rows whose parts stand in four
 unfoldable pub rowsOf : List Float → List Float → List Float → List Float → ℕ → Row
-rowsOf a b c d k = record { a = getD a k nan; b = getD b k nan; c = getD c k nan; d = getD d k nan }
+rowsOf a b c d k = record { a = at a k; b = at b k; c = at c k; d = at d k }
 
 -- r is the row k of those
 pub record RowHeld (below on above right : List Float) (k : ℕ) (r : Row) : Type 0 where
-  pub a : getD below k nan ≡ r .a
-  pub b : getD on k nan ≡ r .b
-  pub c : getD above k nan ≡ r .c
-  pub d : getD right k nan ≡ r .d
+  pub a : at below k ≡ r .a
+  pub b : at on k ≡ r .b
+  pub c : at above k ≡ r .c
+  pub d : at right k ≡ r .d
+
+-- a rule whose first value goes to place `start`
+unfoldable pub startingAt : ℕ → (ℕ → Float) → ℕ → Float
+startingAt start f w = f (w - start)

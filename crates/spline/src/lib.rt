@@ -1,18 +1,20 @@
 // Cubic splines through the knots (de Boor 1978): second derivatives by the Thomas solve under three boundary rules, and the pieces drawn by them.
 ghost use mathlib.Core.Path.{_≡_};
 ghost use Prim.Native.Nat.{_+_, _≤_, _<_};
-ghost use lib.ListN.{replicate};
+ghost use lib.ListN.{length, replicate};
 ghost use Rattle.lists.specs.Tabulate.{filled};
+ghost use Rattle.lists.specs.Stored.{Stored};
 ghost use Rattle.single.specs.Constants.{𝟎};
 ghost use Rattle.spline.specs.Segments as S;
 ghost use Rattle.spline.specs.Segments.{segmentAt, firstCoefficient, thirdCoefficient, polynomialFrom, splinePiece, slopeOf};
 ghost use Rattle.spline.specs.Thomas as T;
-ghost use Rattle.spline.specs.Thomas.{sweptIn, substituted, solution, rowsOf, RowHeld};
+ghost use Rattle.spline.specs.Thomas.{sweptIn, substituted, solution, rowsOf, RowHeld, startingAt};
 ghost use Rattle.spline.specs.Second as M;
 ghost use Rattle.spline.specs.Second.{clampedFirst, clampedLast, notAKnotFirst, notAKnotLast, rowAt, rowCount};
-ghost use Rattle.spline.specs.Second.{at, unknown, endsRecovered, notAKnotAt, secondAt};
+ghost use Rattle.spline.specs.Second.{unknown, naturalAt, endsRecovered, notAKnotAt, secondAt};
 use points::Knot;
 use points::knot_at;
+use points::narrow;
 use single::guarded_quotient;
 
 // "The edge rule": natural, clamped with its start slope and end slope, or not-a-knot.
@@ -87,7 +89,7 @@ pub fn polynomial_from(a: Knot, c1: f32, c2: f32, c3: f32, x: f32) -> f32
 pub fn spline_piece(a: Knot, b: Knot, ma: f32, mb: f32, x: f32) -> f32
     ensures { λ r. ⌜ r ≡ splinePiece a b ma mb x ⌝ }
 {
-    if single::abs(b.x - a.x) < 1.0e-6 {
+    if narrow(a.x, b.x) {
         return a.y;
     }
     let c1 = first_coefficient(a, b, ma, mb);
@@ -143,21 +145,19 @@ fn row_of(a: &[f32; 66], b: &[f32; 66], c: &[f32; 66], d: &[f32; 66], k: usize) 
     }
 }
 
-// Back substitution over m swept rows, from the last one on.
-fn substitute(rows: [Swept; 66], m: usize) -> [f32; 66]
-    requires { ⌜ m ≤ 66 ⌝ }
-    ensures { λ r. ⌜ r ≡ filled m (substituted (sweptIn rows) m) (replicate 66 𝟎) ⌝ }
+// Back substitution over m swept rows, from the last one on: the unknowns, to a row from place start on.
+fn substitute(aboves: &[f32; 66], rights: &[f32; 66], m: usize, start: usize, row: &mut [f32; 66])
+    requires { ⌜ start + m ≤ 66 ⌝ }
+    ensures { λ _. ⌜ Stored (startingAt start (substituted (sweptIn (now (aboves .entry)) (now (rights .entry))) m)) start (start + m)
+        (now (row .entry)) (now (row .exit)) ⌝ }
 {
-    let mut x = [0.0; 66];
     let mut next = 0.0;
     let mut k = m;
     while 0 < k {
         k -= 1;
-        let p = rows[k];
-        next = p.right - p.above * next;
-        x[k] = next;
+        next = rights[k] - aboves[k] * next;
+        row[start + k] = next;
     }
-    x
 }
 
 // The Thomas solve of m rows: the forward sweep, then back substitution.
@@ -171,19 +171,22 @@ pub fn thomas_solve(
     requires { ⌜ m ≤ 66 ⌝ }
     ensures { λ r. ⌜ r ≡ filled m (solution (rowsOf (now (a .entry)) (now (b .entry)) (now (c .entry)) (now (d .entry))) m) (replicate 66 𝟎) ⌝ }
 {
-    let none = Swept {
+    let mut aboves = [0.0; 66];
+    let mut rights = [0.0; 66];
+    let mut p = Swept {
         above: 0.0,
         right: 0.0,
     };
-    let mut rows = [none; 66];
-    let mut p = none;
     let mut k: usize = 0;
     while k < m {
         p = sweep(k, p, row_of(a, b, c, d, k));
-        rows[k] = p;
+        aboves[k] = p.above;
+        rights[k] = p.right;
         k += 1;
     }
-    substitute(rows, m)
+    let mut x = [0.0; 66];
+    substitute(&aboves, &rights, m, 0, &mut x);
+    x
 }
 
 // The row of an inner knot between the segments p and q.
@@ -291,50 +294,43 @@ fn row_at(xs: &[f32; 66], ys: &[f32; 66], n: usize, boundary: SplineBoundary, k:
     }
 }
 
-// The unknowns of the system of m rows: the Thomas solve, each row being made just before it is swept.
+// The unknowns of the system of m rows, to a row from place start on: the Thomas solve, each row of the system being made just before it is swept.
 fn unknowns(
     xs: &[f32; 66],
     ys: &[f32; 66],
     n: usize,
     boundary: SplineBoundary,
     m: usize,
-) -> [f32; 66]
-    requires { ⌜ (2 ≤ n) × (n ≤ 66) × (m ≤ n) × (m ≡ rowCount boundary n) ⌝ }
-    ensures { λ r. ⌜ r ≡ filled m (unknown (now (xs .entry)) (now (ys .entry)) n boundary) (replicate 66 𝟎) ⌝ }
+    start: usize,
+    row: &mut [f32; 66],
+)
+    requires { ⌜ (2 ≤ n) × (n ≤ 66) × (start + m ≤ n) × (m ≡ rowCount boundary n) ⌝ }
+    ensures { λ _. ⌜ Stored (startingAt start (unknown (now (xs .entry)) (now (ys .entry)) n boundary)) start (start + m) (now (row .entry)) (now (row .exit)) ⌝ }
 {
-    // two knots have no inner one
-    if m == 0 {
-        return [0.0; 66];
-    }
-    let none = Swept {
+    let mut aboves = [0.0; 66];
+    let mut rights = [0.0; 66];
+    let mut p = Swept {
         above: 0.0,
         right: 0.0,
     };
-    let mut rows = [none; 66];
-    let mut p = none;
     let mut k: usize = 0;
     while k < m {
         p = sweep(k, p, row_at(xs, ys, n, boundary, k));
-        rows[k] = p;
+        aboves[k] = p.above;
+        rights[k] = p.right;
         k += 1;
     }
-    substitute(rows, m)
+    substitute(&aboves, &rights, m, start, row);
 }
 
-// The values of n knots: first, those of the inner knots, last.
-fn framed(first: f32, last: f32, inside: &[f32; 66], n: usize) -> [f32; 66]
+// Natural: 0 at both ends.
+fn natural(xs: &[f32; 66], ys: &[f32; 66], n: usize, row: &mut [f32; 66])
     requires { ⌜ (2 ≤ n) × (n ≤ 66) ⌝ }
-    ensures { λ r. ⌜ r ≡ filled n (M.framed n first last (at (now (inside .entry)))) (replicate 66 𝟎) ⌝ }
+    ensures { λ _. ⌜ Stored (naturalAt (now (xs .entry)) (now (ys .entry)) n) 0 n (now (row .entry)) (now (row .exit)) ⌝ }
 {
-    let mut out = [0.0; 66];
-    out[0] = first;
-    let mut i: usize = 1;
-    while i + 1 < n {
-        out[i] = inside[i - 1];
-        i += 1;
-    }
-    out[i] = last;
-    out
+    unknowns(xs, ys, n, SplineBoundary::Natural, n - 2, 1, row);
+    row[0] = 0.0;
+    row[n - 1] = 0.0;
 }
 
 // The second derivative that the parabola through three knots has, with the segments p and q between them.
@@ -352,58 +348,58 @@ fn recovered(g: Segment, h: Segment, p: f32, q: f32) -> f32
 }
 
 // Not-a-knot with at least 4 knots: the values at both ends are recovered from those of the inner knots.
-fn ends_recovered(xs: &[f32; 66], ys: &[f32; 66], n: usize) -> [f32; 66]
-    requires { ⌜ (4 ≤ n) × (n ≤ 66) ⌝ }
-    ensures { λ r. ⌜ r ≡ filled n (endsRecovered (now (xs .entry)) (now (ys .entry)) n) (replicate 66 𝟎) ⌝ }
+fn ends_recovered(xs: &[f32; 66], ys: &[f32; 66], n: usize, row: &mut [f32; 66])
+    requires { ⌜ (4 ≤ n) × (n ≤ 66) × (length (now row) ≡ 66) ⌝ }
+    ensures { λ _. ⌜ Stored (endsRecovered (now (xs .entry)) (now (ys .entry)) n) 0 n (now (row .entry)) (now (row .exit)) ⌝ }
 {
-    let u = unknowns(xs, ys, n, SplineBoundary::NotAKnot, n - 2);
-    let first = recovered(segment_at(xs, ys, 0), segment_at(xs, ys, 1), u[0], u[1]);
+    unknowns(xs, ys, n, SplineBoundary::NotAKnot, n - 2, 1, row);
+    let first = recovered(segment_at(xs, ys, 0), segment_at(xs, ys, 1), row[1], row[2]);
     let last = recovered(
         segment_at(xs, ys, n - 2),
         segment_at(xs, ys, n - 3),
-        u[n - 3],
-        u[n - 4],
+        row[n - 2],
+        row[n - 3],
     );
-    framed(first, last, &u, n)
+    row[0] = first;
+    row[n - 1] = last;
 }
 
 // Not-a-knot: two knots give zeros, three the parabola through them.
-fn not_a_knot(xs: &[f32; 66], ys: &[f32; 66], n: usize) -> [f32; 66]
-    requires { ⌜ (2 ≤ n) × (n ≤ 66) ⌝ }
-    ensures { λ r. ⌜ r ≡ filled n (notAKnotAt (now (xs .entry)) (now (ys .entry)) n) (replicate 66 𝟎) ⌝ }
+fn not_a_knot(xs: &[f32; 66], ys: &[f32; 66], n: usize, row: &mut [f32; 66])
+    requires { ⌜ (2 ≤ n) × (n ≤ 66) × (length (now row) ≡ 66) ⌝ }
+    ensures { λ _. ⌜ Stored (notAKnotAt (now (xs .entry)) (now (ys .entry)) n) 0 n (now (row .entry)) (now (row .exit)) ⌝ }
 {
     if n < 3 {
-        return [0.0; 66];
+        row[0] = 0.0;
+        row[1] = 0.0;
+        return;
     }
     if n == 3 {
         let v = parabola(segment_at(xs, ys, 0), segment_at(xs, ys, 1));
-        let mut out = [0.0; 66];
-        out[0] = v;
-        out[1] = v;
-        out[2] = v;
-        return out;
+        row[0] = v;
+        row[1] = v;
+        row[2] = v;
+        return;
     }
-    ends_recovered(xs, ys, n)
+    ends_recovered(xs, ys, n, row);
 }
 
-// The second derivatives at n knots, zeros behind.
+// The second derivatives at n knots, to the front of a row.
 pub fn second_derivatives(
     xs: &[f32; 66],
     ys: &[f32; 66],
     n: usize,
     boundary: SplineBoundary,
-) -> [f32; 66]
-    requires { ⌜ (2 ≤ n) × (n ≤ 66) ⌝ }
-    ensures { λ r. ⌜ r ≡ filled n (secondAt (now (xs .entry)) (now (ys .entry)) n boundary) (replicate 66 𝟎) ⌝ }
+    row: &mut [f32; 66],
+)
+    requires { ⌜ (2 ≤ n) × (n ≤ 66) × (length (now row) ≡ 66) ⌝ }
+    ensures { λ _. ⌜ Stored (secondAt (now (xs .entry)) (now (ys .entry)) n boundary) 0 n (now (row .entry)) (now (row .exit)) ⌝ }
 {
     match boundary {
-        SplineBoundary::Natural => {
-            let u = unknowns(xs, ys, n, SplineBoundary::Natural, n - 2);
-            framed(0.0, 0.0, &u, n)
-        }
+        SplineBoundary::Natural => natural(xs, ys, n, row),
         SplineBoundary::Clamped { s0, s1 } => {
-            unknowns(xs, ys, n, SplineBoundary::Clamped { s0, s1 }, n)
+            unknowns(xs, ys, n, SplineBoundary::Clamped { s0, s1 }, n, 0, row)
         }
-        SplineBoundary::NotAKnot => not_a_knot(xs, ys, n),
+        SplineBoundary::NotAKnot => not_a_knot(xs, ys, n, row),
     }
 }

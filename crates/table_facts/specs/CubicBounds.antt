@@ -13,7 +13,8 @@ use Rattle.floats.specs.Segment.{at-float}
 use Rattle.floats.specs.Within.{Within, widen, within-add, within-sub, within-mul}
 use Rattle.single.specs.Constants.{𝟎, 𝟏, 𝟎-is, 𝟏-is}
 use Rattle.points.specs.declared.Knot.{Knot}
-use Rattle.hermite.specs.Segments.{at, segment}
+use Rattle.hermite.specs.Segments.{segment}
+use Rattle.points.specs.Knots.{at}
 use Rattle.hermite.specs.Pieces.{hermite}
 use Rattle.hermite.specs.Rows.{Rows, piece}
 use Rattle.hermite.specs.SegmentLaws.{InRange, nonnegative-is, segment-holds}

@@ -17,20 +17,20 @@ use Rattle.hermite.specs.Samples.{sample-byte}
 use Rattle.hermite.specs.Rows.{Rows, fineHeight}
 use Rattle.table_facts.specs.ListLaws.{straightOf, knot-rows}
 use Rattle.tables.specs.declared.CurveInterpolation.the-variants.{Linear}
-use Rattle.sampling.specs.Pieces.{heightOf, heightAt}
+use Rattle.sampling.specs.Pieces.{pieceHeight, heightAt}
 use Rattle.tables.specs.Tables.{unclampedAt}
 
 -- the x of sample v of S
-abbrev pub position : ℕ → ℕ → Float
-position S v = sampleAt (step S) v
+abbrev pub sampleX : ℕ → ℕ → Float
+sampleX S v = sampleAt (step S) v
 
 -- of 256 samples, sample v stands at v
-pub position-is : (v : ℕ) → v < 256 → Is (position 256 v) v 0 1
-position-is v h = rw (sample-byte v (omega arith)) (float-is v (omega arith))
+pub sample-x-is : (v : ℕ) → v < 256 → Is (sampleX 256 v) v 0 1
+sample-x-is v h = rw (sample-byte v (omega arith)) (float-is v (omega arith))
 
 -- Linear is drawn by straight pieces
 pub linear-height : (l : List Point) (x : Float) → unclampedAt Linear l x ≡ straightOf (kept l) x
-unfolding unclampedAt heightAt heightOf
+unfolding unclampedAt heightAt pieceHeight
 linear-height l x = refl
 
 -- the rows hold the knots of the kept points

@@ -8,7 +8,7 @@ use lib.Ieee.{Float}
 use lib.Ieee.Scale.{finite}
 use Rattle.floats.specs.Value.{Is}
 use Rattle.floats.specs.Within.{Within, widen}
-use Rattle.hermite.specs.Segments.{at}
+use Rattle.points.specs.Knots.{at}
 use Rattle.hermite.specs.CatmullRom.{catmullRomAt, cardinalAt}
 use Rattle.monotone.specs.Monotone.{monotoneAt}
 use Rattle.chords.specs.Alpha.{alphaAt}

@@ -10,10 +10,10 @@ use lib.Ieee.{Float}
 use Rattle.floats.specs.Value.{Is, is-of-le}
 use Rattle.points.specs.declared.Point.{Point}
 use Rattle.points.specs.Points.{kept}
-use Rattle.points.specs.Knots.{knots, xOf, yOf, xRow, OnLine}
+use Rattle.points.specs.Knots.{knots, xOf, yOf, xRow, OnLine, at}
 use Rattle.points.specs.Order.{All, Bytes}
 use Rattle.hermite.specs.Rows.{fineHeight}
-use Rattle.hermite.specs.Segments.{at, segment}
+use Rattle.hermite.specs.Segments.{segment}
 use Rattle.hermite.specs.SegmentLaws.{InRange, segment-holds}
 use Rattle.table_facts.specs.Given.{given-rows}
 

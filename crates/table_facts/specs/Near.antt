@@ -20,12 +20,11 @@ use Rattle.single.specs.RuleLaws.{clamped-keeps}
 use Rattle.single.specs.ByteLaws.{byte-near}
 use Rattle.points.specs.declared.Point.{Point}
 use Rattle.points.specs.Points.{kept}
-use Rattle.points.specs.Knots.{knots, xOf, xRow, OnLine}
+use Rattle.points.specs.Knots.{knots, xOf, xRow, OnLine, at}
 use Rattle.points.specs.Order.{All, Bytes}
 use Rattle.points.specs.Kept.{kept-is-kept}
 use Rattle.table_facts.specs.BrokenLine.{line-width}
 use Rattle.hermite.specs.Rows.{fineHeight, x-most}
-use Rattle.hermite.specs.Segments.{at}
 use Rattle.hermite.specs.SegmentLaws.{InRange, nonnegative-is}
 use Rattle.hermite.specs.Samples.{sample-256, sample-4096}
 use Rattle.table_facts.specs.StraightLaws.{exactLine, straight-finite, straight-in-range, straight-close}
@@ -33,7 +32,7 @@ use Rattle.table_facts.specs.ListLaws.{straightOf}
 use Rattle.tables.specs.declared.CurveInterpolation.the-variants.{Linear}
 use Rattle.sampling.specs.Pieces.{sampled}
 use Rattle.tables.specs.Tables.{unclampedAt, sampleOf, entryOf}
-use Rattle.table_facts.specs.Given.{position, position-is, linear-height, given-rows}
+use Rattle.table_facts.specs.Given.{sampleX, sample-x-is, linear-height, given-rows}
 use Rattle.table_facts.specs.Line.{LineAt, at-byte}
 
 -- ---- over whole numbers
@@ -66,21 +65,21 @@ module _ (l : List Point) (bytes : All Bytes l) where
   ks = knots (kept l)
 
   -- clamping changes no sample
-  pub sample-unclamped : (S v : ℕ) → InRange (position S v) → sampleOf Linear l S v ≡ unclampedAt Linear l (position S v)
+  pub sample-unclamped : (S v : ℕ) → InRange (sampleX S v) → sampleOf Linear l S v ≡ unclampedAt Linear l (sampleX S v)
   unfolding sampleOf sampled
   sample-unclamped S v r =
-      let b = straight-in-range (given-rows l bytes) (position S v) r in
-      clamped-keeps (unclampedAt Linear l (position S v)) (rw (linear-height l (position S v)) (b .0)) (rw (linear-height l (position S v)) (b .1))
+      let b = straight-in-range (given-rows l bytes) (sampleX S v) r in
+      clamped-keeps (unclampedAt Linear l (sampleX S v)) (rw (linear-height l (sampleX S v)) (b .0)) (rw (linear-height l (sampleX S v)) (b .1))
 
-  sample-straight : (S v : ℕ) → InRange (position S v) → sampleOf Linear l S v ≡ straightOf (kept l) (position S v)
-  sample-straight S v r = sample-unclamped S v r ∙ linear-height l (position S v)
+  sample-straight : (S v : ℕ) → InRange (sampleX S v) → sampleOf Linear l S v ≡ straightOf (kept l) (sampleX S v)
+  sample-straight S v r = sample-unclamped S v r ∙ linear-height l (sampleX S v)
 
   -- ---- for any S, where the sample stands at p / c
-  pub sample-near : (S v : ℕ) → InRange (position S v) → (p c n d : ℕ) → 0 < c → Is (position S v) p 0 c → LineAt (kept l) p c n d
+  pub sample-near : (S v : ℕ) → InRange (sampleX S v) → (p c n d : ℕ) → 0 < c → Is (sampleX S v) p 0 c → LineAt (kept l) p c n d
       → Close 1 16384 (val (sampleOf Linear l S v)) (frac n 0 (256 * d))
   sample-near S v r p c n d C e o =
       let rows = given-rows l bytes in
-      let x = position S v in
+      let x = sampleX S v in
       let i = o .i in
       let a = xOf ks i in
       let b = xOf ks (i + 1) in
@@ -108,11 +107,11 @@ module _ (l : List Point) (bytes : All Bytes l) where
   byte-sample-near v h n d o =
       close-same 1 16384 (val (sampleOf Linear l 256 v)) (frac (256 * n) 0 (256 * d)) (frac n 0 d)
       (omega (arith, line-width (kept l) (kept-is-kept l bytes) v n d o))
-      (sample-near 256 v (sample-256 v h) v 1 (256 * n) d (lit< tt) (position-is v h) (at-byte (kept l) v n d o))
+      (sample-near 256 v (sample-256 v h) v 1 (256 * n) d (lit< tt) (sample-x-is v h) (at-byte (kept l) v n d o))
       (omega arith) (omega arith)
 
   -- .. and of 4,096
-  pub fine-sample-near : (v : ℕ) → v < 4096 → (p c n d : ℕ) → 0 < c → Is (position 4096 v) p 0 c → LineAt (kept l) p c n d
+  pub fine-sample-near : (v : ℕ) → v < 4096 → (p c n d : ℕ) → 0 < c → Is (sampleX 4096 v) p 0 c → LineAt (kept l) p c n d
       → Close 1 16384 (val (sampleOf Linear l 4096 v)) (frac n 0 (256 * d))
   fine-sample-near v h = sample-near 4096 v (sample-4096 v h)
 
@@ -121,7 +120,7 @@ module _ (l : List Point) (bytes : All Bytes l) where
   unfolding entryOf
   entry-near v h n d o =
       let rows = given-rows l bytes in
-      let x = position 256 v in
+      let x = sampleX 256 v in
       let r = sample-256 v h in
       let z = sampleOf Linear l 256 v in
       let b = straight-in-range rows x r in

@@ -21,8 +21,8 @@ use Rattle.floats.specs.Segment.{width-is, width-some, at-float, at-start, at-e
 use Rattle.floats.specs.Segment.{line-start, line-end, line-finite, line-near, line-rises, rising-within, falling-within, line-across}
 use Rattle.single.specs.Constants.{𝟎, 𝟐𝟓𝟓, micro, micro-is}
 use Rattle.single.specs.RuleLaws.{guarded-value}
-use Rattle.points.specs.Knots.{knotAt}
-use Rattle.hermite.specs.Segments.{at, segment}
+use Rattle.points.specs.Knots.{knotAt, at}
+use Rattle.hermite.specs.Segments.{segment}
 use Rattle.hermite.specs.Pieces.{part, straight}
 use Rattle.hermite.specs.Rows.{Rows, knot-low, knot-high, y-low, y-high, piece}
 use Rattle.hermite.specs.SegmentLaws.{InRange, Holds, segment-holds, between-holds, held-at-knot, held-between, held-order}

@@ -17,10 +17,9 @@ use Rattle.single.specs.RuleLaws.{clamped-keeps, clamped-finite}
 use Rattle.single.specs.ByteLaws.{byte-256ths}
 use Rattle.points.specs.declared.Point.{Point}
 use Rattle.points.specs.Points.{kept}
-use Rattle.points.specs.Knots.{knots, xRow, yRow}
+use Rattle.points.specs.Knots.{knots, xRow, yRow, at}
 use Rattle.points.specs.Order.{All, Bytes, IsKept, all-mem}
 use Rattle.points.specs.Kept.{kept-is-kept}
-use Rattle.hermite.specs.Segments.{at}
 use Rattle.hermite.specs.SegmentLaws.{InRange}
 use Rattle.table_facts.specs.StraightLaws.{straight-finite}
 use Rattle.table_facts.specs.HermiteKinds.{HermiteRule, catmull-rom, cardinal, monotone, alpha, tangent-finite, kind-finite}
@@ -39,10 +38,10 @@ use Rattle.tables.specs.declared.CurveInterpolation.the-variants.{
   NotAKnotCubic,
 }
 use Rattle.sampling.specs.declared.Form.the-variants.{Cubic}
-use Rattle.tables.specs.Kinds.{formOf, numbersAt, rowOf}
-use Rattle.sampling.specs.Pieces.{heightOf, heightAt, sampled}
+use Rattle.tables.specs.Kinds.{formOf, numbersAt, numbersRow}
+use Rattle.sampling.specs.Pieces.{pieceHeight, heightAt, sampled}
 use Rattle.tables.specs.Tables.{unclampedAt, sampleOf, entryOf}
-use Rattle.table_facts.specs.Given.{position, position-is, linear-height, given-rows}
+use Rattle.table_facts.specs.Given.{sampleX, sample-x-is, linear-height, given-rows}
 
 -- the seven kinds that are none of document 01's "Splines (4, 8, 9)"; Cardinal's tension is a byte
 abbrev pub NoSpline : CurveInterpolation → Type 0
@@ -90,14 +89,14 @@ module _ (l : List Point) (bytes : All Bytes l) where
 
   -- the row of the tangents at the knots
   abbrev tangents : CurveInterpolation → List Float
-  tangents k = rowOf k (xRow ks) (yRow ks) (length ks)
+  tangents k = numbersRow k (xRow ks) (yRow ks) (length ks)
 
   made : (k : CurveInterpolation) (i : ℕ) → i < length ks → at (tangents k) i ≡ numbersAt k (xRow ks) (yRow ks) (length ks) i
   made k i h = getD-filled (length ks) (numbersAt k (xRow ks) (yRow ks) (length ks)) (replicate 66 𝟎) i nan h
 
   -- a Hermite kind is drawn by cubic pieces
   hermite-height : (k : CurveInterpolation) → formOf k ≡ Cubic → (x : Float) → unclampedAt k l x ≡ cubicOf (kept l) (tangents k) x
-  unfolding unclampedAt heightAt heightOf
+  unfolding unclampedAt heightAt pieceHeight
   hermite-height k e x = rw e
 
   -- ---- every tangent is finite
@@ -117,9 +116,9 @@ module _ (l : List Point) (bytes : All Bytes l) where
   ]
 
   -- and every sample, so none is NaN
-  pub sample-finite : (k : CurveInterpolation) → NoSpline k → (S v : ℕ) → InRange (position S v) → T (finite (sampleOf k l S v))
+  pub sample-finite : (k : CurveInterpolation) → NoSpline k → (S v : ℕ) → InRange (sampleX S v) → T (finite (sampleOf k l S v))
   unfolding sampleOf sampled
-  sample-finite k h S v p = clamped-finite (unclampedAt k l (position S v)) (height-finite k h (position S v) p)
+  sample-finite k h S v p = clamped-finite (unclampedAt k l (sampleX S v)) (height-finite k h (sampleX S v) p)
 
   -- ---- through points
   height-through : (k : CurveInterpolation) → NoSpline k → (p : Point) → List·Memᴰ p (kept l) → (x : Float) → Is x (p .x) 0 1
@@ -132,16 +131,16 @@ module _ (l : List Point) (bytes : All Bytes l) where
   ]
 
   -- for any S: a sample that stands at a kept point's x has the point's height, exactly
-  pub sample-through : (k : CurveInterpolation) → NoSpline k → (p : Point) → List·Memᴰ p (kept l) → (S v : ℕ) → Is (position S v) (p .x) 0 1
+  pub sample-through : (k : CurveInterpolation) → NoSpline k → (p : Point) → List·Memᴰ p (kept l) → (S v : ℕ) → Is (sampleX S v) (p .x) 0 1
       → Is (sampleOf k l S v) (256 * p .y) 0 256
   unfolding sampleOf sampled
   sample-through k h p m S v e =
-      let i = height-through k h p m (position S v) e in
-      rw (byte-kept (unclampedAt k l (position S v)) (p .y) (all-mem Bytes (kept l) (is-kept .bytes) p m .1) i) i
+      let i = height-through k h p m (sampleX S v) e in
+      rw (byte-kept (unclampedAt k l (sampleX S v)) (p .y) (all-mem Bytes (kept l) (is-kept .bytes) p m .1) i) i
 
   -- the entry at a kept point's x is its y
   pub through-points : (k : CurveInterpolation) → NoSpline k → (p : Point) → List·Memᴰ p (kept l) → entryOf k l (p .x) ≡ p .y
   unfolding entryOf
   through-points k h p m =
       let b = all-mem Bytes (kept l) (is-kept .bytes) p m in
-      byte-256ths (sampleOf k l 256 (p .x)) (256 * p .y) (omega arith) (sample-through k h p m 256 (p .x) (position-is (p .x) (b .0))) ∙ omega arith
+      byte-256ths (sampleOf k l 256 (p .x)) (256 * p .y) (omega arith) (sample-through k h p m 256 (p .x) (sample-x-is (p .x) (b .0))) ∙ omega arith

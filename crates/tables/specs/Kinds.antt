@@ -83,5 +83,5 @@ numbersAt (ClampedCubic start end) xs ys n i = secondAt xs ys n (Clamped (slopeO
 numbersAt NotAKnotCubic xs ys n i = secondAt xs ys n NotAKnot i
 
 -- the row of them, with zeros behind
-abbrev pub rowOf : CurveInterpolation → List Float → List Float → ℕ → List Float
-rowOf kind xs ys n = filled n (numbersAt kind xs ys n) (replicate 66 𝟎)
+abbrev pub numbersRow : CurveInterpolation → List Float → List Float → ℕ → List Float
+numbersRow kind xs ys n = filled n (numbersAt kind xs ys n) (replicate 66 𝟎)

@@ -1,9 +1,10 @@
 // Tables of a curve: the kinds of interpolation, S samples into a lent slice, and the byte table by value.
 ghost use mathlib.Core.Path.{_≡_};
 ghost use Prim.Native.Nat.{_≤_};
-ghost use lib.ListN.{length};
+ghost use lib.ListN.{length, replicate};
+ghost use Rattle.single.specs.Constants.{𝟎};
 ghost use Rattle.points.specs.Points.{listOf};
-ghost use Rattle.tables.specs.Kinds.{kindNumber, kindOf, formOf, rowOf};
+ghost use Rattle.tables.specs.Kinds.{kindNumber, kindOf, formOf, numbersRow};
 ghost use Rattle.tables.specs.Tables.{fineTable, byteTable, bytesOf, isTableLength, BuiltTable, BuiltLut};
 use answers::Answer;
 use hermite::tangents;
@@ -103,40 +104,35 @@ fn form_of(kind: CurveInterpolation) -> Form
     }
 }
 
-// The numbers at n knots: tangents, or second derivatives.
-fn numbers(kind: CurveInterpolation, xs: &[f32; 66], ys: &[f32; 66], n: usize) -> [f32; 66]
-    requires { ⌜ (2 ≤ n) × (n ≤ 66) ⌝ }
-    ensures { λ r. ⌜ r ≡ rowOf kind (now (xs .entry)) (now (ys .entry)) n ⌝ }
+// The numbers at n knots, tangents or second derivatives, to the front of a row of zeros.
+fn numbers(kind: CurveInterpolation, xs: &[f32; 66], ys: &[f32; 66], n: usize, row: &mut [f32; 66])
+    requires { ⌜ (2 ≤ n) × (n ≤ 66) × (now row ≡ replicate 66 𝟎) ⌝ }
+    ensures { λ _. ⌜ now (row .exit) ≡ numbersRow kind (now (xs .entry)) (now (ys .entry)) n ⌝ }
 {
     match kind {
-        CurveInterpolation::Linear => [0.0; 66],
-        CurveInterpolation::CatmullRom => tangents::catmull_rom(xs, ys, n),
-        CurveInterpolation::MonotoneCubic => monotone::monotone(false, xs, ys, n),
-        CurveInterpolation::MonotoneCubicBox => monotone::monotone(true, xs, ys, n),
-        CurveInterpolation::NaturalCubic => second_derivatives(xs, ys, n, SplineBoundary::Natural),
-        CurveInterpolation::CentripetalCatmullRom => chords::alpha(true, xs, ys, n),
-        CurveInterpolation::ChordalCatmullRom => chords::alpha(false, xs, ys, n),
-        CurveInterpolation::Cardinal { tension_q8 } => tangents::cardinal(tension_q8, xs, ys, n),
+        CurveInterpolation::Linear => {}
+        CurveInterpolation::CatmullRom => tangents::catmull_rom(xs, ys, n, row),
+        CurveInterpolation::MonotoneCubic => monotone::monotone(false, xs, ys, n, row),
+        CurveInterpolation::MonotoneCubicBox => monotone::monotone(true, xs, ys, n, row),
+        CurveInterpolation::NaturalCubic => {
+            second_derivatives(xs, ys, n, SplineBoundary::Natural, row)
+        }
+        CurveInterpolation::CentripetalCatmullRom => chords::alpha(true, xs, ys, n, row),
+        CurveInterpolation::ChordalCatmullRom => chords::alpha(false, xs, ys, n, row),
+        CurveInterpolation::Cardinal { tension_q8 } => {
+            tangents::cardinal(tension_q8, xs, ys, n, row)
+        }
         CurveInterpolation::ClampedCubic {
             start_slope_q8,
             end_slope_q8,
         } => {
-            second_derivatives(
-                xs,
-                ys,
-                n,
-                SplineBoundary::Clamped {
-                    s0: slope(start_slope_q8),
-                    s1: slope(end_slope_q8),
-                },
-            )
+            let s0 = slope(start_slope_q8);
+            let s1 = slope(end_slope_q8);
+            second_derivatives(xs, ys, n, SplineBoundary::Clamped { s0, s1 }, row)
         }
-        CurveInterpolation::NotAKnotCubic => second_derivatives(
-            xs,
-            ys,
-            n,
-            SplineBoundary::NotAKnot,
-        ),
+        CurveInterpolation::NotAKnotCubic => {
+            second_derivatives(xs, ys, n, SplineBoundary::NotAKnot, row)
+        }
     }
 }
 
@@ -152,7 +148,8 @@ pub fn sample_curve(curve: Curve, kind: CurveInterpolation, samples: &mut [f32])
     let xs = knots.xs;
     let ys = knots.ys;
     let n = knots.count;
-    let ms = numbers(kind, &xs, &ys, n);
+    let mut ms = [0.0; 66];
+    numbers(kind, &xs, &ys, n, &mut ms);
     sampling::fill(form_of(kind), &xs, &ys, &ms, n, samples);
 }
 

@@ -27,16 +27,16 @@ use Rattle.writing.specs.declared.Draft.{Draft}
 use Rattle.writing.specs.declared.Written.{Written}
 use Rattle.writing.specs.Encode.{pairBytes, fieldBytes, masterField, oneIf, bitsUnder, there, encode, Write, writeRecord}
 use Rattle.writing.specs.Cases.{done-is, write-refused, write-short, write-done}
-use Rattle.writing.specs.Contracts.{bytesOf, Room, Appended, Holds, Held, Wrote}
+use Rattle.writing.specs.Contracts.{bytesMade, Room, Appended, Holds, Held, Wrote}
 use Rattle.records.specs.Format.{longest}
 
 -- ---- bytes behind a draft
 pub appended-none : {d : Draft} → Appended [] d d
-appended-none {d} = record { bytes = sym (append-nil (bytesOf d)); length = omega arith }
+appended-none {d} = record { bytes = sym (append-nil (bytesMade d)); length = omega arith }
 
 pub appended-then : {a b : List ℕ} {d e r : Draft} → Appended a d e → Appended b e r → Appended (a ++ b) d r
 appended-then {a} {b} {d} p q = record {
-  bytes = q .bytes ∙ rw (p .bytes) (append-assoc (bytesOf d) a b);
+  bytes = q .bytes ∙ rw (p .bytes) (append-assoc (bytesMade d) a b);
   length = simp length-append (omega arith);
 }
 
@@ -146,7 +146,7 @@ module _ (s : Curves) (buffer : List ℕ) where
         wrote-as _ _ _ (write-short s buffer passed (omega arith)) refl refl refl
         (λ done. let z : _≡_ {A = ℕ} 0 1 = cc in absurd (omega arith))
 
-    pub wrote-done : {after : List ℕ} → d .length ≤ ListN.length buffer → after ≡ bytesOf d ++ drop (d .length) buffer → Held s
+    pub wrote-done : {after : List ℕ} → d .length ≤ ListN.length buffer → after ≡ bytesMade d ++ drop (d .length) buffer → Held s
         → Wrote s buffer (record { answer = Done; length = d .length }) after
     wrote-done room e held =
         wrote-as _ _ _ (write-done s buffer passed (omega arith)) refl (h .length) (e ∙ rw (h .bytes, h .length)) (λ done. held)

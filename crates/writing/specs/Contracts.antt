@@ -14,8 +14,8 @@ use Rattle.writing.specs.declared.Written.{Written}
 use Rattle.writing.specs.Encode.{writeRecord}
 
 -- the bytes made so far
-abbrev pub bytesOf : Draft → List ℕ
-bytesOf d = take (d .length) (d .bytes)
+abbrev pub bytesMade : Draft → List ℕ
+bytesMade d = take (d .length) (d .bytes)
 
 -- there is room for these
 pub record Room (bs : List ℕ) (d : Draft) : Type 0 where
@@ -23,12 +23,12 @@ pub record Room (bs : List ℕ) (d : Draft) : Type 0 where
 
 -- r is d with these behind
 pub record Appended (bs : List ℕ) (d r : Draft) : Type 0 where
-  pub bytes : bytesOf r ≡ bytesOf d ++ bs
+  pub bytes : bytesMade r ≡ bytesMade d ++ bs
   pub length : r .length ≡ d .length + ListN.length bs
 
 -- r is these bytes
 pub record Holds (bs : List ℕ) (r : Draft) : Type 0 where
-  pub bytes : bytesOf r ≡ bs
+  pub bytes : bytesMade r ≡ bs
   pub length : r .length ≡ ListN.length bs
   pub fits : r .length ≤ longest
 

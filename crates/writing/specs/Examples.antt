@@ -3,13 +3,13 @@ use mathlib.Core.Path.{_≡_, refl}
 use mathlib.Core.List.{[], _∷_}
 use mathlib.Core.Option.{some}
 use lib.IntN.{pos, negsuc}
-use Rattle.points.specs.Points.{straight}
+use Rattle.points.specs.Points.{straightCurve}
 use Rattle.tables.specs.declared.CurveInterpolation.the-variants.{Linear, Cardinal, ClampedCubic}
 use Rattle.sets.specs.declared.Colour.the-variants.{Green}
 use Rattle.sets.specs.Sets.{emptyView, masterOnly, withColour, withKind}
 use Rattle.writing.specs.Encode.{pairBytes, bitsUnder, encode}
 
-pub P10-written : encode (withKind Linear (masterOnly straight)) ≡ 0x11 ∷ 2 ∷ 0 ∷ 0 ∷ 0xff ∷ 0xff ∷ 0 ∷ []
+pub P10-written : encode (withKind Linear (masterOnly straightCurve)) ≡ 0x11 ∷ 2 ∷ 0 ∷ 0 ∷ 0xff ∷ 0xff ∷ 0 ∷ []
 unfolding encode bitsUnder pairBytes
 P10-written = refl
 

@@ -12,7 +12,7 @@ ghost use Rattle.sets.specs.Carried.{LegalKind};
 ghost use Rattle.points.specs.Points.{limit};
 ghost use Rattle.records.specs.Format.{};
 ghost use Rattle.writing.specs.Encode.{pairBytes, fieldBytes, masterField, namesKind, kindBytes, unsigned16, slopeBytes, carriedBytes, mapOf, encode};
-ghost use Rattle.writing.specs.Contracts.{bytesOf, Room, Appended, Holds, Wrote};
+ghost use Rattle.writing.specs.Contracts.{bytesMade, Room, Appended, Holds, Wrote};
 ghost use Rattle.records.specs.Format.{longest};
 use answers::Answer;
 use points::Curve;
@@ -196,7 +196,7 @@ fn record_of(set: Curves) -> Draft
 // The bytes of a draft to the front of a buffer.
 fn copy_out(draft: Draft, buffer: &mut [u8])
     requires { ⌜ (draft .length ≤ longest) × (draft .length ≤ length (now buffer)) ⌝ }
-    ensures { λ _. ⌜ now (buffer .exit) ≡ bytesOf draft ++ drop (draft .length) (now (buffer .entry)) ⌝ }
+    ensures { λ _. ⌜ now (buffer .exit) ≡ bytesMade draft ++ drop (draft .length) (now (buffer .entry)) ⌝ }
 {
     let length = draft.length;
     let mut i: usize = 0;

@@ -8,11 +8,10 @@ use borrow.Author.Tests.{eq-eqb, ne-eqb}
 use lib.Ieee.{Float, nan}
 use lib.ListN.{replicate}
 use Rattle.floats.specs.Notation.{_⊕_}
-use Rattle.lists.specs.Stored.{Stored, stored-none, stored-next, stored-inside, stored-front}
+use Rattle.lists.specs.Stored.{Stored, stored-none, stored-next, stored-then, stored-inside, stored-end}
 use Rattle.single.specs.Constants.{𝟎}
 use Rattle.points.specs.declared.Knot.{Knot}
-use Rattle.points.specs.Knots.{knotAt}
-use Rattle.hermite.specs.Segments.{at}
+use Rattle.points.specs.Knots.{knotAt, at}
 use Rattle.hermite.specs.CatmullRom.{after}
 use Rattle.chords.specs.Alpha.{spacing, innerTangent, endTangent, alphaTangent, alphaAt, chordAt, spacingAt}
 use Rattle.chords.proofs.alpha.Statement.{statement}
@@ -57,24 +56,13 @@ module _ (k : Bool) (xs ys : List Float) (n : ℕ) (two : 2 ≤ n) (most : n ≤
         )
 
 abbrev Inv-loop : tie.InvT-loop
-Inv-loop centripetal xs ys n ways tangents₀ i₀ tangents i = (1 ≤ i) × (i < n) × (n ≤ 66) × Stored (alphaAt centripetal xs ys n) 0 i (replicate 66 𝟎) tangents
+Inv-loop centripetal xs ys n tangents₀ ways i₀ tangents i = (1 ≤ i) × (i < n) × (n ≤ 66) × Stored (alphaAt centripetal xs ys n) 1 i tangents₀ tangents
 
 abbrev μ-loop : tie.MeasureT-loop
-μ-loop centripetal xs ys n ways tangents₀ i₀ tangents i = n - i
+μ-loop centripetal xs ys n tangents₀ ways i₀ tangents i = n - i
 
 loop-holds : tie.Need-loop-holds Inv-loop μ-loop
-loop-holds c =
-    let b = c .before in
-    let s = b .before .before in
-    let h = s .before .before .before in
-    let pre = h .before .before .pre in (
-      omega arith,
-      pre .0,
-      pre .1,
-      stored-next stored-none
-          (at-first _ _ _ _ (pre .0) (pre .1) (h .chords .ensures) (s .spacings .ensures) (b .before .knot-at .ensures) (b .knot-at2 .ensures)
-          (c .end-tangent .ensures)),
-    )
+loop-holds c = let pre = c .before .before .before .before .before .before .before .before .pre in (omega arith, pre .0, pre .1, stored-none)
 
 loop-again : tie.Need-loop-again Inv-loop μ-loop
 loop-again c =
@@ -101,11 +89,16 @@ returns c =
     let s = b .before .before .before .before in
     let h = s .before .before .before in
     let pre = h .before .before .pre in
-    stored-front
-    (stored-next (b .loop .inv .3)
-    (at-last _ _ _ _ (pre .0) (pre .1) (h .chords .ensures) (s .spacings .ensures) _ (omega arith) (l .knot-at6 .ensures) (m .knot-at7 .ensures)
-    (omega arith) (c .end-tangent2 .ensures)))
-    (omega arith) (pre .1)
+    let e = b .before in
+    let first =
+    at-first _ _ _ _ (pre .0) (pre .1) (h .chords .ensures) (s .spacings .ensures) (e .before .before .knot-at .ensures) (e .before .knot-at2 .ensures)
+    (e .end-tangent .ensures)
+    in
+    let last =
+    at-last _ _ _ _ (pre .0) (pre .1) (h .chords .ensures) (s .spacings .ensures) _ (omega arith) (l .knot-at6 .ensures) (m .knot-at7 .ensures)
+    (omega arith) (c .end-tangent2 .ensures)
+    in
+    stored-end (stored-next (stored-then (stored-next stored-none first) (b .loop .inv .3)) last) (omega arith)
 
 pub alpha-spec : {M : Type 1} → statement M
 alpha-spec =

@@ -1,6 +1,6 @@
 -- `lookup::blend` meets its contract: both entries are the table's, since no index passes 4,094.
 use native.Mathlib.Omega.{arith}
-use Rattle.lookup.specs.Lookup.{between}
+use Rattle.lookup.specs.Lookup.{blended}
 use Rattle.lookup.specs.Laws.{entry-inside}
 use Rattle.lookup.proofs.blend.Statement.{statement}
 use Rattle.lookup.proofs.blend.Tie as tie
@@ -12,7 +12,7 @@ shared-slice-read-result-2 : tie.Need-shared-slice-read-result-2
 shared-slice-read-result-2 c = omega (arith, entry-inside (c .before .before .before .before .before .args .v))
 
 returns : tie.Need-returns
-unfolding between
+unfolding blended
 returns c =
     let k = c .before .before in
     rw (k .count-to-float .ensures, k .before .position .ensures, k .before .before .before .pre .1)

@@ -11,19 +11,18 @@ use borrow.Author.Tests.{eq-eqb, ne-eqb}
 use lib.Ieee.{Float, nan}
 use lib.ListN.{set, replicate}
 use Rattle.floats.specs.Notation.{_⊘_}
-use Rattle.lists.specs.Tabulate.{filled}
-use Rattle.lists.specs.Stored.{Stored, stored-none, stored-next, stored-inside, stored-front}
+use Rattle.lists.specs.Stored.{Stored, stored-none, stored-next, stored-inside, stored-end}
 use Rattle.single.specs.Constants.{𝟎}
 use Rattle.monotone.specs.declared.Tangents.{Tangents}
-use Rattle.hermite.specs.Segments.{at}
+use Rattle.points.specs.Knots.{at}
 use Rattle.monotone.specs.Monotone.{secantAt, meanAt, adjusted, reached, monotoneAt, rightMean, quotientOf}
 use Rattle.monotone.proofs.monotone.Statement.{statement}
 use Rattle.monotone.proofs.monotone.Tie as tie
 
 -- at the segment i, before it adjusts its tangents
-record Turn (box : Bool) (xs ys : List Float) (n i : ℕ) (tangents : List Float) (m : Float) : Type 0 where
+record Turn (box : Bool) (xs ys : List Float) (n i : ℕ) (tangents₀ tangents : List Float) (m : Float) : Type 0 where
   pub room : i < n
-  pub stored : Stored (monotoneAt box xs ys n) 0 i (replicate 66 𝟎) tangents
+  pub stored : Stored (monotoneAt box xs ys n) 0 i tangents₀ tangents
   pub tangent : m ≡ reached box xs ys n i
 
 -- ---- what stands in the rows
@@ -55,9 +54,9 @@ reached-next : (box : Bool) (xs ys : List Float) (n i : ℕ)
 unfolding reached
 reached-next box xs ys n i = rw add-one
 
-module _ {box : Bool} {xs ys : List Float} {n i : ℕ} {tangents : List Float} {m : Float} (t : Turn box xs ys n i tangents m) where
+module _ {box : Bool} {xs ys : List Float} {n i : ℕ} {tangents₀ tangents : List Float} {m : Float} (t : Turn box xs ys n i tangents₀ tangents m) where
   next-turn : {d r : Float} {p : Tangents} → i + 1 < n → d ≡ secantAt xs ys i → r ≡ meanAt xs ys n (i + 1) → p ≡ adjusted box d m r
-      → Turn box xs ys n (i + 1) (set tangents i (p .left)) (p .right)
+      → Turn box xs ys n (i + 1) tangents₀ (set tangents i (p .left)) (p .right)
   unfolding monotoneAt
   next-turn h secant mean made = record {
     room = h;
@@ -65,15 +64,15 @@ module _ {box : Bool} {xs ys : List Float} {n i : ℕ} {tangents : List Float} {
     tangent = rw (reached-next box xs ys n i, ← mean, ← secant, ← t .tangent, made);
   }
 
-  last-turn : i + 1 ≡ n → n ≤ 66 → set tangents i m ≡ filled n (monotoneAt box xs ys n) (replicate 66 𝟎)
+  last-turn : i + 1 ≡ n → Stored (monotoneAt box xs ys n) 0 n tangents₀ (set tangents i m)
   unfolding monotoneAt
-  last-turn h most = stored-front (stored-next (t .stored) (rw (eq-eqb (i + 1) n h) (t .tangent))) h most
+  last-turn h = stored-end (stored-next (t .stored) (rw (eq-eqb (i + 1) n h) (t .tangent))) h
 
 abbrev Inv-loop : tie.InvT-loop
-Inv-loop boxed xs ys n ds rs bs tangents₀ m₀ i₀ tangents m i = Turn boxed xs ys n i tangents m
+Inv-loop boxed xs ys n tangents₀ ds rs bs m₀ i₀ tangents m i = Turn boxed xs ys n i tangents₀ tangents m
 
 abbrev μ-loop : tie.MeasureT-loop
-μ-loop boxed xs ys n ds rs bs tangents₀ m₀ i₀ tangents m i = n - i
+μ-loop boxed xs ys n tangents₀ ds rs bs m₀ i₀ tangents m i = n - i
 
 loop-holds : tie.Need-loop-holds Inv-loop μ-loop
 unfolding reached meanAt
@@ -94,7 +93,7 @@ loop-again c =
     (mean _ _ _ most (s .secants .ensures) (m .means .ensures) _ (omega arith)) (c .adjusted .ensures)
 
 returns : tie.Need-returns Inv-loop μ-loop
-returns c = last-turn (c .before .loop .inv) (omega arith) (search needs)
+returns c = last-turn (c .before .loop .inv) (omega arith)
 
 pub monotone-spec : {M : Type 1} → statement M
 monotone-spec =

@@ -1,5 +1,5 @@
 -- `tables::sample_curve`: the knots of a sorted list are from 2 to 66, so `fill` has its rows.
-use mathlib.Core.Path.{_≡_}
+use mathlib.Core.Path.{_≡_, refl}
 use mathlib.Core.List.{List}
 use Prim.Native.Nat.{ℕ, _≤_}
 use native.Mathlib.Omega.{arith}
@@ -19,7 +19,7 @@ use Rattle.points.specs.Kept.{kept-is-kept, kept-length}
 use Rattle.points.specs.Shape.{knots-shape, knots-length}
 use Rattle.tables.specs.declared.CurveInterpolation.{CurveInterpolation}
 use Rattle.sampling.specs.declared.Form.{Form}
-use Rattle.tables.specs.Kinds.{formOf, rowOf}
+use Rattle.tables.specs.Kinds.{formOf, numbersRow}
 use Rattle.sampling.specs.Pieces.{heightAt, sampled}
 use Rattle.tables.specs.Tables.{unclampedAt, sampleOf, fineTable}
 use Rattle.tables.proofs.sample_curve.Statement.{statement}
@@ -38,21 +38,22 @@ module _ {given : Curve} {sorted : Sorted} {k : Knots} (few : given .count ≤ 6
       rw (rows .count)
       (omega (arith, knots-shape (kept l) (kept-is-kept l bytes) .two), omega (arith, knots-length (kept l), kept-length l))
 
-  table : (kind : CurveInterpolation) (S : ℕ) {form : Form} {ms new : List Float} → form ≡ formOf kind → ms ≡ rowOf kind (k .xs) (k .ys) (k .count)
+  table : (kind : CurveInterpolation) (S : ℕ) {form : Form} {ms new : List Float} → form ≡ formOf kind → ms ≡ numbersRow kind (k .xs) (k .ys) (k .count)
       → new ≡ tabulate S (sampled (heightAt form (k .xs) (k .ys) ms (k .count)) S) → new ≡ fineTable kind (listOf given) S
   unfolding sampleOf unclampedAt
   table kind S f m e = rw (f, m, rows .xs, rows .ys, rows .count) at e
 
 numbers-requires : tie.Need-numbers-requires
 numbers-requires c κs =
-    let k = c .before .before .before .before in
+    let k = c .before .before .before .before .before in
     let n = k .before .before in
     let given = n .before .before in
-    count (given .pre .0) (n .new .ensures) (k .knots .ensures) (search (needs, all-take, bytes-told))
+    let few = count (given .pre .0) (n .new .ensures) (k .knots .ensures) (search (needs, all-take, bytes-told)) in
+    (few .0, few .1, refl)
 
 fill-requires : tie.Need-fill-requires
 fill-requires c κs =
-    let k = c .before .before .before .before .before .before .before .before .before .before in
+    let k = c .before .before .before .before .before .before .before .before .before .before .before in
     let n = k .before .before in
     let given = n .before .before in
     (count (given .pre .0) (n .new .ensures) (k .knots .ensures) (search (needs, all-take, bytes-told)), given .pre .1)
@@ -61,7 +62,7 @@ returns : tie.Need-returns
 returns c =
     let f = c .before .before in
     let m = f .before .before .before .before .before in
-    let k = m .before .before .before .before .before .before in
+    let k = m .before .before .before .before .before .before .before in
     let n = k .before .before in
     table (n .before .before .pre .0) (n .new .ensures) (k .knots .ensures) _ _ (m .form-of .ensures) (m .before .numbers .ensures) (f .fill .ensures)
 

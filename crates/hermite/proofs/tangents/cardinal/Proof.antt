@@ -2,16 +2,16 @@
 use Prim.Native.Nat.{_≤_, _-_}
 use native.Mathlib.Omega.{arith}
 use borrow.Author.Needs.{needs}
-use Rattle.lists.specs.Stored.{Stored, stored-none, stored-next, stored-front}
+use Rattle.lists.specs.Stored.{Stored, stored-none, stored-next, stored-end}
 use Rattle.hermite.specs.CatmullRom.{cardinalAt}
 use Rattle.hermite.proofs.tangents.cardinal.Statement.{statement}
 use Rattle.hermite.proofs.tangents.cardinal.Tie as tie
 
 abbrev Inv-loop : tie.InvT-loop
-Inv-loop q xs ys n c tangents₀ i₀ tangents i = (i ≤ n) × Stored (cardinalAt q xs ys n) 0 i tangents₀ tangents
+Inv-loop q xs ys n tangents₀ c i₀ tangents i = (i ≤ n) × Stored (cardinalAt q xs ys n) 0 i tangents₀ tangents
 
 abbrev μ-loop : tie.MeasureT-loop
-μ-loop q xs ys n c tangents₀ i₀ tangents i = n - i
+μ-loop q xs ys n tangents₀ c i₀ tangents i = n - i
 
 loop-again : tie.Need-loop-again Inv-loop μ-loop
 unfolding cardinalAt
@@ -27,7 +27,7 @@ loop-again c =
     )
 
 returns : tie.Need-returns Inv-loop μ-loop
-returns c = stored-front (c .before .loop .inv .1) (omega arith) (search needs)
+returns c = stored-end (c .before .loop .inv .1) (omega arith)
 
 pub cardinal-spec : {M : Type 1} → statement M
 cardinal-spec =

@@ -2,7 +2,7 @@
 use Prim.Native.Nat.{_≤_, _-_}
 use native.Mathlib.Omega.{arith}
 use borrow.Author.Needs.{needs}
-use Rattle.lists.specs.Stored.{Stored, stored-none, stored-next, stored-front}
+use Rattle.lists.specs.Stored.{Stored, stored-none, stored-next, stored-end}
 use Rattle.hermite.specs.CatmullRom.{catmullRomAt}
 use Rattle.hermite.proofs.tangents.catmull_rom.Statement.{statement}
 use Rattle.hermite.proofs.tangents.catmull_rom.Tie as tie
@@ -27,7 +27,7 @@ loop-again c =
     )
 
 returns : tie.Need-returns Inv-loop μ-loop
-returns c = stored-front (c .before .loop .inv .1) (omega arith) (search needs)
+returns c = stored-end (c .before .loop .inv .1) (omega arith)
 
 pub catmull-rom-spec : {M : Type 1} → statement M
 catmull-rom-spec =

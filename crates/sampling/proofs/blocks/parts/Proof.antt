@@ -7,10 +7,11 @@ use Prim.Native.Nat.{ℕ, _+_}
 use native.Mathlib.Nat.{add-zero}
 use lib.Ieee.{Float}
 use Rattle.lists.specs.Tabulate.{tabulate}
+use Rattle.points.specs.Knots.{narrow}
 use Rattle.hermite.specs.Segments.{sampleAt}
 use Rattle.hermite.specs.Pieces.{part}
 use Rattle.sampling.specs.declared.Piece.{Piece}
-use Rattle.sampling.specs.Walk.{narrow, partFrom, partsOf}
+use Rattle.sampling.specs.Walk.{partFrom, partsOf}
 use Rattle.sampling.proofs.blocks.parts.Statement.{statement}
 use Rattle.sampling.proofs.blocks.parts.Tie as tie
 

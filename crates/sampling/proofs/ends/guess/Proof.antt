@@ -10,8 +10,8 @@ use lib.Ieee.{Float}
 use Rattle.lists.specs.Stored.{Stored, stored-none, stored-next, stored-end}
 use Rattle.single.specs.Rules.{floorOf}
 use Rattle.single.specs.ByteLaws.{floor-small}
-use Rattle.hermite.specs.Segments.{at}
-use Rattle.sampling.specs.Walk.{narrow, isEnd, endAt}
+use Rattle.points.specs.Knots.{at, narrow}
+use Rattle.sampling.specs.Walk.{isEnd, endAt}
 use Rattle.sampling.proofs.ends.guess.Statement.{statement}
 use Rattle.sampling.proofs.ends.guess.Tie as tie
 
