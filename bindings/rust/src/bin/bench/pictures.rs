@@ -1,5 +1,6 @@
 //! Both picture calls.
 use super::clock::best;
+use std::cell::RefCell;
 use std::hint::black_box;
 use tone::model::record::{write, Set};
 use tone::original::{curves, frame, pixel_format, tonal_lut, PixelFilter, VideoStreamParams};
@@ -22,20 +23,22 @@ pub fn all(rounds: u64, random: &mut Random) {
     }
 }
 
-/// Brightness turned round, so that the plane does not run out of values in many turns.
+/// Brightness turned round, so that the plane does not run out of values in many turns. Both tone the same memory: where its pages lie counts for more
+/// than the two differ.
 fn one_table(rounds: u64, format: Format, (width, height): (u32, u32), random: &mut Random) {
     let table: [u8; 256] = std::array::from_fn(|v| 255 - v as u8);
     let row = width as usize * format.bytes_a_pixel();
     let bytes = random.bytes(row * height as usize);
-    let mut plane = bytes.clone();
+    let there = RefCell::new(frame([(bytes.clone(), row)]));
     let mut port = |_: usize| {
-        tone::plane(black_box(&table), black_box(format), width, height, &mut plane, row).unwrap();
-        black_box(&plane);
+        let plane = &mut there.borrow_mut().planes[0].data;
+        tone::plane(black_box(&table), black_box(format), width, height, plane, row).unwrap();
+        black_box(plane);
     };
-    let mut there = frame([(bytes.clone(), row)]);
     let mut original = |_: usize| {
-        tonal_lut::tone(&mut there, black_box(&table), black_box(format), width, height);
-        black_box(&there);
+        let frame = &mut there.borrow_mut();
+        tonal_lut::tone(frame, black_box(&table), black_box(format), width, height);
+        black_box(frame);
     };
     let mut copied = bytes.clone();
     let mut copy = |_: usize| {
