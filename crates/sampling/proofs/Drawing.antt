@@ -25,7 +25,7 @@ use Rattle.sampling.specs.declared.Piece.{Piece}
 use Rattle.sampling.specs.Pieces.{pieceAt, pieceHeight}
 use Rattle.sampling.specs.Walk.{endAt, Ends, nextPlace, pieceSample, State}
 use Rattle.sampling.specs.Walk.{partFrom, partsOf, fromParts, straightSample, cubicSample, firstCoefficientAt, thirdCoefficientAt, splineSample}
-use Rattle.sampling.proofs.Walk.{end-most, end-inner, end-last, start, after-block}
+use Rattle.sampling.proofs.Walk.{end-most, end-inner, end-last, after-block}
 
 -- ---- places
 -- a place that a loop comes to

@@ -6,11 +6,9 @@ use mathlib.Core.List.{List}
 use lib.Dec.{ltb}
 use lib.ListN.{length, getD, replicate}
 use lib.Ieee.{Float, nan, lt}
-use Rattle.floats.specs.Notation.{_⊖_, _⊘_}
-use Rattle.floats.specs.Value.{absolute}
+use Rattle.floats.specs.Notation.{_⊘_}
 use Rattle.lists.specs.Tabulate.{tabulate}
 use Rattle.lists.specs.Stored.{Stored}
-use Rattle.single.specs.Constants.{micro}
 use Rattle.single.specs.Rules.{clamped, floorOf}
 use Rattle.points.specs.declared.Knot.{Knot}
 use Rattle.points.specs.Knots.{at, knotAt, narrow}

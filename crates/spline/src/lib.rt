@@ -347,7 +347,8 @@ fn recovered(g: Segment, h: Segment, p: f32, q: f32) -> f32
     p + guarded_quotient(g.width, h.width, 1.0e-12) * (p - q)
 }
 
-// Not-a-knot with at least 4 knots: the values at both ends are recovered from those of the inner knots.
+// Not-a-knot with at least 4 knots: the values at both ends are recovered from those of the inner knots, read back from the row. That it has 66 places is
+// asked for because a proof does not see the length of an array that is lent.
 fn ends_recovered(xs: &[f32; 66], ys: &[f32; 66], n: usize, row: &mut [f32; 66])
     requires { ⌜ (4 ≤ n) × (n ≤ 66) × (length (now row) ≡ 66) ⌝ }
     ensures { λ _. ⌜ Stored (endsRecovered (now (xs .entry)) (now (ys .entry)) n) 0 n (now (row .entry)) (now (row .exit)) ⌝ }
