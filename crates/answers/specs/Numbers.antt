@@ -1,11 +1,11 @@
 -- The numbers of document 01, "When a call says no", one for each answer; and that different answers have different numbers.
 use Prim.Native.Nat.{ℕ}
 use mathlib.Core.Path.{_≡_, refl, sym, ap, _∙_}
-use mathlib.Core.Bool.{Bool, true, false, cond}
+use mathlib.Core.Bool.{Bool, true, false, cond, not}
 use mathlib.Core.List.{List, [], _∷_}
 use lib.ListN.{getD}
 use lib.Dec.{eqb}
-use borrow.Author.Tests.{eqb-true, eqb-false}
+use borrow.Author.Tests.{eqb-true, eqb-false, not-true, not-false}
 use Rattle.answers.specs.declared.Answer.{Answer}
 use Rattle.answers.specs.declared.Answer.the-variants.{
   Done,
@@ -91,10 +91,21 @@ at-number TableLength = refl
 pub number-unique : (a b : Answer) → numberOf a ≡ numberOf b → a ≡ b
 number-unique a b e = sym (at-number a) ∙ ap (λ n. getD inOrder n Done) e ∙ at-number b
 
+pub done-is : (a : Answer) → isDone a ≡ true → a ≡ Done
+done-is a e = number-unique a Done (eqb-true (numberOf a) 0 e)
+
+-- code asked whether a is done, was told, and tested that it is not
+module _ (a : Answer) {told : Bool} (is : told ≡ isDone a) where
+  pub told-refused : not told ≡ true → isDone a ≡ false
+  told-refused t = sym is ∙ not-true told t
+
+  pub told-done : not told ≡ false → a ≡ Done
+  told-done t = done-is a (sym is ∙ not-false told t)
+
 -- where the first refusal of two is none, neither is a refusal
 module _ (a b : Answer) where
   by-first : (done : Bool) → isDone a ≡ done → cond done b a ≡ Done → (a ≡ Done) × (b ≡ Done)
-  by-first true h e = (number-unique a Done (eqb-true (numberOf a) 0 h), e)
+  by-first true h e = (done-is a h, e)
   by-first false h e = absurd (eqb-false (numberOf a) 0 h (ap numberOf e))
 
   pub both-done : firstOf a b ≡ Done → (a ≡ Done) × (b ≡ Done)

@@ -1,6 +1,8 @@
 // The answer of a call: done, or the first refusal of document 01, "When a call says no".
 ghost use mathlib.Core.Path.{_≡_};
+ghost use mathlib.Core.List.{[], _∷_};
 ghost use Rattle.answers.specs.Numbers.{numberOf, isDone, firstOf};
+ghost use Rattle.answers.specs.Checks.{firstRefusal, roomCheck};
 
 pub enum Answer {
     Done,
@@ -56,4 +58,15 @@ pub fn first_of(a: Answer, b: Answer) -> Answer
     ensures { λ r. ⌜ r ≡ firstOf a b ⌝ }
 {
     if a.is_done() { b } else { a }
+}
+
+// 13, of an output of so many bytes that is to take count.
+pub fn room_for(count: usize, held: usize) -> Answer
+    ensures { λ r. ⌜ r ≡ firstRefusal (roomCheck count held ∷ []) ⌝ }
+{
+    if held < count {
+        Answer::OutputTooSmall
+    } else {
+        Answer::Done
+    }
 }

@@ -20,7 +20,8 @@ use Rattle.records.specs.Format.{readRecord}
 use Rattle.formats.specs.declared.PixelFormat.the-variants.{Gray8}
 use Rattle.formats.specs.Checks.{lutAnswer}
 use Rattle.pictures.specs.Runs.{Run, answer}
-use Rattle.pictures.specs.Examples.{line, run, answered, lutAnswered}
+use Rattle.sets.specs.Examples.{line}
+use Rattle.pictures.specs.Examples.{run, answered, lutAnswered}
 use Rattle.examples.specs.Computed as Computed
 
 -- "P1 empty, Linear: all 0."

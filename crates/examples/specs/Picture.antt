@@ -12,7 +12,8 @@ use Rattle.rows.specs.Bytes.{toned, rowByte}
 use Rattle.rows.specs.Rows.{tightByte}
 use Rattle.formats.specs.declared.PixelFormat.the-variants.{Gray8}
 use Rattle.pictures.specs.Runs.{Run, first}
-use Rattle.pictures.specs.Examples.{stored, run, answered}
+use Rattle.sets.specs.Examples.{stored}
+use Rattle.pictures.specs.Examples.{run, answered}
 use Rattle.examples.specs.Marked.{P2}
 
 -- two rows of 2 bytes with one of padding between them, every byte 5, by P2's list; the output holds 5 bytes, each 0

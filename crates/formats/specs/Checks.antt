@@ -1,11 +1,12 @@
 -- The checks of the picture calls on numbers, in the order of document 01's section "When a call says no". Definitions only.
 use Prim.Native.Nat.{ℕ, _*_}
 use mathlib.Core.Path.{_≡_}
-use mathlib.Core.Bool.{Bool, cond, _&&_, _||_}
+use mathlib.Core.Bool.{Bool, cond, _||_}
+use mathlib.Core.List.{List, [], _∷_, _++_}
 use lib.Dec.{ltb, eqb}
 use Rattle.answers.specs.declared.Answer.{Answer}
-use Rattle.answers.specs.declared.Answer.the-variants.{Done, UnsupportedFormat, PictureTooLarge, MissingPlane, RowStep, PlaneTooShort, OutputTooSmall}
-use Rattle.answers.specs.Numbers.{firstOf}
+use Rattle.answers.specs.declared.Answer.the-variants.{UnsupportedFormat, PictureTooLarge, MissingPlane, RowStep, PlaneTooShort}
+use Rattle.answers.specs.Checks.{Check, _when_, firstRefusal, roomCheck}
 use Rattle.rows.specs.Rows.{needed}
 use Rattle.formats.specs.declared.PixelFormat.{PixelFormat}
 use Rattle.formats.specs.declared.Lengths.{Lengths}
@@ -19,13 +20,16 @@ tooLarge w h = ltb 4096 w || ltb 4096 h
 abbrev pub wrongStep : ℕ → ℕ → Bool
 wrongStep row step = ltb step row || ltb 32768 step
 
--- 11, 12 of a first plane of len bytes
-unfoldable pub planeAnswer : ℕ → ℕ → ℕ → ℕ → ℕ → Answer
-planeAnswer w h row step len = cond (wrongStep row step) RowStep (cond (ltb len (needed w h row step)) PlaneTooShort Done)
+-- a first plane of len bytes
+abbrev pub planeChecks : ℕ → ℕ → ℕ → ℕ → ℕ → List Check
+planeChecks w h row step len = RowStep when wrongStep row step ∷ PlaneTooShort when ltb len (needed w h row step) ∷ []
 
--- 9, 11, 12: the one-table call
+-- the one-table call
+abbrev pub lutChecks : PixelFormat → ℕ → ℕ → ℕ → ℕ → List Check
+lutChecks f w h step len = PictureTooLarge when tooLarge w h ∷ planeChecks w h (w * bytesAPixel f) step len
+
 unfoldable pub lutAnswer : PixelFormat → ℕ → ℕ → ℕ → ℕ → Answer
-lutAnswer f w h step len = cond (tooLarge w h) PictureTooLarge (planeAnswer w h (w * bytesAPixel f) step len)
+lutAnswer f w h step len = firstRefusal (lutChecks f w h step len)
 
 -- a format that the set call takes: not "Ya8, Cmyk or CmykInverted"
 abbrev pub Supported : PixelFormat → Type 0
@@ -35,20 +39,20 @@ Supported f = planesRead f ≡ 0 → ⊥
 abbrev pub chromaRead : PixelFormat → Bool
 chromaRead f = eqb (planesRead f) 3
 
--- "An output holds less than what would be written": tight rows of size bytes, and for YUV each chroma plane
-abbrev pub tooSmall : PixelFormat → ℕ → Lengths → Bool
-tooSmall f size held =
-    ltb (held .out) size || (chromaRead f && (ltb (held .«out_cb») (held .cb) || ltb (held .«out_cr») (held .cr)))
+-- the outputs: tight rows of size bytes, and for YUV each chroma plane
+abbrev pub outputChecks : PixelFormat → ℕ → Lengths → List Check
+outputChecks f size held =
+    roomCheck size (held .out)
+    ∷ cond (chromaRead f) (roomCheck (held .cb) (held .«out_cb») ∷ roomCheck (held .cr) (held .«out_cr») ∷ []) []
 
--- 13
-abbrev pub outputAnswer : PixelFormat → ℕ → Lengths → Answer
-outputAnswer f size held = cond (tooSmall f size held) OutputTooSmall Done
+-- the set call, after its lists
+abbrev pub pictureChecks : PixelFormat → ℕ → ℕ → ℕ → ℕ → Lengths → List Check
+pictureChecks f w h planes step held =
+    let row = w * bytesAPixel f in
+    UnsupportedFormat when eqb (planesRead f) 0
+    ∷ PictureTooLarge when tooLarge w h
+    ∷ MissingPlane when ltb planes (planesRead f)
+    ∷ planeChecks w h row step (held .plane) ++ outputChecks f (h * row) held
 
--- 8, 9, 10, 11, 12, 13: the set call, after its lists
 unfoldable pub pictureAnswer : PixelFormat → ℕ → ℕ → ℕ → ℕ → Lengths → Answer
-pictureAnswer f w h planes step held =
-    cond (eqb (planesRead f) 0) UnsupportedFormat
-    (cond (tooLarge w h) PictureTooLarge
-    (cond (ltb planes (planesRead f)) MissingPlane
-    (firstOf (planeAnswer w h (w * bytesAPixel f) step (held .plane))
-    (outputAnswer f (h * (w * bytesAPixel f)) held))))
+pictureAnswer f w h planes step held = firstRefusal (pictureChecks f w h planes step held)

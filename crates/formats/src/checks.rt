@@ -2,11 +2,13 @@
 ghost use mathlib.Core.Path.{_≡_};
 ghost use Prim.Native.Nat.{_≤_};
 ghost use Rattle.rows.specs.Rows.{needed};
-ghost use Rattle.formats.specs.Checks.{tooLarge, wrongStep, planeAnswer, lutAnswer, tooSmall, outputAnswer, pictureAnswer};
+ghost use Rattle.answers.specs.Checks.{firstRefusal};
+ghost use Rattle.formats.specs.Checks.{tooLarge, wrongStep, planeChecks, lutAnswer, outputChecks, pictureAnswer};
 use crate::Lengths;
 use crate::PixelFormat;
 use answers::Answer;
 use answers::first_of;
+use answers::room_for;
 
 const LARGEST_SIDE: usize = 4096;
 
@@ -41,7 +43,7 @@ fn needed_bytes(w: usize, h: usize, row: usize, step: usize) -> usize
 // 11, 12 of a first plane of len bytes.
 fn plane_answer(w: usize, h: usize, row: usize, step: usize, len: usize) -> Answer
     requires { ⌜ h ≤ 4096 ⌝ }
-    ensures { λ r. ⌜ r ≡ planeAnswer w h row step len ⌝ }
+    ensures { λ r. ⌜ r ≡ firstRefusal (planeChecks w h row step len) ⌝ }
 {
     if wrong_step(row, step) {
         return Answer::RowStep;
@@ -63,24 +65,17 @@ pub fn lut_answer(format: PixelFormat, w: usize, h: usize, step: usize, len: usi
     plane_answer(w, h, w * format.bytes_a_pixel(), step, len)
 }
 
-// Whether an output holds less than would be written: size bytes, and for YUV each chroma plane.
-fn too_small(format: PixelFormat, size: usize, held: Lengths) -> bool
-    ensures { λ r. ⌜ r ≡ tooSmall format size held ⌝ }
-{
-    let first = held.out < size;
-    let chroma = (held.out_cb < held.cb) | (held.out_cr < held.cr);
-    first | ((format.planes_read() == 3) & chroma)
-}
-
-// 13.
+// 13: tight rows of size bytes, and for YUV each chroma plane.
 fn output_answer(format: PixelFormat, size: usize, held: Lengths) -> Answer
-    ensures { λ r. ⌜ r ≡ outputAnswer format size held ⌝ }
+    ensures { λ r. ⌜ r ≡ firstRefusal (outputChecks format size held) ⌝ }
 {
-    if too_small(format, size, held) {
-        Answer::OutputTooSmall
-    } else {
-        Answer::Done
+    let first = room_for(size, held.out);
+    if format.planes_read() == 3 {
+        let cb = room_for(held.cb, held.out_cb);
+        let cr = room_for(held.cr, held.out_cr);
+        return first_of(first, first_of(cb, cr));
     }
+    first
 }
 
 // 8, 9, 10, 11, 12, 13.

@@ -1,14 +1,15 @@
 -- The fine lookup in a table of 4,096 samples, as document 01's section "Fine lookup" has it. Definitions only.
 use Prim.Native.Nat.{ℕ, _+_}
 use mathlib.Core.Path.{_≡_}
-use mathlib.Core.Bool.{cond}
-use mathlib.Core.List.{List}
+use mathlib.Core.Bool.{cond, not}
+use mathlib.Core.List.{List, [], _∷_}
 use lib.Dec.{eqb}
 use lib.ListN.{getD, length}
 use lib.Ieee.{Float, nan, lt, le}
 use Rattle.lists.specs.Tabulate.{tabulate}
 use Rattle.answers.specs.declared.Answer.{Answer}
-use Rattle.answers.specs.Numbers.{numberOf}
+use Rattle.answers.specs.declared.Answer.the-variants.{TableLength}
+use Rattle.answers.specs.Checks.{Check, _when_, firstRefusal}
 use Rattle.floats.specs.Notation.{_⊕_, _⊖_, _⊗_, _⊘_}
 use Rattle.single.specs.Constants.{𝟎, 𝟏, 𝟐𝟓𝟓, 𝟒𝟎𝟗𝟓}
 use Rattle.single.specs.Rules.{float, floorOf}
@@ -36,11 +37,15 @@ looked table values k = blended table (position (getD values k nan))
 unfoldable pub indexFrom : List Float → ℕ → ℕ → ℕ
 indexFrom values at j = floorOf (position (getD values (at + j) nan))
 
+-- the checks of the lookup in a table of S samples: 14, "A float table's length isn't .. 4,096 (lookup)"
+abbrev pub lookupChecks : ℕ → List Check
+lookupChecks S = TableLength when not (eqb S 4096) ∷ []
+
 -- the values after the call: "Each lent value is replaced by its result", unless the table's length is not 4,096, which is refused with 14
 unfoldable pub lookedUp : List Float → List Float → List Float
 lookedUp table values = cond (eqb (length table) 4096) (tabulate (length values) (looked table values)) values
 
 -- the call: its answer, and the values after it
 pub record LookupCall (table values : List Float) (answer : Answer) (after : List Float) : Type 0 where
-  pub number : numberOf answer ≡ cond (eqb (length table) 4096) 0 14
+  pub answer-is : answer ≡ firstRefusal (lookupChecks (length table))
   pub replaced : after ≡ lookedUp table values

@@ -13,7 +13,7 @@ use Rattle.tables.specs.Tables.{byteTable}
 use Rattle.sets.specs.declared.Channel.{Channel}
 use Rattle.sets.specs.declared.Colour.{Colour}
 use Rattle.sets.specs.declared.Colour.the-variants.{Red, Green, Blue}
-use Rattle.sets.specs.Sets.{View, colourOf, channelOf, channelAnswer, chosen, ownOrMaster}
+use Rattle.sets.specs.Sets.{View, colourOf, channelOf, curveAnswer, channelAnswer, chosen, ownOrMaster}
 use Rattle.sets.specs.Legal.{passed-count}
 use Rattle.rows.specs.Bytes.{three, rowByte}
 use Rattle.rows.specs.Rows.{tightByte, alphaOf}
@@ -51,6 +51,6 @@ tight-rows-by f v w h step plane out s by-is p-is red-is green-is blue-is e =
 
 -- a list that is used has passed
 pub used-count : (by : Bool) (c : Channel) → channelAnswer c ≡ Done → by && c .present ≡ true → c .curve .count ≤ 64
-unfolding channelAnswer
+unfolding channelAnswer curveAnswer
 used-count false c e present = absurd (true≢false (sym present))
 used-count true c e present = passed-count (c .curve) (rw present at e)

@@ -1,7 +1,7 @@
 -- Calls where a slip would show, computed from the definitions: what is toned and what stays, and the order of the refusals.
 use mathlib.Core.Path.{_≡_, refl}
 use mathlib.Core.Bool.{false}
-use mathlib.Core.List.{List, [], _∷_, _++_}
+use mathlib.Core.List.{List, [], _∷_}
 use Prim.Native.Nat.{ℕ, _+_}
 use lib.ListN.{replicate}
 use Rattle.answers.specs.declared.Answer.{Answer}
@@ -18,33 +18,26 @@ use Rattle.answers.specs.declared.Answer.the-variants.{
 }
 use Rattle.lists.specs.Each.{each}
 use Rattle.lists.specs.Tabulate.{tabulate}
-use Rattle.points.specs.declared.Point.{Point}
 use Rattle.points.specs.declared.Curve.{Curve}
-use Rattle.points.specs.Points.{pt, straightCurve, risesFrom}
+use Rattle.points.specs.Points.{risesFrom}
 use Rattle.tables.specs.declared.CurveInterpolation.the-variants.{Linear}
 use Rattle.sets.specs.declared.Curves.{Curves}
 use Rattle.sets.specs.declared.Channel.{Channel}
-use Rattle.sets.specs.Sets.{curveAnswer, channelAnswer, setAnswer}
+use Rattle.sets.specs.Examples.{stored, line, many, falling}
 use Rattle.rows.specs.Bytes.{toned, rowByte}
 use Rattle.rows.specs.Rows.{inRow, planeByte, needed}
 use Rattle.formats.specs.declared.PixelFormat.{PixelFormat}
 use Rattle.formats.specs.declared.PixelFormat.the-variants.{Gray8, Rgba, Cmyk, Yuv420P}
-use Rattle.formats.specs.Checks.{planeAnswer, lutAnswer, pictureAnswer}
+use Rattle.formats.specs.Checks.{lutAnswer}
 use Rattle.pictures.specs.OneTable.{tonedWithin}
 use Rattle.pictures.specs.Runs.{Run, given, answer, chroma}
 
--- a list as it is stored, zeros behind it, and the set of this master alone
-abbrev pub stored : List Point → ℕ → Curve
-stored l n = record { points = l ++ replicate 64 (pt 0 0); count = n }
-
+-- the set of this master alone
 abbrev absent : Channel
 absent = record { present = false; curve = stored [] 0 }
 
 abbrev alone : Curve → Curves
 alone c = record { master = c; red = absent; green = absent; blue = absent; interpolation = Linear }
-
-abbrev pub line : Curve
-line = stored straightCurve 2
 
 -- a run of w columns and h rows, out of a plane of len bytes, with chroma of 3 bytes each
 abbrev pub run : Curve → PixelFormat → ℕ → ℕ → ℕ → ℕ → ℕ → ℕ → ℕ → Run
@@ -53,11 +46,11 @@ run master f w h planes step len out outCr =
 
 -- what an answer opens, named in this one place: a theorem that unfolds `answered` unfolds them too
 unfoldable pub answered : Run → Answer
-unfolding answer setAnswer curveAnswer channelAnswer risesFrom pictureAnswer planeAnswer needed
+unfolding answer risesFrom needed
 answered = answer
 
 unfoldable pub lutAnswered : PixelFormat → ℕ → ℕ → ℕ → ℕ → Answer
-unfolding lutAnswer planeAnswer needed
+unfolding lutAnswer needed
 lutAnswered = lutAnswer
 
 -- ---- the one-table call: what it answers
@@ -83,12 +76,6 @@ unfolding each tabulate planeByte inRow rowByte toned
 four-inks = refl
 
 -- ---- the order of the refusals: each line mends the first fault of the line before it, and has all the later ones still
-abbrev many : Curve
-many = stored straightCurve 65
-
-abbrev falling : Curve
-falling = stored (pt 9 0 ∷ pt 8 0 ∷ []) 2
-
 pub refused-3 : answer (run many Cmyk 5000 2 2 3 7 7 2) ≡ PointCount
 unfolding answered
 refused-3 = refl

@@ -2,19 +2,19 @@
 use Prim.Native.Nat.{ℕ, zero, suc, _≤_}
 use mathlib.Core.Path.{_≡_, refl}
 use mathlib.Core.Bool.{true}
-use lib.Dec.{ltb}
+use mathlib.Core.List.{[], _∷_}
 use lib.ListN.{length}
 use borrow.Author.Tests.{ltb-false, eqb-false}
-use Rattle.answers.specs.declared.Answer.the-variants.{Done, UnsupportedFormat, PictureTooLarge, MissingPlane, OutputTooSmall}
-use Rattle.answers.specs.Numbers.{both-done}
+use Rattle.answers.specs.declared.Answer.the-variants.{Done}
+use Rattle.answers.specs.Checks.{AllPassed, roomCheck, done-append, all-passed}
 use Rattle.tables.specs.Tables.{byteTable}
-use Rattle.sets.specs.Sets.{View, viewOf, setAnswer}
+use Rattle.sets.specs.Sets.{View, viewOf, setChecks, setAnswer}
 use Rattle.sets.specs.Legal.{Legal, legal-view}
 use Rattle.formats.specs.declared.PixelFormat.{PixelFormat}
 use Rattle.formats.specs.Formats.{planesRead}
-use Rattle.formats.specs.Checks.{Supported, planeAnswer, pictureAnswer}
-use Rattle.formats.specs.CheckLaws.{passed, neither, GoodPlane, good-plane}
-use Rattle.pictures.specs.Runs.{Run, rowBytes, size, hasChroma, answer, tonedBy, tablesOf}
+use Rattle.formats.specs.Checks.{Supported, pictureChecks}
+use Rattle.formats.specs.CheckLaws.{GoodPlane, good-plane}
+use Rattle.pictures.specs.Runs.{Run, size, hasChroma, held, answer, tonedBy, tablesOf}
 
 -- the table of each channel is that of the list that tones it
 pub tables-of : (f : PixelFormat) (v : View) (j : ℕ) → tablesOf f v j ≡ byteTable (v .kind) (tonedBy f v j)
@@ -33,24 +33,27 @@ pub record Accepted (r : Run) : Type 0 where
   pub chroma-room : hasChroma r ≡ true → (length (r .cb .bytes) ≤ length (r .outCb)) × (length (r .cr .bytes) ≤ length (r .outCr))
 
 pub accepted-run : (r : Run) → answer r ≡ Done → Accepted r
-unfolding answer pictureAnswer
+unfolding answer setAnswer
 accepted-run r e =
     let f = r .format in
-    let lists = both-done (setAnswer (r .set)) _ e in
-    let a = passed _ UnsupportedFormat _ refl (lists .1) in
-    let b = passed _ PictureTooLarge _ refl (a .1) in
-    let c = passed _ MissingPlane _ refl (b .1) in
-    let d = both-done (planeAnswer (r .width) (r .height) (rowBytes r) (r .plane .step) (length (r .plane .bytes))) _ (c .1) in
-    let o = passed _ OutputTooSmall _ refl (d .1) in
-    let small = neither (ltb (length (r .out)) (size r)) _ (o .0) in
+    let checks = pictureChecks f (r .width) (r .height) (r .planes) (r .plane .step) (held r) in
+    let lists = done-append (setChecks (r .set)) checks e in
+    let format = all-passed checks (lists .1) in
+    let size = format .1 in
+    let planes = size .1 in
+    let step = planes .1 in
+    let plane = step .1 in
+    let output = plane .1 in
     record {
       lists = lists .0;
       legal = legal-view (r .set) (lists .0);
-      supported = eqb-false (planesRead f) 0 (a .0);
-      planes = ltb-false (r .planes) (planesRead f) (c .0);
-      plane = good-plane f (r .width) (r .height) (r .plane .step) (length (r .plane .bytes)) (b .0) (d .0);
-      room = ltb-false (length (r .out)) (size r) (small .0);
+      supported = eqb-false (planesRead f) 0 (format .0);
+      planes = ltb-false (r .planes) (planesRead f) (planes .0);
+      plane = good-plane f (r .width) (r .height) (r .plane .step) (length (r .plane .bytes)) (size .0) (step .0, (plane .0, tt));
+      room = ltb-false _ _ (output .0);
       chroma-room = λ yes.
-          let q = neither (ltb (length (r .outCb)) (length (r .cb .bytes))) _ (rw yes at (small .1)) in
-          (ltb-false _ _ (q .0), ltb-false _ _ (q .1));
+          let cb = roomCheck (length (r .cb .bytes)) (length (r .outCb)) in
+          let cr = roomCheck (length (r .cr .bytes)) (length (r .outCr)) in
+          let q : AllPassed (cb ∷ cr ∷ []) = rw yes at (output .1) in
+          (ltb-false _ _ (q .0), ltb-false _ _ (q .1 .0));
     }

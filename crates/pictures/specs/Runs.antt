@@ -7,7 +7,8 @@ use mathlib.Core.List.{List, _++_}
 use mathlib.Core.Option.{Option, none, some}
 use lib.ListN.{length, getD, drop}
 use Rattle.answers.specs.declared.Answer.{Answer}
-use Rattle.answers.specs.Numbers.{isDone, firstOf}
+use Rattle.answers.specs.Numbers.{isDone}
+use Rattle.answers.specs.Checks.{Check, firstRefusal}
 use Rattle.lists.specs.Tabulate.{filled}
 use Rattle.points.specs.declared.Point.{Point}
 use Rattle.points.specs.Order.{All, Bytes}
@@ -15,7 +16,7 @@ use Rattle.tables.specs.Tables.{byteTable}
 use Rattle.sets.specs.declared.Curves.{Curves}
 use Rattle.sets.specs.declared.Colour.{Colour}
 use Rattle.sets.specs.declared.Colour.the-variants.{Red, Green, Blue}
-use Rattle.sets.specs.Sets.{View, viewOf, colourOf, ownOrMaster, setAnswer}
+use Rattle.sets.specs.Sets.{View, viewOf, colourOf, ownOrMaster, setChecks}
 use Rattle.sets.specs.Carried.{carriedOf}
 use Rattle.rows.specs.Bytes.{three, rowByte}
 use Rattle.rows.specs.Rows.{tightByte}
@@ -23,7 +24,7 @@ use Rattle.formats.specs.declared.PixelFormat.{PixelFormat}
 use Rattle.formats.specs.declared.Lengths.{Lengths}
 use Rattle.pictures.specs.declared.Toned.{Toned}
 use Rattle.formats.specs.Formats.{bytesAPixel, keptOf, byColour}
-use Rattle.formats.specs.Checks.{chromaRead, pictureAnswer}
+use Rattle.formats.specs.Checks.{chromaRead, pictureChecks}
 
 -- "A plane is its bytes together with its row step"
 pub record PlaneOf : Type 0 where
@@ -102,9 +103,12 @@ module _ (r : Run) where
     «out_cr» = length (r .outCr);
   }
 
-  -- 3 and 4 of the set's lists, then 8 to 13
+  -- the checks of the set call: 3 and 4 of the set's lists, then 8 to 13
+  abbrev pub runChecks : List Check
+  runChecks = setChecks (r .set) ++ pictureChecks (r .format) (r .width) (r .height) (r .planes) (r .plane .step) held
+
   unfoldable pub answer : Answer
-  answer = firstOf (setAnswer (r .set)) (pictureAnswer (r .format) (r .width) (r .height) (r .planes) (r .plane .step) held)
+  answer = firstRefusal runChecks
 
 -- ---- the tables of the set call
 -- the list of a colour's channel: "In Rgb24 and Rgba the list that tones a byte is its colour's where present; in every other case it is the master's"

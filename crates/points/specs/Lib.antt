@@ -1,4 +1,5 @@
 pub mod Points
+pub mod CheckLaws
 pub mod Knots
 pub mod Steps
 pub mod Order

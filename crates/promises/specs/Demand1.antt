@@ -4,75 +4,97 @@
 -- the call's contract alone, and so holds of every run: the answer has the number of the first of the call's checks that fails, 0 where none does; and where
 -- it is a refusal, what was lent is as it was, and what is handed back is empty. With 0 the call gives its result, which is the second demand's.
 use Prim.Native.Nat.{ℕ}
-use mathlib.Core.Path.{_≡_}
+use mathlib.Core.Path.{_≡_, refl, ap, _∙_}
+use mathlib.Core.Bool.{true≢false}
 use mathlib.Core.List.{List, []}
+use lib.Dec.{eqb}
 use lib.ListN.{length, replicate}
 use lib.Ieee.{Float}
 use Rattle.answers.specs.declared.Answer.{Answer}
 use Rattle.answers.specs.Numbers.{numberOf}
+use Rattle.answers.specs.Checks.{firstRefusal}
+use Rattle.single.specs.RuleLaws.{by-test}
 use Rattle.points.specs.declared.Curve.{Curve}
 use Rattle.points.specs.declared.Sorted.{Sorted}
-use Rattle.points.specs.Points.{listOf, SortedFrom}
+use Rattle.points.specs.Points.{listOf, listChecks, SortedFrom}
 use Rattle.tables.specs.declared.CurveInterpolation.{CurveInterpolation}
 use Rattle.tables.specs.declared.Lut.{Lut}
-use Rattle.tables.specs.Tables.{BuiltTable, BuiltLut}
-use Rattle.lookup.specs.Lookup.{LookupCall}
+use Rattle.tables.specs.Tables.{tableChecks, BuiltTable, BuiltLut}
+use Rattle.lookup.specs.Lookup.{lookupChecks, lookedUp, LookupCall}
 use Rattle.sets.specs.declared.Curves.{Curves}
 use Rattle.sets.specs.Sets.{viewOf, emptyView}
 use Rattle.records.specs.declared.RecordRead.{RecordRead}
 use Rattle.records.specs.Format.{readRecord}
+use Rattle.records.specs.Checks.{recordChecks}
+use Rattle.records.specs.CheckLaws.{read-answer, read-empty}
 use Rattle.records.specs.Views.{HandedBack}
 use Rattle.writing.specs.declared.Written.{Written}
+use Rattle.writing.specs.Encode.{writeChecks}
+use Rattle.writing.specs.Cases.{write-answer, write-unchanged}
 use Rattle.writing.specs.Contracts.{Wrote}
 use Rattle.formats.specs.declared.PixelFormat.{PixelFormat}
+use Rattle.formats.specs.Checks.{lutChecks, lutAnswer}
 use Rattle.pictures.specs.declared.Toned.{Toned}
 use Rattle.pictures.specs.OneTable.{LutCall}
-use Rattle.pictures.specs.Runs.{Run, SetCall}
-use Rattle.promises.specs.Checks.{Answers, listChecks, tableChecks, lookupChecks, writeChecks, recordChecks, lutChecks, runChecks}
-use Rattle.promises.specs.CheckFacts as Fact
+use Rattle.pictures.specs.Runs.{Run, runChecks, answer, first, chroma, SetCall}
+use Rattle.promises.specs.Checks.{Answers, answers}
 
 -- ---- "any list"
 -- `Curve::new`
 pub new : {given : Curve} {r : Sorted} → SortedFrom given r
     → Answers (listChecks given) (numberOf (r .answer)) (listOf (r .curve) ≡ [])
-new = Fact.new-answers
+new call = answers (ap numberOf (call .answer)) (λ no. rw no at (call .list))
 
 -- `build_lut`
 pub build-lut : {given : Curve} {kind : CurveInterpolation} {r : Lut} → BuiltLut given kind r
     → Answers (listChecks given) (numberOf (r .answer)) (r .table ≡ replicate 256 0)
-build-lut = Fact.build-lut-answers
+build-lut call = answers (ap numberOf (call .answer)) (λ no. rw no at (call .table))
 
 -- `build_table`
 pub build-table : {given : Curve} {kind : CurveInterpolation} {old new : List Float} {r : Answer} → BuiltTable given kind old r new
     → Answers (tableChecks given (length old)) (numberOf r) (new ≡ old)
-build-table = Fact.build-table-answers
+build-table call = answers (ap numberOf (call .answer)) (λ no. rw no at (call .table))
 
 -- ---- "set"
 -- `write_record`
 pub write-record : {set : Curves} {old new : List ℕ} {r : Written} → Wrote set old r new
     → Answers (writeChecks set (length old)) (numberOf (r .answer)) (new ≡ old)
-write-record = Fact.write-record-answers
+write-record {set} {old} call =
+    answers (ap numberOf (call .answer ∙ write-answer set old)) (λ no. call .buffer ∙ write-unchanged set old (rw (call .answer) at no))
 
 -- ---- "record"
 -- `read_record`
 pub read-record : (s : List ℕ) {r : RecordRead} → HandedBack (readRecord s) r
     → Answers (recordChecks s) (numberOf (r .answer)) (viewOf (r .set) ≡ emptyView)
-read-record = Fact.read-record-answers
+read-record s call =
+    answers (ap numberOf (call .answer ∙ read-answer s)) (λ no. call .set ∙ read-empty s (rw (call .answer) at no))
 
 -- ---- "table"
 -- `lookup`
 pub lookup : {table old new : List Float} {r : Answer} → LookupCall table old r new
     → Answers (lookupChecks (length table)) (numberOf r) (new ≡ old)
-lookup = Fact.lookup-answers
+unfolding lookedUp
+lookup {table} call =
+    answers (ap numberOf (call .answer-is))
+    (λ no.
+    by-test (eqb (length table) 4096) (λ t. absurd (true≢false (rw (call .answer-is, t) at no))) (λ t. rw t at (call .replaced)))
 
 -- ---- "or planes at all"
 -- `apply_tone_lut`
 pub apply-tone-lut : {format : PixelFormat} {width height step : ℕ} {table old new : List ℕ} {r : Answer}
     → LutCall format width height step table old r new
     → Answers (lutChecks format width height step (length old)) (numberOf r) (new ≡ old)
-apply-tone-lut = Fact.apply-tone-lut-answers
+unfolding lutAnswer
+apply-tone-lut call = answers (ap numberOf (call .answer-is)) (λ no. rw no at (call .plane-is))
+
+of-run : (run : Run) → answer run ≡ firstRefusal (runChecks run)
+unfolding answer
+of-run run = refl
 
 -- `apply_pixels`
 pub apply-pixels : {run : Run} {r : Toned} {out cb cr : List ℕ} → SetCall run r out cb cr
     → Answers (runChecks run) (numberOf (r .answer)) ((out ≡ run .out) × (cb ≡ run .outCb) × (cr ≡ run .outCr))
-apply-pixels = Fact.apply-pixels-answers
+unfolding first chroma
+apply-pixels {run} call =
+    answers (ap numberOf (call .answer-is ∙ of-run run))
+    (λ no. let n = rw (call .answer-is) at no in (rw n at (call .out-is), rw n at (call .cb-is), rw n at (call .cr-is)))

@@ -4,7 +4,7 @@
 use Prim.Native.Nat.{ℕ, _≤_}
 use mathlib.Core.Path.{_≡_}
 use mathlib.Core.Bool.{true, false}
-use mathlib.Core.List.{List, _++_}
+use mathlib.Core.List.{List, [], _∷_, _++_}
 use lib.IntN.{ℤ}
 use lib.ListN.{length, take, drop}
 use lib.Ieee.{Float}
@@ -12,6 +12,7 @@ use Rattle.lists.specs.Tabulate.{tabulate}
 use Rattle.answers.specs.declared.Answer.{Answer}
 use Rattle.answers.specs.declared.Answer.the-variants.{Done}
 use Rattle.answers.specs.Numbers.{numberOf}
+use Rattle.answers.specs.Checks.{firstRefusal, roomCheck}
 use Rattle.single.specs.Rules.{byteOf}
 use Rattle.points.specs.declared.Point.{Point}
 use Rattle.points.specs.declared.Curve.{Curve}
@@ -48,7 +49,7 @@ use Rattle.records.specs.declared.RecordRead.{RecordRead}
 use Rattle.records.specs.Format.{readRecord}
 use Rattle.records.specs.Views.{HandedBack}
 use Rattle.writing.specs.declared.Written.{Written}
-use Rattle.writing.specs.Encode.{encode, roomAnswer}
+use Rattle.writing.specs.Encode.{encode}
 use Rattle.writing.specs.Contracts.{Wrote}
 use Rattle.record_facts.specs.RoundTrip as RoundTrip
 use Rattle.record_facts.specs.NotLonger as NotLonger
@@ -164,7 +165,7 @@ pub not-longer : (s : List ℕ) → readRecord s .answer ≡ Done → length (en
 not-longer = NotLonger.not-longer
 
 pub accepted-not-refused : (s : List ℕ) {old new : List ℕ} {r : RecordRead} {w : Written} → HandedBack (readRecord s) r → Wrote (r .set) old w new
-    → w .answer ≡ roomAnswer (encode (readRecord s .set)) old
+    → w .answer ≡ firstRefusal (roomCheck (length (encode (readRecord s .set))) (length old) ∷ [])
 accepted-not-refused = Writing.accepted-not-refused
 
 -- .. and never in a buffer as long as that record

@@ -1,16 +1,12 @@
 -- What is promised, a page for each demand of the mission, in full; the proofs stand apart and are cited.
--- Demand1: every call on anything at all answers with the first refusal, and a refusal changes nothing. Checks has document 01's checks, call by call and in
--- its order. Boundary says the same of the calls of the C boundary, with BoundaryChecks.
+-- Demand1: every call on anything at all answers with the first refusal, and a refusal changes nothing. Checks has its words.
+-- Boundary says the same of the calls of the C boundary.
 -- Demand2: each call gives what its definition says, the curves are the published ones, and records survive writing then reading. Results has its words.
 -- Demand3: what two runs of the set call owe. Words has its words; Controls shows by computed runs, made in Pixels, that its premises are needed.
 -- P1 to P12 are a table of their own, Marked of the crate `examples`.
--- Proofs of the first demand: Follows, RecordChecks, CheckFacts; of the second: Drawn, ResultFacts; of the third: ListFacts, PictureFacts.
+-- Proofs of the second demand: Drawn, ResultFacts; of the third: ListFacts, PictureFacts.
 pub mod Checks
-pub mod Follows
-pub mod RecordChecks
-pub mod CheckFacts
 pub mod Demand1
-pub mod BoundaryChecks
 pub mod Boundary
 pub mod Words
 pub mod ListFacts

@@ -1,8 +1,7 @@
 -- What a call that answers 0 gives.
 use Prim.Native.Nat.{ℕ, _*_}
 use native.Mathlib.Omega.{arith}
-use mathlib.Core.Path.{_≡_, sym, _∙_}
-use mathlib.Core.Bool.{false, cond}
+use mathlib.Core.Path.{_≡_, sym, ap, _∙_}
 use mathlib.Core.List.{List, _++_}
 use lib.Dec.{eqb}
 use lib.ListN.{length, drop}
@@ -10,21 +9,21 @@ use lib.Ieee.{Float}
 use Rattle.lists.specs.Each.{length-each}
 use Rattle.lists.specs.Tabulate.{tabulate}
 use Rattle.answers.specs.declared.Answer.{Answer}
-use Rattle.answers.specs.declared.Answer.the-variants.{Done, PointCount}
-use Rattle.answers.specs.Numbers.{numberOf, firstOf, number-unique}
+use Rattle.answers.specs.declared.Answer.the-variants.{Done}
+use Rattle.answers.specs.Numbers.{numberOf, number-unique}
 use Rattle.single.specs.RuleLaws.{by-test}
 use Rattle.points.specs.declared.Curve.{Curve}
 use Rattle.points.specs.declared.Sorted.{Sorted}
-use Rattle.points.specs.Points.{listOf, kept, tooMany, SortedFrom}
+use Rattle.points.specs.Points.{listOf, kept, SortedFrom}
 use Rattle.tables.specs.declared.CurveInterpolation.{CurveInterpolation}
 use Rattle.tables.specs.declared.Lut.{Lut}
 use Rattle.tables.specs.Tables.{fineTable, byteTable, BuiltTable, BuiltLut}
 use Rattle.lookup.specs.Lookup.{looked, lookedUp, LookupCall}
 use Rattle.sets.specs.declared.Curves.{Curves}
-use Rattle.sets.specs.Sets.{viewOf, setAnswer}
+use Rattle.sets.specs.Sets.{viewOf}
 use Rattle.writing.specs.declared.Written.{Written}
-use Rattle.writing.specs.Encode.{encode, roomAnswer, writeRecord}
-use Rattle.writing.specs.Cases.{write-answer}
+use Rattle.writing.specs.Encode.{encode}
+use Rattle.writing.specs.Cases.{write-done, done-case}
 use Rattle.writing.specs.Contracts.{Wrote}
 use Rattle.rows.specs.Bytes.{same, rowByte}
 use Rattle.rows.specs.Rows.{planeByte}
@@ -35,15 +34,12 @@ use Rattle.formats.specs.CheckLaws.{lut-done}
 use Rattle.pictures.specs.OneTable.{tonedWithin, LutCall}
 use Rattle.promises.specs.Results.{ExactPlane}
 
-few : (given : Curve) {r : Answer} → r ≡ cond (tooMany given) PointCount Done → numberOf r ≡ 0 → tooMany given ≡ false
-few given e zero = by-test (tooMany given) (λ t. absurd (omega (arith, rw (e, t) at zero))) (λ t. t)
-
 module _ {given : Curve} where
   pub new-sorts : {r : Sorted} → SortedFrom given r → numberOf (r .answer) ≡ 0 → listOf (r .curve) ≡ kept (listOf given)
-  new-sorts call zero = rw (few given (call .answer) zero) at (call .list)
+  new-sorts call zero = rw zero at (call .list)
 
   pub build-lut-builds : {kind : CurveInterpolation} {r : Lut} → BuiltLut given kind r → numberOf (r .answer) ≡ 0 → r .table ≡ byteTable kind (listOf given)
-  build-lut-builds call zero = rw (few given (call .answer) zero) at (call .table)
+  build-lut-builds call zero = rw zero at (call .table)
 
   pub build-table-builds : {kind : CurveInterpolation} {old new : List Float} {r : Answer} → BuiltTable given kind old r new → numberOf r ≡ 0
       → new ≡ fineTable kind (listOf given) (length old)
@@ -52,7 +48,7 @@ module _ {given : Curve} where
 pub lookup-replaces : {table old new : List Float} {r : Answer} → LookupCall table old r new → numberOf r ≡ 0 → new ≡ tabulate (length old) (looked table old)
 unfolding lookedUp
 lookup-replaces {table} call zero =
-    by-test (eqb (length table) 4096) (λ t. rw t at (call .replaced)) (λ t. absurd (omega (arith, zero, rw t at (call .number))))
+    by-test (eqb (length table) 4096) (λ t. rw t at (call .replaced)) (λ t. absurd (omega (arith, zero, ap numberOf (rw t at (call .answer-is)))))
 
 -- ---- pictures
 pub apply-tone-lut-tones : {f : PixelFormat} {w h step : ℕ} {table old new : List ℕ} {r : Answer} → LutCall f w h step table old r new → numberOf r ≡ 0
@@ -73,8 +69,7 @@ apply-tone-lut-tones {f} {w} {h} {step} {table} {old} {new} {r} call zero =
 -- ---- records
 pub write-record-writes : {set : Curves} {old new : List ℕ} {r : Written} → Wrote set old r new → numberOf (r .answer) ≡ 0
     → (r .length ≡ length (encode (viewOf set))) × (new ≡ encode (viewOf set) ++ drop (length (encode (viewOf set))) old)
-unfolding writeRecord
 write-record-writes {set} {old} {r = r} call zero =
-    let a = firstOf (setAnswer set) (roomAnswer (encode (viewOf set)) old) in
-    let done : numberOf a ≡ 0 = rw (call .answer, write-answer set old) at zero in
-    (rw done at (call .length), rw done at (call .buffer))
+    let d = done-case set old (sym (call .answer) ∙ number-unique (r .answer) Done zero) in
+    let is = write-done set old (d .0) (d .1) in
+    (rw is at (call .length), rw is at (call .buffer))

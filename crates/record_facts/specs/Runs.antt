@@ -1,19 +1,21 @@
 -- The round trip on any runs of the two calls, from their contracts alone.
 use Prim.Native.Nat.{ℕ, _≤_}
 use native.Mathlib.Omega.{arith}
-use mathlib.Core.Path.{_≡_, sym, _∙_}
-use mathlib.Core.List.{List}
+use mathlib.Core.Path.{_≡_, refl, sym, _∙_}
+use mathlib.Core.List.{List, [], _∷_}
 use lib.ListN.{length, take}
 use borrow.Author.Tests.{le-ltb}
 use Rattle.answers.specs.declared.Answer.the-variants.{Done}
+use Rattle.answers.specs.Checks.{firstRefusal, roomCheck, first-goes-on}
 use Rattle.sets.specs.declared.Curves.{Curves}
+use Rattle.sets.specs.Sets.{setChecks, setAnswer}
 use Rattle.sets.specs.Same.{Same}
 use Rattle.sets.specs.SameLaws.{view-same}
 use Rattle.records.specs.declared.RecordRead.{RecordRead}
 use Rattle.records.specs.Format.{readRecord}
 use Rattle.records.specs.Views.{HandedBack}
 use Rattle.writing.specs.declared.Written.{Written}
-use Rattle.writing.specs.Encode.{encode, roomAnswer}
+use Rattle.writing.specs.Encode.{encode}
 use Rattle.writing.specs.Cases.{write-answer, done-case}
 use Rattle.writing.specs.Contracts.{Wrote}
 use Rattle.record_facts.specs.NotLonger.{not-longer}
@@ -31,8 +33,10 @@ module _ {set : Curves} {before after : List ℕ} {w : Written} {r : RecordRead}
 
 -- a set that was read is never refused for its lists: the answer is done, or 13 where the buffer is shorter than the set's record
 pub accepted-not-refused : (s : List ℕ) {before after : List ℕ} {r : RecordRead} {w : Written} → HandedBack (readRecord s) r → Wrote (r .set) before w after
-    → w .answer ≡ roomAnswer (encode (readRecord s .set)) before
-accepted-not-refused s {before} {r = r} handed wrote = wrote .answer ∙ write-answer (r .set) before ∙ rw (handed .legal, handed .set)
+    → w .answer ≡ firstRefusal (roomCheck (length (encode (readRecord s .set))) (length before) ∷ [])
+unfolding setAnswer
+accepted-not-refused s {before} {r = r} handed wrote =
+    wrote .answer ∙ write-answer (r .set) before ∙ sym (first-goes-on (setChecks (r .set)) _ (handed .legal) refl) ∙ rw (handed .set)
 
 -- and of a record that was accepted it is done in every buffer that has room for that record
 pub accepted-fits : (s : List ℕ) {before after : List ℕ} {r : RecordRead} {w : Written} → HandedBack (readRecord s) r → r .answer ≡ Done

@@ -1,5 +1,5 @@
 -- A set with one member replaced goes on passing the check; so does the empty set.
-use mathlib.Core.Path.{_≡_, ap}
+use mathlib.Core.Path.{_≡_, ap, _∙_}
 use mathlib.Core.Option.{none}
 use Prim.Native.Nat.{ℕ}
 use native.Mathlib.Omega.{arith}
@@ -13,7 +13,7 @@ use Rattle.sets.specs.declared.Channel.{Channel}
 use Rattle.sets.specs.declared.Colour.{Colour}
 use Rattle.sets.specs.declared.Colour.the-variants.{Red, Green, Blue}
 use Rattle.sets.specs.declared.Curves.{Curves}
-use Rattle.sets.specs.Legal.{Passed, passed-set}
+use Rattle.sets.specs.Legal.{set-answer, Passed, passed-set}
 use Rattle.sets.specs.Sets.{
   View,
   viewOf,
@@ -29,8 +29,7 @@ use Rattle.sets.specs.Sets.{
 use Rattle.records.proofs.Lists.{empty-passes}
 
 set-passes : (s : Curves) → Passed s → setAnswer s ≡ Done
-unfolding setAnswer
-set-passes s p = rw (p .master, p .red, p .green) (p .blue)
+set-passes s p = set-answer s ∙ rw (p .master, p .red, p .green) (p .blue)
 
 -- ---- one member replaced
 pub master-passes : (c : Curve) (s : Curves) → curveAnswer c ≡ Done → setAnswer s ≡ Done → setAnswer (replaceMaster c s) ≡ Done
@@ -39,7 +38,7 @@ master-passes c s new e =
     set-passes (replaceMaster c s) (record { master = new; red = p .red; green = p .green; blue = p .blue })
 
 pub channel-passes : (c : Channel) → curveAnswer (c .curve) ≡ Done → channelAnswer c ≡ Done
-unfolding channelAnswer
+unfolding channelAnswer curveAnswer
 channel-passes c e = by-test (c .present) (λ t. rw t e) (λ t. rw t)
 
 colour-passed : (colour : Colour) (c : Channel) (s : Curves) → channelAnswer c ≡ Done → Passed s → Passed (replaceColour colour c s)

@@ -1,21 +1,22 @@
 -- What a set is that passes the check: each present list has at most 64 points, and strictly rises in x.
-use Prim.Native.Nat.{ℕ, _≤_}
+use Prim.Native.Nat.{_≤_}
 use native.Mathlib.Omega.{arith}
-use mathlib.Core.Path.{_≡_}
-use mathlib.Core.List.{List}
+use mathlib.Core.Path.{_≡_, sym, ap, _∙_}
+use mathlib.Core.List.{List, _++_}
 use mathlib.Core.Bool.{true}
 use mathlib.Core.Option.{Option, none, some}
 use lib.ListN.{length, length-take}
-use borrow.Author.Tests.{ltb-false}
+use borrow.Author.Tests.{ltb-false, not-false}
 use Rattle.answers.specs.declared.Answer.the-variants.{Done}
-use Rattle.answers.specs.Numbers.{both-done}
+use Rattle.answers.specs.Numbers.{firstOf, both-done}
+use Rattle.answers.specs.Checks.{first-append, all-passed}
 use Rattle.single.specs.RuleLaws.{by-test}
 use Rattle.points.specs.declared.Point.{Point}
 use Rattle.points.specs.declared.Curve.{Curve}
-use Rattle.points.specs.Points.{listOf, rises, tooMany}
+use Rattle.points.specs.Points.{listOf, rises}
 use Rattle.sets.specs.declared.Channel.{Channel}
 use Rattle.sets.specs.declared.Curves.{Curves}
-use Rattle.sets.specs.Sets.{View, viewOf, channelOf, curveAnswer, channelAnswer, setAnswer}
+use Rattle.sets.specs.Sets.{View, viewOf, channelOf, curveChecks, channelChecks, curveAnswer, channelAnswer, setAnswer}
 
 pub record LegalList (l : List Point) : Type 0 where
   pub few : length l ≤ 64
@@ -32,6 +33,18 @@ pub record Legal (v : View) : Type 0 where
   pub blue : LegalColour (v .blue)
 
 -- ---- from the check
+-- the answer of a set by those of its lists
+pub set-answer : (s : Curves)
+    → setAnswer s ≡ firstOf (firstOf (firstOf (curveAnswer (s .master)) (channelAnswer (s .red))) (channelAnswer (s .green))) (channelAnswer (s .blue))
+unfolding setAnswer curveAnswer channelAnswer
+set-answer s =
+    let master = curveChecks (s .master) in
+    let red = channelChecks (s .red) in
+    let green = channelChecks (s .green) in
+    first-append (master ++ red ++ green) (channelChecks (s .blue))
+    ∙ ap (λ a. firstOf a (channelAnswer (s .blue)))
+    (first-append (master ++ red) green ∙ ap (λ a. firstOf a (channelAnswer (s .green))) (first-append master red))
+
 -- a set passes where each of its lists does
 pub record Passed (s : Curves) : Type 0 where
   pub master : curveAnswer (s .master) ≡ Done
@@ -40,21 +53,16 @@ pub record Passed (s : Curves) : Type 0 where
   pub blue : channelAnswer (s .blue) ≡ Done
 
 pub passed-set : (s : Curves) → setAnswer s ≡ Done → Passed s
-unfolding setAnswer
 passed-set s e =
-    let m = both-done (curveAnswer (s .master)) _ e in
-    let r = both-done (channelAnswer (s .red)) _ (m .1) in
-    let g = both-done (channelAnswer (s .green)) _ (r .1) in
-    record { master = m .0; red = r .0; green = g .0; blue = g .1 }
+    let b = both-done _ (channelAnswer (s .blue)) (sym (set-answer s) ∙ e) in
+    let g = both-done _ (channelAnswer (s .green)) (b .0) in
+    let r = both-done (curveAnswer (s .master)) (channelAnswer (s .red)) (g .0) in
+    record { master = r .0; red = r .1; green = g .1; blue = b .1 }
 
 -- a list that passes claims no more points than it may have, and rises
 passed-list : (c : Curve) → curveAnswer c ≡ Done → (c .count ≤ 64) × (rises (listOf c) ≡ true)
 unfolding curveAnswer
-passed-list c e =
-    by-test (tooMany c) (λ t. let z : _≡_ {A = ℕ} 0 1 = cc (rw t at e) in absurd (omega arith))
-    (λ t.
-    by-test (rises (listOf c)) (λ u. (ltb-false 64 (c .count) t, u))
-    (λ u. let z : _≡_ {A = ℕ} 0 1 = cc (rw (t, u) at e) in absurd (omega arith)))
+passed-list c e = let p = all-passed (curveChecks c) e in (ltb-false 64 (c .count) (p .0), not-false _ (p .1 .0))
 
 pub passed-count : (c : Curve) → curveAnswer c ≡ Done → c .count ≤ 64
 passed-count c e = passed-list c e .0
@@ -65,7 +73,7 @@ legal-list c e =
     record { few = omega (arith, p .0, length-take (c .count) (c .points)); rising = p .1 }
 
 legal-colour : (c : Channel) → channelAnswer c ≡ Done → LegalColour (channelOf c)
-unfolding channelAnswer
+unfolding channelAnswer curveAnswer
 legal-colour c e = by-test (c .present) (λ t. rw t (legal-list (c .curve) (rw t at e))) (λ t. rw t tt)
 
 pub legal-view : (s : Curves) → setAnswer s ≡ Done → Legal (viewOf s)

@@ -4,3 +4,4 @@ pub mod Carried
 pub mod Legal
 pub mod Same
 pub mod SameLaws
+pub mod Examples

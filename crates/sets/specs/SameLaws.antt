@@ -14,7 +14,7 @@ use Rattle.sets.specs.declared.Channel.{Channel}
 use Rattle.sets.specs.declared.Curves.{Curves}
 use Rattle.sets.specs.Sets.{View, viewOf, channelOf, curveAnswer, channelAnswer, setAnswer}
 use Rattle.sets.specs.Same.{SameCurve, SameChannel, Same}
-use Rattle.sets.specs.Legal.{passed-count, passed-set}
+use Rattle.sets.specs.Legal.{set-answer, passed-count, passed-set}
 
 -- ---- a set is the same as itself
 same-curve-refl : (c : Curve) → SameCurve c c
@@ -53,14 +53,15 @@ unfolding curveAnswer
 checked-curve a b e = rw (e .points, e .count)
 
 checked-channel : (a b : Channel) → SameChannel a b → channelAnswer a ≡ channelAnswer b
-unfolding channelAnswer
+unfolding channelAnswer curveAnswer
 checked-channel a b e =
     by-test (a .present) (λ t. rw (← e .present, t) (checked-curve (a .curve) (b .curve) (e .curve t))) (λ t. rw (← e .present, t))
 
 pub checked-same : (a b : Curves) → Same a b → setAnswer a ≡ setAnswer b
-unfolding setAnswer
 checked-same a b e =
     rw (
+      set-answer a,
+      set-answer b,
       checked-curve (a .master) (b .master) (e .master),
       checked-channel (a .red) (b .red) (e .red),
       checked-channel (a .green) (b .green) (e .green),
@@ -87,7 +88,7 @@ curve-same a b a-long b-long a-done b-done e = record {
 
 channel-same : (a b : Channel) → length (a .curve .points) ≡ 64 → length (b .curve .points) ≡ 64 → channelAnswer a ≡ Done → channelAnswer b ≡ Done
     → channelOf a ≡ channelOf b → SameChannel a b
-unfolding channelAnswer
+unfolding channelAnswer curveAnswer
 channel-same a b a-long b-long a-done b-done e =
     by-test (a .present)
     (λ t.

@@ -2,15 +2,15 @@
 -- "When a call says no" have them. Definitions only.
 use Prim.Native.Nat.{ℕ}
 use mathlib.Core.Path.{_≡_}
-use mathlib.Core.Bool.{Bool, cond, true, false}
-use mathlib.Core.List.{List, []}
+use mathlib.Core.Bool.{Bool, cond, not, true, false}
+use mathlib.Core.List.{List, [], _∷_, _++_}
 use mathlib.Core.Option.{Option, none, some}
 use Rattle.answers.specs.declared.Answer.{Answer}
-use Rattle.answers.specs.declared.Answer.the-variants.{Done, PointCount, PointsNotRising}
-use Rattle.answers.specs.Numbers.{firstOf}
+use Rattle.answers.specs.declared.Answer.the-variants.{PointsNotRising}
+use Rattle.answers.specs.Checks.{Check, _when_, firstRefusal}
 use Rattle.points.specs.declared.Point.{Point}
 use Rattle.points.specs.declared.Curve.{Curve}
-use Rattle.points.specs.Points.{listOf, rises, tooMany}
+use Rattle.points.specs.Points.{listOf, rises, listChecks}
 use Rattle.tables.specs.declared.CurveInterpolation.{CurveInterpolation}
 use Rattle.tables.specs.declared.CurveInterpolation.the-variants.{MonotoneCubic}
 use Rattle.sets.specs.declared.Channel.{Channel}
@@ -90,17 +90,29 @@ withColour Blue o v = record { master = v .master; red = v .red; green = v .gree
 abbrev pub withKind : CurveInterpolation → View → View
 withKind k v = record { master = v .master; red = v .red; green = v .green; blue = v .blue; kind = k }
 
--- ---- the check of a set's lists
--- of one list: 3, then 4
-unfoldable pub curveAnswer : Curve → Answer
-curveAnswer c = cond (tooMany c) PointCount (cond (rises (listOf c)) Done PointsNotRising)
+-- ---- the checks of a set's lists
+-- "don't strictly rise in x"
+abbrev pub risingCheck : List Point → Check
+risingCheck l = PointsNotRising when not (rises l)
 
-unfoldable pub channelAnswer : Channel → Answer
-channelAnswer c = cond (c .present) (curveAnswer (c .curve)) Done
+abbrev pub curveChecks : Curve → List Check
+curveChecks c = listChecks c ++ risingCheck (listOf c) ∷ []
+
+abbrev pub channelChecks : Channel → List Check
+channelChecks c = cond (c .present) (curveChecks (c .curve)) []
 
 -- "A set's present lists go master, red, green, blue, used or not, each with 3 and then 4"
+abbrev pub setChecks : Curves → List Check
+setChecks s = curveChecks (s .master) ++ channelChecks (s .red) ++ channelChecks (s .green) ++ channelChecks (s .blue)
+
+unfoldable pub curveAnswer : Curve → Answer
+curveAnswer c = firstRefusal (curveChecks c)
+
+unfoldable pub channelAnswer : Channel → Answer
+channelAnswer c = firstRefusal (channelChecks c)
+
 unfoldable pub setAnswer : Curves → Answer
-setAnswer s = firstOf (curveAnswer (s .master)) (firstOf (channelAnswer (s .red)) (firstOf (channelAnswer (s .green)) (channelAnswer (s .blue))))
+setAnswer s = firstRefusal (setChecks s)
 
 -- ---- the table and the list of a channel
 -- "the colour's own table or else the master's"

@@ -48,9 +48,9 @@ pub struct Curves {
 pub fn check_curve(curve: Curve) -> Answer
     ensures { λ r. ⌜ r ≡ curveAnswer curve ⌝ }
 {
-    let n = curve.count;
-    if Curve::LIMIT < n {
-        return Answer::PointCount;
+    let given = curve.check_given();
+    if !given.is_done() {
+        return given;
     }
     if curve.is_rising() {
         Answer::Done
@@ -198,7 +198,7 @@ impl Curves {
         let red = self.red.check();
         let green = self.green.check();
         let blue = self.blue.check();
-        first_of(master, first_of(red, first_of(green, blue)))
+        first_of(first_of(first_of(master, red), green), blue)
     }
 }
 

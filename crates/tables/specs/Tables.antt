@@ -2,19 +2,20 @@
 -- them. Definitions only.
 use Prim.Native.Nat.{ℕ}
 use mathlib.Core.Path.{_≡_}
-use mathlib.Core.Bool.{Bool, cond, _||_}
-use mathlib.Core.List.{List}
+use mathlib.Core.Bool.{Bool, cond, not, _||_}
+use mathlib.Core.List.{List, [], _∷_, _++_}
 use lib.Dec.{eqb}
 use lib.ListN.{length, getD, replicate}
 use lib.Ieee.{Float, nan}
 use Rattle.lists.specs.Tabulate.{tabulate}
 use Rattle.answers.specs.declared.Answer.{Answer}
-use Rattle.answers.specs.declared.Answer.the-variants.{Done, PointCount, TableLength}
+use Rattle.answers.specs.declared.Answer.the-variants.{TableLength}
 use Rattle.answers.specs.Numbers.{isDone}
+use Rattle.answers.specs.Checks.{Check, _when_, firstRefusal}
 use Rattle.single.specs.Rules.{byteOf}
 use Rattle.points.specs.declared.Point.{Point}
 use Rattle.points.specs.declared.Curve.{Curve}
-use Rattle.points.specs.Points.{listOf, kept, tooMany}
+use Rattle.points.specs.Points.{listOf, kept, listChecks}
 use Rattle.points.specs.Knots.{knots, xRow, yRow}
 use Rattle.tables.specs.declared.CurveInterpolation.{CurveInterpolation}
 use Rattle.tables.specs.declared.Lut.{Lut}
@@ -53,20 +54,24 @@ abbrev pub byteTable : CurveInterpolation → List Point → List ℕ
 byteTable kind l = tabulate 256 (entryOf kind l)
 
 -- ---- the calls
--- "A float table's length isn't 256 or 4,096 (build)" is refused with 14
+-- the lengths of a fine table
 abbrev pub isTableLength : ℕ → Bool
 isTableLength S = eqb S 256 || eqb S 4096
 
--- 3, then 14
-abbrev pub tableAnswer : Curve → ℕ → Answer
-tableAnswer curve S = cond (tooMany curve) PointCount (cond (isTableLength S) Done TableLength)
+-- 14: "A float table's length isn't 256 or 4,096 (build)"
+abbrev pub lengthCheck : ℕ → Check
+lengthCheck S = TableLength when not (isTableLength S)
+
+-- the fine table of a given list, into a slice of S samples
+abbrev pub tableChecks : Curve → ℕ → List Check
+tableChecks curve S = listChecks curve ++ lengthCheck S ∷ []
 
 -- the answer, and the lent slice: filled, or on a refusal unchanged
 pub record BuiltTable (curve : Curve) (kind : CurveInterpolation) (old : List Float) (r : Answer) (new : List Float) : Type 0 where
-  pub answer : r ≡ tableAnswer curve (length old)
+  pub answer : r ≡ firstRefusal (tableChecks curve (length old))
   pub table : new ≡ cond (isDone r) (fineTable kind (listOf curve) (length old)) old
 
 -- the answer, and the table: "A table handed back with it is all 0"
 pub record BuiltLut (curve : Curve) (kind : CurveInterpolation) (r : Lut) : Type 0 where
-  pub answer : r .answer ≡ cond (tooMany curve) PointCount Done
-  pub table : r .table ≡ cond (tooMany curve) (replicate 256 0) (byteTable kind (listOf curve))
+  pub answer : r .answer ≡ firstRefusal (listChecks curve)
+  pub table : r .table ≡ cond (isDone (r .answer)) (byteTable kind (listOf curve)) (replicate 256 0)

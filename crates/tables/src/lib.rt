@@ -1,12 +1,15 @@
 // Tables of a curve: the kinds of interpolation, S samples into a lent slice, and the byte table by value.
 ghost use mathlib.Core.Path.{_≡_};
 ghost use Prim.Native.Nat.{_≤_};
+ghost use mathlib.Core.List.{[], _∷_};
 ghost use lib.ListN.{length, replicate};
+ghost use Rattle.answers.specs.Checks.{firstRefusal};
 ghost use Rattle.single.specs.Constants.{𝟎};
 ghost use Rattle.points.specs.Points.{listOf};
 ghost use Rattle.tables.specs.Kinds.{kindNumber, kindOf, formOf, numbersRow};
-ghost use Rattle.tables.specs.Tables.{fineTable, byteTable, bytesOf, isTableLength, BuiltTable, BuiltLut};
+ghost use Rattle.tables.specs.Tables.{fineTable, byteTable, bytesOf, isTableLength, lengthCheck, BuiltTable, BuiltLut};
 use answers::Answer;
+use answers::first_of;
 use hermite::tangents;
 use points::Curve;
 use sampling::Form;
@@ -142,9 +145,8 @@ pub fn sample_curve(curve: Curve, kind: CurveInterpolation, samples: &mut [f32])
     requires { ⌜ (2 ≤ length (now samples)) × (length (now samples) ≤ 4096) ⌝ }
     ensures { λ _. ⌜ now (samples .exit) ≡ fineTable kind (listOf curve) (length (now (samples .entry))) ⌝ }
 {
-    let sorted = Curve::new(curve);
-    let list = sorted.curve;
-    let knots = list.knots();
+    let sorted = curve.sorted();
+    let knots = sorted.knots();
     let xs = knots.xs;
     let ys = knots.ys;
     let n = knots.count;
@@ -183,35 +185,41 @@ fn is_table_length(count: usize) -> bool
     count == 256 || count == 4096
 }
 
+// 14, of a fine table of so many samples.
+fn length_answer(count: usize) -> Answer
+    ensures { λ r. ⌜ r ≡ firstRefusal (lengthCheck count ∷ []) ⌝ }
+{
+    if is_table_length(count) {
+        Answer::Done
+    } else {
+        Answer::TableLength
+    }
+}
+
 // The fine table of a given list, into a lent slice of 256 or 4,096 samples.
 pub fn build_table(curve: Curve, kind: CurveInterpolation, samples: &mut [f32]) -> Answer
     ensures { λ r. ⌜ BuiltTable curve kind (now (samples .entry)) r (now (samples .exit)) ⌝ }
 {
-    let count = curve.count;
-    let fits = is_table_length(samples.len());
-    if Curve::LIMIT < count {
-        return Answer::PointCount;
+    let answer = first_of(curve.check_given(), length_answer(samples.len()));
+    if answer.is_done() {
+        sample_curve(curve, kind, samples);
     }
-    if !fits {
-        return Answer::TableLength;
-    }
-    sample_curve(curve, kind, samples);
-    Answer::Done
+    answer
 }
 
 // The byte table of a given list, beside the answer.
 pub fn build_lut(curve: Curve, kind: CurveInterpolation) -> Lut
     ensures { λ r. ⌜ BuiltLut curve kind r ⌝ }
 {
-    let count = curve.count;
-    if Curve::LIMIT < count {
+    let answer = curve.check_given();
+    if !answer.is_done() {
         return Lut {
-            answer: Answer::PointCount,
+            answer,
             table: [0; 256],
         };
     }
     Lut {
-        answer: Answer::Done,
+        answer,
         table: byte_table(curve, kind),
     }
 }

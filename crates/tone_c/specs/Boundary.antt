@@ -3,26 +3,28 @@
 use Prim.Native.Nat.{ℕ, _/_}
 use mathlib.Core.Path.{_≡_}
 use mathlib.Core.Bool.{cond, _&&_}
-use mathlib.Core.List.{List, _++_}
+use mathlib.Core.List.{List, [], _∷_, _++_}
 use lib.Dec.{ltb, eqb}
 use lib.IntN.{ℤ}
 use lib.ListN.{length, drop}
 use lib.Ieee.{Float}
-use Rattle.answers.specs.declared.Answer.{Answer}
-use Rattle.answers.specs.declared.Answer.the-variants.{Done, PointCount, UnknownKind, UnsupportedFormat, OutputTooSmall, TableLength}
-use Rattle.answers.specs.Numbers.{numberOf, firstOf}
+use Rattle.answers.specs.declared.Answer.the-variants.{UnsupportedFormat}
+use Rattle.answers.specs.Numbers.{numberOf}
+use Rattle.answers.specs.Checks.{Check, _when_, firstRefusal, roomCheck}
 use Rattle.points.specs.declared.Point.{Point}
+use Rattle.points.specs.Points.{countCheck}
 use Rattle.tables.specs.Kinds.{kindOf}
-use Rattle.tables.specs.Tables.{byteTable, fineTable, isTableLength}
+use Rattle.tables.specs.Tables.{byteTable, fineTable, lengthCheck}
 use Rattle.sets.specs.Sets.{View}
 use Rattle.formats.specs.declared.Lengths.{Lengths}
 use Rattle.formats.specs.Formats.{formatOf}
-use Rattle.formats.specs.Checks.{chromaRead, lutAnswer, pictureAnswer}
+use Rattle.formats.specs.Checks.{chromaRead, lutChecks, pictureChecks}
 use Rattle.records.specs.Format.{pointBytes, pairs, readRecord}
+use Rattle.records.specs.Checks.{kindCheck, recordChecks}
 use Rattle.writing.specs.Encode.{encode}
 use Rattle.pictures.specs.OneTable.{tonedWithin}
 use Rattle.pictures.specs.Runs.{tablesOf, tightRows}
-use Rattle.lookup.specs.Lookup.{lookedUp}
+use Rattle.lookup.specs.Lookup.{lookupChecks, lookedUp}
 
 -- ---- what a caller gives
 -- points as x, y pairs; a last odd byte is ignored
@@ -32,17 +34,13 @@ countOf points = length points / pointBytes
 abbrev pub pairsOf : List ℕ → List Point
 pairsOf points = pairs (countOf points) points
 
--- a curve: 3, "A count of points is above 64", then 5, "The kind byte is above 9"
-abbrev pub givenAnswer : List ℕ → ℕ → Answer
-givenAnswer points kind = cond (ltb 64 (countOf points)) PointCount (cond (ltb 9 kind) UnknownKind Done)
+-- a curve: its points and its kind's number
+abbrev pub givenChecks : List ℕ → ℕ → List Check
+givenChecks points kind = countCheck (countOf points) ∷ kindCheck kind ∷ []
 
 -- a format's number: 8 where no format has it, which is above 11
-abbrev pub formatAnswer : ℕ → Answer
-formatAnswer n = cond (ltb 11 n) UnsupportedFormat Done
-
--- an output that holds so many bytes: 13, "An output holds less than what would be written", which is count bytes
-abbrev pub roomFor : ℕ → ℕ → Answer
-roomFor count held = cond (ltb held count) OutputTooSmall Done
+abbrev pub formatCheck : ℕ → Check
+formatCheck n = UnsupportedFormat when ltb 11 n
 
 -- the set that a record holds
 abbrev pub setOf : List ℕ → View
@@ -50,49 +48,45 @@ setOf stored = readRecord stored .set
 
 -- ---- tone_table
 -- 3 5 13: the table is 256 bytes
-abbrev pub toneTableAnswer : List ℕ → ℕ → ℕ → Answer
-toneTableAnswer points kind held = firstOf (givenAnswer points kind) (roomFor 256 held)
+abbrev pub toneTableChecks : List ℕ → ℕ → ℕ → List Check
+toneTableChecks points kind held = givenChecks points kind ++ roomCheck 256 held ∷ []
 
 -- the number answered; and the output: the byte table in place of its first 256 bytes, or on a refusal unchanged
 pub record ToneTable (points : List ℕ) (kind tension : ℕ) (start end : ℤ) (old : List ℕ) (r : ℕ) (new : List ℕ) : Type 0 where
-  pub number : r ≡ numberOf (toneTableAnswer points kind (length old))
+  pub number : r ≡ numberOf (firstRefusal (toneTableChecks points kind (length old)))
   pub table : new ≡ cond (eqb r 0) (byteTable (kindOf kind tension start end) (pairsOf points) ++ drop 256 old) old
 
 -- ---- tone_fine_table
 -- 3 5 14: "A float table's length isn't 256 or 4,096 (build)"
-abbrev pub toneFineTableAnswer : List ℕ → ℕ → ℕ → Answer
-toneFineTableAnswer points kind S = firstOf (givenAnswer points kind) (cond (isTableLength S) Done TableLength)
+abbrev pub toneFineTableChecks : List ℕ → ℕ → ℕ → List Check
+toneFineTableChecks points kind S = givenChecks points kind ++ lengthCheck S ∷ []
 
 -- the number answered; and the lent table: filled, or on a refusal unchanged
 pub record ToneFineTable (points : List ℕ) (kind tension : ℕ) (start end : ℤ) (old : List Float) (r : ℕ) (new : List Float) : Type 0 where
-  pub number : r ≡ numberOf (toneFineTableAnswer points kind (length old))
+  pub number : r ≡ numberOf (firstRefusal (toneFineTableChecks points kind (length old)))
   pub table : new ≡ cond (eqb r 0) (fineTable (kindOf kind tension start end) (pairsOf points) (length old)) old
 
 -- ---- tone_lookup
--- 14: "A float table's length isn't .. 4,096 (lookup)"
-abbrev pub toneLookupAnswer : ℕ → Answer
-toneLookupAnswer S = cond (eqb S 4096) Done TableLength
-
 -- the number answered; and the lent values: each replaced, or on a refusal unchanged
 pub record ToneLookup (table old : List Float) (r : ℕ) (new : List Float) : Type 0 where
-  pub number : r ≡ numberOf (toneLookupAnswer (length table))
+  pub number : r ≡ numberOf (firstRefusal (lookupChecks (length table)))
   pub values : new ≡ lookedUp table old
 
 -- ---- tone_plane
 -- 8 of the format's number, then 9 11 12 of the one-table call
-abbrev pub tonePlaneAnswer : ℕ → ℕ → ℕ → ℕ → ℕ → Answer
-tonePlaneAnswer format w h step held = firstOf (formatAnswer format) (lutAnswer (formatOf format) w h step held)
+abbrev pub tonePlaneChecks : ℕ → ℕ → ℕ → ℕ → ℕ → List Check
+tonePlaneChecks format w h step held = formatCheck format ∷ lutChecks (formatOf format) w h step held
 
 -- the number answered; and the plane: toned, or on a refusal unchanged
 pub record TonePlane (table : List ℕ) (format w h step : ℕ) (old : List ℕ) (r : ℕ) (new : List ℕ) : Type 0 where
-  pub number : r ≡ numberOf (tonePlaneAnswer format w h step (length old))
+  pub number : r ≡ numberOf (firstRefusal (tonePlaneChecks format w h step (length old)))
   pub plane : new ≡ cond (eqb r 0) (tonedWithin (formatOf format) w h step table old) old
 
 -- ---- tone_picture
--- 1 to 7 of the record, 8 of the format's number, then 8 to 13 of the set call
-abbrev pub tonePictureAnswer : List ℕ → ℕ → ℕ → ℕ → ℕ → ℕ → Lengths → Answer
-tonePictureAnswer stored format w h planes step held =
-    firstOf (readRecord stored .answer) (firstOf (formatAnswer format) (pictureAnswer (formatOf format) w h planes step held))
+-- 1 to 7 of the record, whose lists have then passed 3 and 4; 8 of the format's number, then 8 to 13 of the set call
+abbrev pub tonePictureChecks : List ℕ → ℕ → ℕ → ℕ → ℕ → ℕ → Lengths → List Check
+tonePictureChecks stored format w h planes step held =
+    recordChecks stored ++ (formatCheck format ∷ []) ++ pictureChecks (formatOf format) w h planes step held
 
 abbrev pub lengthsOf : List ℕ → List ℕ → List ℕ → List ℕ → List ℕ → List ℕ → Lengths
 lengthsOf y u v outY outU outV = record {
@@ -118,19 +112,19 @@ pub record TonePicture
     (r : ℕ)
     (newY newU newV : List ℕ)
     : Type 0 where
-  pub number : r ≡ numberOf (tonePictureAnswer stored format w h planes step (lengthsOf y u v oldY oldU oldV))
+  pub number : r ≡ numberOf (firstRefusal (tonePictureChecks stored format w h planes step (lengthsOf y u v oldY oldU oldV)))
   pub first : newY ≡ cond (eqb r 0) (tightRows (formatOf format) w h step (tablesOf (formatOf format) (setOf stored)) y oldY) oldY
   pub cb : newU ≡ chromaOut r format u oldU
   pub cr : newV ≡ chromaOut r format v oldV
 
 -- ---- tone_record_table
 -- 1 to 7 of the record, then 13: the table is 256 bytes
-abbrev pub toneRecordTableAnswer : List ℕ → ℕ → Answer
-toneRecordTableAnswer stored held = firstOf (readRecord stored .answer) (roomFor 256 held)
+abbrev pub toneRecordTableChecks : List ℕ → ℕ → List Check
+toneRecordTableChecks stored held = recordChecks stored ++ roomCheck 256 held ∷ []
 
 -- the number answered; and the output: the master's byte table in place of its first 256 bytes, or on a refusal unchanged
 pub record ToneRecordTable (stored old : List ℕ) (r : ℕ) (new : List ℕ) : Type 0 where
-  pub number : r ≡ numberOf (toneRecordTableAnswer stored (length old))
+  pub number : r ≡ numberOf (firstRefusal (toneRecordTableChecks stored (length old)))
   pub table : new ≡ cond (eqb r 0) (byteTable (setOf stored .kind) (setOf stored .master) ++ drop 256 old) old
 
 -- ---- tone_record_copy
@@ -139,11 +133,11 @@ abbrev pub copyOf : List ℕ → List ℕ
 copyOf stored = encode (setOf stored)
 
 -- 1 to 7 of the record, then 13
-abbrev pub toneRecordCopyAnswer : List ℕ → ℕ → Answer
-toneRecordCopyAnswer stored held = firstOf (readRecord stored .answer) (roomFor (length (copyOf stored)) held)
+abbrev pub toneRecordCopyChecks : List ℕ → ℕ → List Check
+toneRecordCopyChecks stored held = recordChecks stored ++ roomCheck (length (copyOf stored)) held ∷ []
 
 -- the number answered; the output: the copy in place of its first bytes; and its length; on a refusal both unchanged
 pub record ToneRecordCopy (stored old : List ℕ) (oldWritten r : ℕ) (new : List ℕ) (newWritten : ℕ) : Type 0 where
-  pub number : r ≡ numberOf (toneRecordCopyAnswer stored (length old))
+  pub number : r ≡ numberOf (firstRefusal (toneRecordCopyChecks stored (length old)))
   pub out : new ≡ cond (eqb r 0) (copyOf stored ++ drop (length (copyOf stored)) old) old
   pub written : newWritten ≡ cond (eqb r 0) (length (copyOf stored)) oldWritten

@@ -19,23 +19,23 @@ use Rattle.answers.specs.declared.Answer.the-variants.{
   OutputTooSmall,
   TableLength,
 }
+use Rattle.answers.specs.Checks.{firstRefusal}
 use Rattle.points.specs.Points.{pt}
 use Rattle.tables.specs.Kinds.{kindOf}
 use Rattle.rows.specs.Rows.{needed}
 use Rattle.formats.specs.declared.PixelFormat.the-variants.{Gray8, Rgba, Yuv420P, YuvJ444P}
 use Rattle.formats.specs.Formats.{formatOf}
-use Rattle.formats.specs.Checks.{planeAnswer, lutAnswer, pictureAnswer}
 use Rattle.records.specs.Format.{pairs, readRecord, readFields, readKind, readNumber, readCarried}
 use Rattle.writing.specs.Encode.{bitsUnder, encode}
 use Rattle.tone_c.specs.Boundary.{
   pairsOf,
-  toneTableAnswer,
-  toneFineTableAnswer,
-  tonePlaneAnswer,
-  tonePictureAnswer,
+  toneTableChecks,
+  toneFineTableChecks,
+  tonePlaneChecks,
+  tonePictureChecks,
   lengthsOf,
-  toneRecordTableAnswer,
-  toneRecordCopyAnswer,
+  toneRecordTableChecks,
+  toneRecordCopyChecks,
 }
 
 -- ---- a curve that is given
@@ -44,12 +44,12 @@ unfolding pairs
 odd-byte = refl
 
 -- 65 pairs, then kind 10, then an output one byte too short; 64 pairs and an odd byte pass
-pub table-order : (toneTableAnswer (replicate 130 7) 10 255 ≡ PointCount) × (toneTableAnswer (replicate 129 7) 10 255 ≡ UnknownKind)
-    × (toneTableAnswer (replicate 129 7) 9 255 ≡ OutputTooSmall) × (toneTableAnswer (replicate 129 7) 9 256 ≡ Done)
+pub table-order : (firstRefusal (toneTableChecks (replicate 130 7) 10 255) ≡ PointCount) × (firstRefusal (toneTableChecks (replicate 129 7) 10 255) ≡ UnknownKind)
+    × (firstRefusal (toneTableChecks (replicate 129 7) 9 255) ≡ OutputTooSmall) × (firstRefusal (toneTableChecks (replicate 129 7) 9 256) ≡ Done)
 table-order = (refl, refl, refl, refl)
 
-pub fine-table-order : (toneFineTableAnswer (replicate 130 7) 10 257 ≡ PointCount) × (toneFineTableAnswer (replicate 129 7) 10 257 ≡ UnknownKind)
-    × (toneFineTableAnswer (replicate 129 7) 9 257 ≡ TableLength) × (toneFineTableAnswer (replicate 129 7) 9 4096 ≡ Done)
+pub fine-table-order : (firstRefusal (toneFineTableChecks (replicate 130 7) 10 257) ≡ PointCount) × (firstRefusal (toneFineTableChecks (replicate 129 7) 10 257) ≡ UnknownKind)
+    × (firstRefusal (toneFineTableChecks (replicate 129 7) 9 257) ≡ TableLength) × (firstRefusal (toneFineTableChecks (replicate 129 7) 9 4096) ≡ Done)
 fine-table-order = (refl, refl, refl, refl)
 
 -- the tension matters to kind 7 only, the slopes to kind 8 only
@@ -71,9 +71,9 @@ unfolding formatOf
 formats = (refl, refl, refl, refl)
 
 -- an unknown format, then a side of 4,097; the last format passes
-pub plane-order : (tonePlaneAnswer 12 4097 1 0 0 ≡ UnsupportedFormat) × (tonePlaneAnswer 11 4097 1 0 0 ≡ PictureTooLarge)
-    × (tonePlaneAnswer 11 4 1 3 0 ≡ RowStep) × (tonePlaneAnswer 11 4 1 4 3 ≡ PlaneTooShort) × (tonePlaneAnswer 11 4 1 4 4 ≡ Done)
-unfolding formatOf lutAnswer planeAnswer needed
+pub plane-order : (firstRefusal (tonePlaneChecks 12 4097 1 0 0) ≡ UnsupportedFormat) × (firstRefusal (tonePlaneChecks 11 4097 1 0 0) ≡ PictureTooLarge)
+    × (firstRefusal (tonePlaneChecks 11 4 1 3 0) ≡ RowStep) × (firstRefusal (tonePlaneChecks 11 4 1 4 3) ≡ PlaneTooShort) × (firstRefusal (tonePlaneChecks 11 4 1 4 4) ≡ Done)
+unfolding formatOf needed
 plane-order = (refl, refl, refl, refl, refl)
 
 -- the record of an empty set of kind 0, and with a byte more
@@ -86,24 +86,23 @@ longer = 0x10 ∷ 0 ∷ 0 ∷ []
 -- of planes of 4 bytes, chroma of 1 byte, and a last output of so many bytes
 abbrev pictureAnswered : List ℕ → ℕ → ℕ → ℕ → ℕ → ℕ → Answer
 pictureAnswered stored format w planes step room =
-    tonePictureAnswer stored format w 1 planes step (lengthsOf (replicate 4 5) (1 ∷ []) (2 ∷ []) (replicate 4 0) (0 ∷ []) (replicate room 0))
+    firstRefusal (tonePictureChecks stored format w 1 planes step (lengthsOf (replicate 4 5) (1 ∷ []) (2 ∷ []) (replicate 4 0) (0 ∷ []) (replicate room 0)))
 
 -- the record's 7 before all others; an unknown format, or one that the set call does not take, before a width of 4,097; the output last
 pub picture-order : (pictureAnswered longer 12 4097 0 0 0 ≡ TrailingBytes) × (pictureAnswered empty 12 4097 0 0 0 ≡ UnsupportedFormat)
     × (pictureAnswered empty 1 4097 0 0 0 ≡ UnsupportedFormat) × (pictureAnswered empty 6 4097 2 0 0 ≡ PictureTooLarge)
     × (pictureAnswered empty 6 4 2 3 0 ≡ MissingPlane) × (pictureAnswered empty 6 4 3 3 0 ≡ RowStep)
     × (pictureAnswered empty 6 4 3 4 0 ≡ OutputTooSmall) × (pictureAnswered empty 6 4 3 4 1 ≡ Done)
-unfolding readRecord readFields readKind readNumber readCarried formatOf pictureAnswer planeAnswer needed
+unfolding formatOf needed
 picture-order = (refl, refl, refl, refl, refl, refl, refl, refl)
 
 -- ---- records
-pub record-table-order : (toneRecordTableAnswer longer 255 ≡ TrailingBytes) × (toneRecordTableAnswer empty 255 ≡ OutputTooSmall)
-    × (toneRecordTableAnswer empty 256 ≡ Done)
-unfolding readRecord readFields readKind readNumber readCarried
+pub record-table-order : (firstRefusal (toneRecordTableChecks longer 255) ≡ TrailingBytes) × (firstRefusal (toneRecordTableChecks empty 255) ≡ OutputTooSmall)
+    × (firstRefusal (toneRecordTableChecks empty 256) ≡ Done)
 record-table-order = (refl, refl, refl)
 
 -- the default kind, where a record names it, is left out of the copy: 1 byte for 2
-pub record-copy-order : (toneRecordCopyAnswer longer 0 ≡ TrailingBytes) × (toneRecordCopyAnswer empty 1 ≡ OutputTooSmall)
-    × (toneRecordCopyAnswer empty 2 ≡ Done) × (toneRecordCopyAnswer (0x10 ∷ 2 ∷ []) 1 ≡ Done)
+pub record-copy-order : (firstRefusal (toneRecordCopyChecks longer 0) ≡ TrailingBytes) × (firstRefusal (toneRecordCopyChecks empty 1) ≡ OutputTooSmall)
+    × (firstRefusal (toneRecordCopyChecks empty 2) ≡ Done) × (firstRefusal (toneRecordCopyChecks (0x10 ∷ 2 ∷ []) 1) ≡ Done)
 unfolding readRecord readFields readKind readNumber readCarried encode bitsUnder
 record-copy-order = (refl, refl, refl, refl)

@@ -1,23 +1,33 @@
-// What a caller gives as bytes and numbers: points, a kind, a format, an output. Each check answers for itself; the calls put them in their order.
+// What a caller gives as bytes and numbers: points, a kind, a format. Each check answers for itself; the calls put them in their order.
 ghost use mathlib.Core.Path.{_≡_};
 ghost use Prim.Native.Nat.{_≤_};
 ghost use Rattle.points.specs.Points.{listOf};
-ghost use Rattle.tone_c.specs.Boundary.{countOf, pairsOf, givenAnswer, formatAnswer, roomFor};
+ghost use mathlib.Core.List.{[], _∷_};
+ghost use Rattle.answers.specs.Checks.{firstRefusal};
+ghost use Rattle.records.specs.Checks.{kindCheck};
+ghost use Rattle.tone_c.specs.Boundary.{countOf, pairsOf, givenChecks, formatCheck};
 use answers::Answer;
+use answers::first_of;
 use points::Curve;
+use points::check_count;
 use records::read_points;
 
 // 3, then 5.
 pub fn check(points: &[u8], kind: u8) -> Answer
-    ensures { λ r. ⌜ r ≡ givenAnswer (now (points .entry)) kind ⌝ }
+    ensures { λ r. ⌜ r ≡ firstRefusal (givenChecks (now (points .entry)) kind) ⌝ }
 {
-    if Curve::LIMIT < points.len() / 2 {
-        return Answer::PointCount;
-    }
+    first_of(check_count(points.len() / 2), kind_answer(kind))
+}
+
+// 5.
+fn kind_answer(kind: u8) -> Answer
+    ensures { λ r. ⌜ r ≡ firstRefusal (kindCheck kind ∷ []) ⌝ }
+{
     if 9 < kind {
-        return Answer::UnknownKind;
+        Answer::UnknownKind
+    } else {
+        Answer::Done
     }
-    Answer::Done
 }
 
 // The points as a list: x, y pairs; a last odd byte is none.
@@ -30,21 +40,10 @@ pub fn curve_of(points: &[u8]) -> Curve
 
 // 8, of a number that is no format.
 pub fn format_answer(n: u8) -> Answer
-    ensures { λ r. ⌜ r ≡ formatAnswer n ⌝ }
+    ensures { λ r. ⌜ r ≡ firstRefusal (formatCheck n ∷ []) ⌝ }
 {
     if 11 < n {
         Answer::UnsupportedFormat
-    } else {
-        Answer::Done
-    }
-}
-
-// 13, of an output of so many bytes that is to take count.
-pub fn room_for(count: usize, held: usize) -> Answer
-    ensures { λ r. ⌜ r ≡ roomFor count held ⌝ }
-{
-    if held < count {
-        Answer::OutputTooSmall
     } else {
         Answer::Done
     }

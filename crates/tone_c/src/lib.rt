@@ -2,6 +2,7 @@
 // A slice crosses as a pointer and a length.
 ghost use Rattle.tone_c.specs.Boundary.{ToneTable, ToneFineTable, ToneLookup, TonePlane, TonePicture, ToneRecordTable, ToneRecordCopy};
 use answers::first_of;
+use answers::room_for;
 use formats::format_of;
 use pictures::apply_pixels;
 use pictures::apply_tone_lut;
@@ -27,10 +28,7 @@ pub extern "C" fn tone_table(
 ) -> u8
     ensures { λ r. ⌜ ToneTable (now (points .entry)) kind «tension» «start_slope» «end_slope» (now (table .entry)) r (now (table .exit)) ⌝ }
 {
-    let answer = first_of(
-        given::check(points, kind),
-        given::room_for(256, table.len()),
-    );
+    let answer = first_of(given::check(points, kind), room_for(256, table.len()));
     if !answer.is_done() {
         return answer.number();
     }
@@ -145,7 +143,7 @@ pub extern "C" fn tone_record_table(record: &[u8], table: &mut [u8]) -> u8
 {
     let read = read_record(record);
     let of_record = read.answer;
-    let answer = first_of(of_record, given::room_for(256, table.len()));
+    let answer = first_of(of_record, room_for(256, table.len()));
     if !answer.is_done() {
         return answer.number();
     }

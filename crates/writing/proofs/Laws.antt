@@ -10,10 +10,11 @@ use lib.ListN as ListN
 use lib.ListN.{getD, take, drop, set, length-append, length-set}
 use lib.Dec.{eqb}
 use lib.Seq.{take-suc-set, take-suc, length-take-le, getD-take}
-use borrow.Author.Tests.{ne-eqb, not-false}
+use borrow.Author.Tests.{ne-eqb}
 use Rattle.answers.specs.declared.Answer.{Answer}
-use Rattle.answers.specs.declared.Answer.the-variants.{Done, OutputTooSmall}
-use Rattle.answers.specs.Numbers.{isDone}
+use Rattle.answers.specs.declared.Answer.the-variants.{Done}
+use Rattle.answers.specs.Numbers.{isDone, told-done}
+use Rattle.answers.specs.Checks.{firstRefusal, roomCheck, first-stops, first-goes-on}
 use Rattle.lists.specs.Tabulate.{tabulate, is-tabulate}
 use Rattle.single.specs.RuleLaws.{by-test}
 use Rattle.points.specs.declared.Point.{Point}
@@ -21,12 +22,12 @@ use Rattle.points.specs.declared.Curve.{Curve}
 use Rattle.points.specs.Points.{pt, nth, listOf}
 use Rattle.sets.specs.declared.Channel.{Channel}
 use Rattle.sets.specs.declared.Curves.{Curves}
-use Rattle.sets.specs.Sets.{viewOf, channelOf, curveAnswer, channelAnswer, setAnswer}
+use Rattle.sets.specs.Sets.{viewOf, channelOf, setChecks, curveAnswer, channelAnswer, setAnswer}
 use Rattle.sets.specs.Legal.{passed-count}
 use Rattle.writing.specs.declared.Draft.{Draft}
 use Rattle.writing.specs.declared.Written.{Written}
-use Rattle.writing.specs.Encode.{pairBytes, fieldBytes, masterField, oneIf, bitsUnder, there, encode, Write, writeRecord}
-use Rattle.writing.specs.Cases.{done-is, write-refused, write-short, write-done}
+use Rattle.writing.specs.Encode.{pairBytes, fieldBytes, masterField, oneIf, bitsUnder, there, encode, Write, writeChecks, writeRecord}
+use Rattle.writing.specs.Cases.{written, write-done}
 use Rattle.writing.specs.Contracts.{bytesMade, Room, Appended, Holds, Held, Wrote}
 use Rattle.records.specs.Format.{longest}
 
@@ -82,7 +83,7 @@ holds p start few = record { bytes = p .bytes ∙ rw start; length = omega arith
 -- ---- a list as a field
 module _ (m : Channel) (t : m .present ≡ true) (e : channelAnswer m ≡ Done) where
   pub present-count : m .curve .count ≤ 64
-  unfolding channelAnswer
+  unfolding channelAnswer curveAnswer
   present-count = passed-count (m .curve) (rw t at e)
 
   pub present-bytes : ListN.length (m .curve .points) ≡ 64 → m .curve .count ∷ pairBytes (listOf (m .curve)) ≡ fieldBytes (channelOf m)
@@ -102,7 +103,7 @@ module _ (c : Curve) (long : ListN.length (c .points) ≡ 64) (e : curveAnswer c
   master-channel = some-or-none (c .count) (c .points) (omega (arith, passed-count c e))
 
 pub master-passes : (c : Curve) (b : Bool) → curveAnswer c ≡ Done → channelAnswer (record { present = b; curve = c }) ≡ Done
-unfolding channelAnswer
+unfolding channelAnswer curveAnswer
 master-passes c true e = e
 master-passes c false e = refl
 
@@ -128,7 +129,7 @@ front-tabulated n bytes h = sym (is-tabulate 0 (length-take-le n bytes h) (λ k 
 -- ---- the whole call
 -- the check answered a, and the code's test found that a is done
 pub passed : {b : Answer} {d : Bool} (a : Answer) → a ≡ b → d ≡ isDone a → not d ≡ false → b ≡ Done
-passed {d = d} a e q t = sym e ∙ done-is a (sym q ∙ not-false d t)
+passed a e q t = sym e ∙ told-done a q t
 
 module _ (s : Curves) (buffer : List ℕ) where
   -- from what the definition comes to
@@ -136,17 +137,22 @@ module _ (s : Curves) (buffer : List ℕ) where
       → r .answer ≡ w .answer → r .length ≡ w .length → after ≡ w .buffer → (r .answer ≡ Done → Held s) → Wrote s buffer r after
   wrote-as w r after e a l b h = record { answer = rw e a; length = rw e l; buffer = rw e b; held = h }
 
-  pub wrote-refused : (a : Answer) → a ≡ setAnswer s → isDone a ≡ false → Wrote s buffer (record { answer = a; length = 0 }) buffer
-  wrote-refused a e t =
-      wrote-as _ _ _ (write-refused s buffer a (sym e) t) refl refl refl (λ done. absurd (false≢true (sym t ∙ ap isDone done)))
+  pub wrote-refused : (a : Answer) → a ≡ firstRefusal (writeChecks s (ListN.length buffer)) → isDone a ≡ false
+      → Wrote s buffer (record { answer = a; length = 0 }) buffer
+  wrote-refused a e t = wrote-as _ _ _ (written s buffer e ∙ rw t) refl refl refl (λ done. absurd (false≢true (sym t ∙ ap isDone done)))
+
+  -- the check of the lists refused
+  pub lists-refused : {a : Answer} → a ≡ setAnswer s → isDone a ≡ false → a ≡ firstRefusal (writeChecks s (ListN.length buffer))
+  unfolding setAnswer
+  lists-refused e t = first-stops (setChecks s) (roomCheck (ListN.length (encode (viewOf s))) (ListN.length buffer) ∷ []) e t
 
   module _ (passed : setAnswer s ≡ Done) {d : Draft} (h : Holds (encode (viewOf s)) d) where
-    pub wrote-short : ListN.length buffer < d .length → Wrote s buffer (record { answer = OutputTooSmall; length = 0 }) buffer
-    wrote-short short =
-        wrote-as _ _ _ (write-short s buffer passed (omega arith)) refl refl refl
-        (λ done. let z : _≡_ {A = ℕ} 0 1 = cc in absurd (omega arith))
+    -- it passed, and what is left is the room for the draft
+    pub room-asked : {a : Answer} → a ≡ firstRefusal (roomCheck (d .length) (ListN.length buffer) ∷ []) → a ≡ firstRefusal (writeChecks s (ListN.length buffer))
+    unfolding setAnswer
+    room-asked e = first-goes-on (setChecks s) (roomCheck (ListN.length (encode (viewOf s))) (ListN.length buffer) ∷ []) passed (rw (h .length) at e)
 
-    pub wrote-done : {after : List ℕ} → d .length ≤ ListN.length buffer → after ≡ bytesMade d ++ drop (d .length) buffer → Held s
-        → Wrote s buffer (record { answer = Done; length = d .length }) after
-    wrote-done room e held =
-        wrote-as _ _ _ (write-done s buffer passed (omega arith)) refl (h .length) (e ∙ rw (h .bytes, h .length)) (λ done. held)
+    pub wrote-done : {a : Answer} {after : List ℕ} → a ≡ Done → d .length ≤ ListN.length buffer → after ≡ bytesMade d ++ drop (d .length) buffer → Held s
+        → Wrote s buffer (record { answer = a; length = d .length }) after
+    wrote-done is room e held =
+        wrote-as _ _ _ (write-done s buffer passed (omega arith)) is (h .length) (e ∙ rw (h .bytes, h .length)) (λ done. held)

@@ -6,11 +6,12 @@ use mathlib.Core.Bool.{Bool, true, false, cond, not}
 use mathlib.Core.Option.{Option, none, some}
 use lib.ListN as ListN
 use lib.ListN.{length, drop}
-use lib.Dec.{ltb, eqb}
+use lib.Dec.{eqb}
 use lib.IntN.{ℤ, pos, negsuc}
 use Rattle.answers.specs.declared.Answer.{Answer}
-use Rattle.answers.specs.declared.Answer.the-variants.{Done, OutputTooSmall}
-use Rattle.answers.specs.Numbers.{isDone, firstOf}
+use Rattle.answers.specs.declared.Answer.the-variants.{Done}
+use Rattle.answers.specs.Numbers.{isDone}
+use Rattle.answers.specs.Checks.{Check, firstRefusal, roomCheck}
 use Rattle.points.specs.declared.Point.{Point}
 use Rattle.tables.specs.declared.CurveInterpolation.{CurveInterpolation}
 use Rattle.tables.specs.declared.CurveInterpolation.the-variants.{
@@ -27,7 +28,7 @@ use Rattle.tables.specs.declared.CurveInterpolation.the-variants.{
 }
 use Rattle.tables.specs.Kinds.{kindNumber}
 use Rattle.sets.specs.declared.Curves.{Curves}
-use Rattle.sets.specs.Sets.{View, viewOf, default, setAnswer}
+use Rattle.sets.specs.Sets.{View, viewOf, default, setChecks}
 use Rattle.records.specs.Format.{kindBits}
 
 -- ---- the lists
@@ -118,10 +119,9 @@ outcome a bytes buffer =
     (record { answer = Done; length = ListN.length bytes; buffer = bytes ++ drop (ListN.length bytes) buffer })
     (record { answer = a; length = 0; buffer = buffer })
 
--- 13: "An output holds less than what would be written"
-abbrev pub roomAnswer : List ℕ → List ℕ → Answer
-roomAnswer bytes buffer = cond (ltb (length buffer) (length bytes)) OutputTooSmall Done
+-- the checks of the writer into a buffer of so many bytes: those of the set's lists, then 13
+abbrev pub writeChecks : Curves → ℕ → List Check
+writeChecks s room = setChecks s ++ roomCheck (length (encode (viewOf s))) room ∷ []
 
--- 3 and 4 of the set's lists, then 13
 unfoldable pub writeRecord : Curves → List ℕ → Write
-writeRecord s buffer = outcome (firstOf (setAnswer s) (roomAnswer (encode (viewOf s)) buffer)) (encode (viewOf s)) buffer
+writeRecord s buffer = outcome (firstRefusal (writeChecks s (length buffer))) (encode (viewOf s)) buffer

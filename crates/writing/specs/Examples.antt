@@ -3,11 +3,14 @@ use mathlib.Core.Path.{_≡_, refl}
 use mathlib.Core.List.{[], _∷_}
 use mathlib.Core.Option.{some}
 use lib.IntN.{pos, negsuc}
-use Rattle.points.specs.Points.{straightCurve}
+use Rattle.answers.specs.declared.Answer.the-variants.{Done, PointCount, OutputTooSmall}
+use Rattle.answers.specs.Checks.{firstRefusal}
+use Rattle.points.specs.Points.{straightCurve, risesFrom}
 use Rattle.tables.specs.declared.CurveInterpolation.the-variants.{Linear, Cardinal, ClampedCubic}
 use Rattle.sets.specs.declared.Colour.the-variants.{Green}
 use Rattle.sets.specs.Sets.{emptyView, masterOnly, withColour, withKind}
-use Rattle.writing.specs.Encode.{pairBytes, bitsUnder, encode}
+use Rattle.sets.specs.Examples.{line, many, falling, four}
+use Rattle.writing.specs.Encode.{pairBytes, bitsUnder, encode, writeChecks}
 
 pub P10-written : encode (withKind Linear (masterOnly straightCurve)) ≡ 0x11 ∷ 2 ∷ 0 ∷ 0 ∷ 0xff ∷ 0xff ∷ 0 ∷ []
 unfolding encode bitsUnder pairBytes
@@ -31,3 +34,16 @@ tension-written = refl
 pub slopes-written : encode (withKind (ClampedCubic (pos 256) (negsuc 32767)) emptyView) ≡ 0x50 ∷ 8 ∷ 0 ∷ 1 ∷ 0 ∷ 0x80 ∷ []
 unfolding encode bitsUnder
 slopes-written = refl
+
+-- the order of the refusals: 3 and 4 of the lists, then 13
+pub refused-3 : firstRefusal (writeChecks (four line many falling line) 0) ≡ PointCount
+unfolding risesFrom
+refused-3 = refl
+
+pub refused-13 : firstRefusal (writeChecks (four line line line line) 21) ≡ OutputTooSmall
+unfolding risesFrom encode bitsUnder pairBytes
+refused-13 = refl
+
+pub accepted : firstRefusal (writeChecks (four line line line line) 22) ≡ Done
+unfolding risesFrom encode bitsUnder pairBytes
+accepted = refl

@@ -15,6 +15,7 @@ ghost use Rattle.writing.specs.Encode.{pairBytes, fieldBytes, masterFiel
 ghost use Rattle.writing.specs.Contracts.{bytesMade, Room, Appended, Holds, Wrote};
 ghost use Rattle.records.specs.Format.{longest};
 use answers::Answer;
+use answers::room_for;
 use points::Curve;
 use sets::Channel;
 use sets::Curves;
@@ -219,15 +220,10 @@ pub fn write_record(set: Curves, buffer: &mut [u8]) -> Written
     }
     let draft = record_of(set);
     let length = draft.length;
-    if buffer.len() < length {
-        return Written {
-            answer: Answer::OutputTooSmall,
-            length: 0,
-        };
+    let answer = room_for(length, buffer.len());
+    if !answer.is_done() {
+        return Written { answer, length: 0 };
     }
     copy_out(draft, buffer);
-    Written {
-        answer: Answer::Done,
-        length,
-    }
+    Written { answer, length }
 }

@@ -3,9 +3,11 @@ use mathlib.Core.Path.{_≡_, sym, _∙_}
 use mathlib.Core.Bool.{true}
 use native.Mathlib.Omega.{arith}
 use borrow.Author.Tests.{eq-eqb, ne-eqb, not-true, not-false}
-use Rattle.answers.specs.Numbers.{isDone}
-use Rattle.pictures.specs.Runs.{Run, Lent, given, hasChroma, answer}
-use Rattle.formats.specs.CheckLaws.{done}
+use Rattle.answers.specs.Numbers.{isDone, done-is}
+use Rattle.answers.specs.Checks.{first-then}
+use Rattle.sets.specs.Sets.{setChecks, setAnswer}
+use Rattle.formats.specs.Checks.{pictureChecks, pictureAnswer}
+use Rattle.pictures.specs.Runs.{Run, Lent, given, hasChroma, held, answer}
 use Rattle.pictures.specs.RunLaws.{Accepted, accepted-run}
 use Rattle.pictures.proofs.Owned.{points-told, tension-told}
 use Rattle.pictures.proofs.Ends as Ends
@@ -20,8 +22,11 @@ run c =
     (A .out .now) (A .out-cb .now) (A .out-cr .now)
 
 answered : (c : tie.After-first-of) → c .first-of .result ≡ answer (run c)
-unfolding answer
-answered c = rw (← c .before .before .check .ensures, ← c .before .picture-answer .ensures) (c .first-of .ensures)
+unfolding answer setAnswer pictureAnswer
+answered c =
+    let r = run c in
+    first-then (setChecks (r .set)) (pictureChecks (r .format) (r .width) (r .height) (r .planes) (r .plane .step) (held r))
+    (c .before .before .check .ensures) (c .before .picture-answer .ensures) (c .first-of .ensures)
 
 -- what it was lent
 lent : (c : tie.After-first-of) → Lent (run c)
@@ -39,7 +44,7 @@ is-done : (c : tie.Else1) → isDone (c .before .before .first-of .result) ≡ t
 is-done c = sym (c .before .is-done .ensures) ∙ not-false _ (c .if1 .left)
 
 accepted : (c : tie.Else1) → Accepted (run (c .before .before))
-accepted c = accepted-run (run (c .before .before)) (sym (answered (c .before .before)) ∙ done _ (is-done c))
+accepted c = accepted-run (run (c .before .before)) (sym (answered (c .before .before)) ∙ done-is _ (is-done c))
 
 -- where there is chroma
 is-yuv : (c : tie.Then2) → hasChroma (run (c .before .before .before .before .before .before .before .before .before)) ≡ true

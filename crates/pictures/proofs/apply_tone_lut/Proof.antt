@@ -2,7 +2,8 @@
 use native.Mathlib.Omega.{arith}
 use mathlib.Core.Path.{sym, _∙_}
 use lib.ListN.{length}
-use Rattle.formats.specs.CheckLaws.{GoodPlane, done, lut-done}
+use Rattle.answers.specs.Numbers.{done-is}
+use Rattle.formats.specs.CheckLaws.{GoodPlane, lut-done}
 use Rattle.formats.specs.FormatLaws.{in-place}
 use Rattle.pictures.proofs.apply_tone_lut.Statement.{statement}
 use Rattle.pictures.proofs.apply_tone_lut.Tie as tie
@@ -11,7 +12,7 @@ use Rattle.pictures.proofs.apply_tone_lut.Tie as tie
 good : (c : tie.Then1)
     → let A = c .before .before .before .before .args in
     GoodPlane (A .format) (A .width) (A .height) (A .step) (length (A .plane .now))
-good c = lut-done _ _ _ _ _ (sym (c .before .before .lut-answer .ensures) ∙ done _ (sym (c .before .is-done .ensures) ∙ c .if1 .taken))
+good c = lut-done _ _ _ _ _ (sym (c .before .before .lut-answer .ensures) ∙ done-is _ (sym (c .before .is-done .ensures) ∙ c .if1 .taken))
 
 tone-rows-requires : tie.Need-tone-rows-requires
 tone-rows-requires c κs =

@@ -1,12 +1,17 @@
--- `tables::build_table`: the two refusals in their order, each with the slice as it was; else the list is sampled.
-use mathlib.Core.Path.{_≡_, refl, sym, _∙_}
+-- `tables::build_table`: refused, with the slice as it was; else the list is sampled.
+use mathlib.Core.Path.{_≡_, sym, _∙_}
 use mathlib.Core.Bool.{true}
+use mathlib.Core.List.{[], _∷_}
+use lib.ListN.{length}
 use Prim.Native.Nat.{ℕ, _≤_}
 use native.Mathlib.Decide.{ℕ-discrete}
 use native.Mathlib.Omega.{arith}
-use borrow.Author.Needs.{needs}
-use borrow.Author.Tests.{lt-ltb, le-ltb, ne-eqb, eqb-true, not-true, not-false}
-use Rattle.tables.specs.Tables.{isTableLength}
+use borrow.Author.Tests.{ne-eqb, eqb-true, not-false}
+use Rattle.answers.specs.Numbers.{done-is}
+use Rattle.answers.specs.Checks.{firstRefusal, first-then, done-append, all-passed}
+use Rattle.points.specs.Points.{listChecks}
+use Rattle.points.specs.CheckLaws.{given-few}
+use Rattle.tables.specs.Tables.{isTableLength, lengthCheck, tableChecks}
 use Rattle.tables.proofs.build_table.Statement.{statement}
 use Rattle.tables.proofs.build_table.Tie as tie
 
@@ -16,33 +21,39 @@ two-to-4096 S e = elim (ℕ-discrete S 256) [
   | no other ↦ let is : S ≡ 4096 = eqb-true S 4096 (rw (ne-eqb S 256 other) at e) in (omega arith, omega arith)
 ]
 
-returns : tie.Need-returns
-returns c = record { answer = rw (lt-ltb _ _ (c .if1 .taken)); table = refl }
-
-returns-2 : tie.Need-returns-2
-returns-2 c =
-    let k = c .before in
-    let refused = sym (k .before .is-table-length .ensures) ∙ not-true _ (c .if2 .taken) in
-    record { answer = rw (le-ltb _ _ (k .if1 .left), refused); table = refl }
+answered : (c : tie.After-first-of)
+    → let A = c .before .before .before .before .args in
+    c .first-of .result ≡ firstRefusal (tableChecks (A .curve) (length (A .samples .now)))
+answered c =
+    let A = c .before .before .before .before .args in
+    first-then (listChecks (A .curve)) (lengthCheck (length (A .samples .now)) ∷ [])
+    (c .before .before .check-given .ensures) (c .before .length-answer .ensures) (c .first-of .ensures)
 
 sample-curve-requires : tie.Need-sample-curve-requires
 sample-curve-requires c κs =
-    let k = c .before in
-    (search needs, two-to-4096 _ (sym (k .before .before .is-table-length .ensures) ∙ not-false _ (k .if2 .left)))
+    let k = c .before .before in
+    let A = k .before .before .before .before .before .args in
+    let room = lengthCheck (length (A .samples .now)) ∷ [] in
+    let passed = done-append (listChecks (A .curve)) room (sym (answered (k .before)) ∙ done-is _ (sym (k .is-done .ensures) ∙ c .before .if1 .taken)) in
+    (given-few (A .curve) (passed .0), two-to-4096 _ (not-false _ (all-passed room (passed .1) .0)))
 
-returns-3 : tie.Need-returns-3
-returns-3 c =
-    let k = c .before .before .before .before in
-    let fits = sym (k .before .before .is-table-length .ensures) ∙ not-false _ (k .if2 .left) in
-    record { answer = rw (le-ltb _ _ (k .before .if1 .left), fits); table = c .before .before .sample-curve .ensures }
+returns : tie.Need-returns
+returns c =
+    let toned = c .before .before in
+    let k = toned .before .before in
+    record {
+      answer = answered (k .before .before);
+      table = rw (sym (k .before .is-done .ensures) ∙ k .if1 .taken) (toned .sample-curve .ensures);
+    }
+
+returns-2 : tie.Need-returns-2
+returns-2 c = record { answer = answered (c .before .before); table = rw (sym (c .before .is-done .ensures) ∙ c .if1 .left) }
 
 pub build-table-spec : {M : Type 1} → statement M
 build-table-spec =
     tie.close
     (tie.spec
-    (omega arith)
-    returns
-    returns-2
+    (omega arith) (omega arith) (omega arith) (omega arith)
     sample-curve-requires
     (omega arith)
-    returns-3)
+    returns returns-2)

@@ -4,14 +4,12 @@ use mathlib.Core.List.{List}
 use Prim.Native.Nat.{ℕ, _≤_}
 use native.Mathlib.Omega.{arith}
 use borrow.Author.Needs.{needs}
-use borrow.Author.Tests.{le-ltb}
 use lib.ListN.{length, length-take}
 use lib.Ieee.{Float}
 use Rattle.lists.specs.Tabulate.{tabulate}
 use Rattle.points.specs.declared.Curve.{Curve}
-use Rattle.points.specs.declared.Sorted.{Sorted}
 use Rattle.points.specs.declared.Knots.{Knots}
-use Rattle.points.specs.Points.{listOf, kept, SortedFrom}
+use Rattle.points.specs.Points.{listOf, kept, SortedList}
 use Rattle.points.specs.Knots.{knots, KnotsOf}
 use Rattle.points.specs.Order.{All, Bytes, all-take}
 use Rattle.points.specs.Owned.{bytes-told}
@@ -26,10 +24,9 @@ use Rattle.tables.proofs.sample_curve.Statement.{statement}
 use Rattle.tables.proofs.sample_curve.Tie as tie
 
 -- ---- what sorting and the knots give, for a list of at most 64 points
-module _ {given : Curve} {sorted : Sorted} {k : Knots} (few : given .count ≤ 64) (s : SortedFrom given sorted)
-    (r : KnotsOf (knots (listOf (sorted .curve))) k) where
+module _ (given sorted : Curve) {k : Knots} (few : given .count ≤ 64) (s : SortedList (listOf given) sorted) (r : KnotsOf (knots (listOf sorted)) k) where
   rows : KnotsOf (knots (kept (listOf given))) k
-  rows = rw (rw (le-ltb 64 (given .count) few) at (s .list)) at r
+  rows = rw (s .list) at r
 
   count : All Bytes (listOf given) → (2 ≤ k .count) × (k .count ≤ 66)
   count bytes =
@@ -46,25 +43,25 @@ module _ {given : Curve} {sorted : Sorted} {k : Knots} (few : given .count ≤ 6
 numbers-requires : tie.Need-numbers-requires
 numbers-requires c κs =
     let k = c .before .before .before .before .before in
-    let n = k .before .before in
+    let n = k .before in
     let given = n .before .before in
-    let few = count (given .pre .0) (n .new .ensures) (k .knots .ensures) (search (needs, all-take, bytes-told)) in
+    let few = count (given .args .curve) (n .sorted .result) (given .pre .0) (n .sorted .ensures) (k .knots .ensures) (search (needs, all-take, bytes-told)) in
     (few .0, few .1, refl)
 
 fill-requires : tie.Need-fill-requires
 fill-requires c κs =
     let k = c .before .before .before .before .before .before .before .before .before .before .before in
-    let n = k .before .before in
+    let n = k .before in
     let given = n .before .before in
-    (count (given .pre .0) (n .new .ensures) (k .knots .ensures) (search (needs, all-take, bytes-told)), given .pre .1)
+    (count (given .args .curve) (n .sorted .result) (given .pre .0) (n .sorted .ensures) (k .knots .ensures) (search (needs, all-take, bytes-told)), given .pre .1)
 
 returns : tie.Need-returns
 returns c =
     let f = c .before .before in
     let m = f .before .before .before .before .before in
     let k = m .before .before .before .before .before .before .before in
-    let n = k .before .before in
-    table (n .before .before .pre .0) (n .new .ensures) (k .knots .ensures) _ _ (m .form-of .ensures) (m .before .numbers .ensures) (f .fill .ensures)
+    let n = k .before in
+    table (n .before .before .args .curve) (n .sorted .result) (n .before .before .pre .0) (n .sorted .ensures) (k .knots .ensures) _ _ (m .form-of .ensures) (m .before .numbers .ensures) (f .fill .ensures)
 
 pub sample-curve-spec : {M : Type 1} → statement M
 sample-curve-spec =

@@ -2,49 +2,60 @@
 -- reader has checked.
 use native.Mathlib.Omega.{arith}
 use Prim.Native.Nat.{ℕ}
-use mathlib.Core.Path.{_≡_, sym, ap, _∙_}
+use mathlib.Core.Path.{_≡_, refl, sym, ap, _∙_}
 use mathlib.Core.Bool.{false, cond}
-use mathlib.Core.List.{List}
+use mathlib.Core.List.{List, [], _∷_, _++_}
 use Rattle.answers.specs.declared.Answer.{Answer}
 use Rattle.answers.specs.declared.Answer.the-variants.{Done}
-use Rattle.answers.specs.Numbers.{numberOf, isDone, firstOf, both-done}
-use Rattle.sets.specs.Sets.{View}
+use Rattle.answers.specs.Numbers.{numberOf, isDone, told-refused, told-done}
+use Rattle.answers.specs.Checks.{Check, firstRefusal, first-then, first-stops, first-goes-on}
+use Rattle.sets.specs.Sets.{View, setChecks, setAnswer}
 use Rattle.formats.specs.Formats.{formatOf}
-use Rattle.formats.specs.Checks.{pictureAnswer}
+use Rattle.formats.specs.Checks.{pictureChecks}
 use Rattle.records.specs.declared.RecordRead.{RecordRead}
 use Rattle.records.specs.Format.{readRecord}
+use Rattle.records.specs.Checks.{recordChecks}
+use Rattle.records.specs.CheckLaws.{read-answer}
 use Rattle.records.specs.Views.{HandedBack}
 use Rattle.pictures.specs.declared.Toned.{Toned}
-use Rattle.pictures.specs.Runs.{given, answer, first, chroma, tablesOf, tightRows, SetCall}
-use Rattle.tone_c.specs.Boundary.{formatAnswer, lengthsOf, TonePicture}
-use Rattle.tone_c.proofs.Passed.{refusal, none, stands, first-of-three}
+use Rattle.pictures.specs.Runs.{Run, given, held, answer, first, chroma, tablesOf, tightRows, SetCall}
+use Rattle.tone_c.specs.Boundary.{formatCheck, lengthsOf, TonePicture}
 use Rattle.tone_c.proofs.tone_picture.Statement.{statement}
 use Rattle.tone_c.proofs.tone_picture.Tie as tie
+
+-- the checks of the record and of the format
+abbrev front : List ℕ → ℕ → List Check
+front stored format = recordChecks stored ++ (formatCheck format ∷ [])
+
+-- the set call answers for the picture, on a set that has passed
+of-picture : (r : Run) → setAnswer (r .set) ≡ Done
+    → answer r ≡ firstRefusal (pictureChecks (r .format) (r .width) (r .height) (r .planes) (r .plane .step) (held r))
+unfolding answer setAnswer
+of-picture r passed = sym (first-goes-on (setChecks (r .set)) _ passed refl)
 
 -- the ends of the call, said of its arguments
 module _ {stored y u v outY outU outV : List ℕ} {format w h planes step r : ℕ} where
   -- a is the record's refusal or the format's
-  refused : {a : Answer} → a ≡ firstOf (readRecord stored .answer) (formatAnswer format) → isDone a ≡ false → r ≡ numberOf a
+  refused : {a : Answer} → a ≡ firstRefusal (front stored format) → isDone a ≡ false → r ≡ numberOf a
       → TonePicture stored format w h planes y step u v outY outU outV r outY outU outV
   refused is bad e = record {
-    number = e ∙ ap numberOf (stands _ is bad ∙ first-of-three (readRecord stored .answer) (formatAnswer format) _);
+    number = e ∙ ap numberOf (first-stops (front stored format) _ is bad);
     first = rw (e, bad);
     cb = rw (e, bad);
     cr = rw (e, bad);
   }
 
   -- neither is refused: the set call answers, on the set that the reader handed back
-  called : {handed : RecordRead} {t : Toned} {newY newU newV : List ℕ} → firstOf (readRecord stored .answer) (formatAnswer format) ≡ Done
+  called : {handed : RecordRead} {t : Toned} {newY newU newV : List ℕ} → firstRefusal (front stored format) ≡ Done
       → HandedBack (readRecord stored) handed
       → SetCall (given (handed .set) (formatOf format) w h planes y step u 0 v 0 outY outU outV) t newY newU newV
       → r ≡ numberOf (t .answer) → TonePicture stored format w h planes y step u v outY outU outV r newY newU newV
-  unfolding answer first chroma
-  called {t = t} passed read call e =
+  unfolding first chroma
+  called {handed} {t} passed read call e =
       let f = formatOf format in
-      let good = both-done (readRecord stored .answer) (formatAnswer format) passed in
-      let is : t .answer ≡ pictureAnswer f w h planes step (lengthsOf y u v outY outU outV) = rw (read .legal) at (call .answer-is) in
+      let checks = pictureChecks f w h planes step (lengthsOf y u v outY outU outV) in
       record {
-        number = rw (good .0, good .1) (e ∙ ap numberOf is);
+        number = e ∙ ap numberOf (first-goes-on (front stored format) checks passed (call .answer-is ∙ of-picture _ (read .legal)));
         first =
             rw e
             ((rw (← call .answer-is) at (call .out-is))
@@ -56,18 +67,21 @@ module _ {stored y u v outY outU outV : List ℕ} {format w h planes step r : �
 -- what the record and the format are answered
 answered : (c : tie.After-first-of)
     → let A = c .before .before .before .before .before .before .before .before .before .before .args in
-    c .first-of .result ≡ firstOf (readRecord (A .«record» .now) .answer) (formatAnswer (A .format))
-answered c = rw (c .before .before .read-record .ensures .answer, c .before .format-answer .ensures) at (c .first-of .ensures)
+    c .first-of .result ≡ firstRefusal (front (A .«record» .now) (A .format))
+answered c =
+    let A = c .before .before .before .before .before .before .before .before .before .before .args in
+    first-then (recordChecks (A .«record» .now)) (formatCheck (A .format) ∷ [])
+    (c .before .before .read-record .ensures .answer ∙ read-answer (A .«record» .now)) (c .before .format-answer .ensures) (c .first-of .ensures)
 
 accepted : (c : tie.Else1)
     → let A = c .before .before .before .before .before .before .before .before .before .before .before .before .args in
-    firstOf (readRecord (A .«record» .now) .answer) (formatAnswer (A .format)) ≡ Done
-accepted c = sym (answered (c .before .before)) ∙ none _ (c .before .is-done .ensures) (c .if1 .left)
+    firstRefusal (front (A .«record» .now) (A .format)) ≡ Done
+accepted c = sym (answered (c .before .before)) ∙ told-done _ (c .before .is-done .ensures) (c .if1 .left)
 
 returns : tie.Need-returns
 returns c =
     let k = c .before .before in
-    refused (answered (k .before)) (refusal (k .before .first-of .result) (k .is-done .ensures) (c .before .if1 .taken)) (c .number .ensures)
+    refused (answered (k .before)) (told-refused (k .before .first-of .result) (k .is-done .ensures) (c .before .if1 .taken)) (c .number .ensures)
 
 returns-2 : tie.Need-returns-2
 returns-2 c =

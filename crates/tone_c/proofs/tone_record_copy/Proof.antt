@@ -4,24 +4,27 @@ use native.Mathlib.Omega.{arith}
 use Prim.Native.Nat.{ℕ}
 use mathlib.Core.Path.{_≡_, refl, sym, ap, _∙_}
 use mathlib.Core.Bool.{Bool, true, false, cond}
-use mathlib.Core.List.{List, _++_}
+use mathlib.Core.List.{List, [], _∷_, _++_}
 use lib.Dec.{ltb}
 use lib.ListN.{length, drop}
 use Rattle.answers.specs.declared.Answer.the-variants.{Done, OutputTooSmall}
-use Rattle.answers.specs.Numbers.{numberOf, isDone}
+use Rattle.answers.specs.Numbers.{numberOf, isDone, told-refused, told-done}
+use Rattle.answers.specs.Checks.{firstRefusal, roomCheck, first-stops, first-goes-on}
 use Rattle.sets.specs.Sets.{View}
 use Rattle.records.specs.declared.RecordRead.{RecordRead}
 use Rattle.records.specs.Format.{readRecord}
 use Rattle.records.specs.Views.{HandedBack}
+use Rattle.records.specs.Checks.{recordChecks}
+use Rattle.records.specs.CheckLaws.{read-answer}
 use Rattle.writing.specs.Encode.{Write, outcome, encode, writeRecord}
-use Rattle.tone_c.specs.Boundary.{copyOf, roomFor}
-use Rattle.tone_c.proofs.Passed.{refusal, none, stands}
+use Rattle.writing.specs.Cases.{write-passed}
+use Rattle.tone_c.specs.Boundary.{copyOf, toneRecordCopyChecks}
 use Rattle.tone_c.proofs.tone_record_copy.Statement.{statement}
 use Rattle.tone_c.proofs.tone_record_copy.Tie as tie
 
 -- what the writer leaves of these bytes, as its answer says
 record Left (bytes old : List ℕ) (w : Write) : Type 0 where
-  answer-is : w .answer ≡ roomFor (length bytes) (length old)
+  answer-is : w .answer ≡ firstRefusal (roomCheck (length bytes) (length old) ∷ [])
   length-is : w .length ≡ cond (isDone (w .answer)) (length bytes) 0
   buffer-is : w .buffer ≡ cond (isDone (w .answer)) (bytes ++ drop (length bytes) old) old
 
@@ -31,13 +34,15 @@ left-by bytes old false e = record { answer-is = rw e; length-is = refl; buffer-
 
 -- the writer on the set that the reader handed back, said of the record
 left : (stored old : List ℕ) {handed : RecordRead} → HandedBack (readRecord stored) handed → Left (copyOf stored) old (writeRecord (handed .set) old)
-unfolding writeRecord
-left stored old read =
-    rw (read .legal, ap (λ (set : View). outcome (roomFor (length (encode set)) (length old)) (encode set) old) (read .set))
+left stored old {handed} read =
+    rw (
+      write-passed (handed .set) old (read .legal),
+      ap (λ (set : View). outcome (firstRefusal (roomCheck (length (encode set)) (length old) ∷ [])) (encode set) old) (read .set),
+    )
     (left-by (copyOf stored) old (ltb (length old) (length (copyOf stored))) refl)
 
-accepted : (c : tie.Else1) → readRecord (c .before .before .before .before .before .args .«record» .now) .answer ≡ Done
-accepted c = sym (c .before .before .read-record .ensures .answer) ∙ none _ (c .before .is-done .ensures) (c .if1 .left)
+accepted : (c : tie.Else1) → firstRefusal (recordChecks (c .before .before .before .before .before .args .«record» .now)) ≡ Done
+accepted c = sym (c .before .before .read-record .ensures .answer ∙ read-answer _) ∙ told-done _ (c .before .is-done .ensures) (c .if1 .left)
 
 copied : (c : tie.After-write-record)
     → let A = c .before .before .before .before .before .before .before .before .args in
@@ -51,20 +56,29 @@ copied c =
 returns : tie.Need-returns
 returns c =
     let k = c .before .before in
-    let no = refusal (k .before .read-record .result .answer) (k .is-done .ensures) (c .before .if1 .taken) in
+    let no = told-refused (k .before .read-record .result .answer) (k .is-done .ensures) (c .before .if1 .taken) in
     record {
-      number = c .number .ensures ∙ ap numberOf (stands _ (k .before .read-record .ensures .answer) no);
+      number = c .number .ensures ∙ ap numberOf (first-stops (recordChecks (k .before .before .before .before .args .«record» .now)) _ (k .before .read-record .ensures .answer ∙ read-answer _) no);
       out = rw (c .number .ensures, no);
       written = rw (c .number .ensures, no);
     }
+
+-- the writer's answer is the call's
+copied-number : (c : tie.After-write-record)
+    → let A = c .before .before .before .before .before .before .before .before .args in
+    c .write-record .result .answer ≡ firstRefusal (toneRecordCopyChecks (A .«record» .now) (length (A .out .now)))
+copied-number c =
+    let A = c .before .before .before .before .before .before .before .before .args in
+    first-goes-on (recordChecks (A .«record» .now)) (roomCheck (length (copyOf (A .«record» .now))) (length (A .out .now)) ∷ [])
+    (accepted (c .before .before .before)) (copied c .answer-is)
 
 returns-2 : tie.Need-returns-2
 returns-2 c =
     let d = c .before .before in
     let w = d .before .before .before in
-    let no = refusal (w .write-record .result .answer) (d .is-done2 .ensures) (c .before .if2 .taken) in
+    let no = told-refused (w .write-record .result .answer) (d .is-done2 .ensures) (c .before .if2 .taken) in
     record {
-      number = rw (accepted (w .before .before .before)) (c .number2 .ensures ∙ ap numberOf (copied w .answer-is));
+      number = c .number2 .ensures ∙ ap numberOf (copied-number w);
       out = rw (c .number2 .ensures) (copied w .buffer-is);
       written = rw (c .number2 .ensures, no);
     }
@@ -73,9 +87,9 @@ returns-3 : tie.Need-returns-3
 returns-3 c =
     let d = c .before .before in
     let w = d .before .before .before in
-    let yes = none (w .write-record .result .answer) (d .is-done2 .ensures) (c .before .if2 .left) in
+    let yes = told-done (w .write-record .result .answer) (d .is-done2 .ensures) (c .before .if2 .left) in
     record {
-      number = rw (accepted (w .before .before .before)) (c .number3 .ensures ∙ ap numberOf (copied w .answer-is));
+      number = c .number3 .ensures ∙ ap numberOf (copied-number w);
       out = rw (c .number3 .ensures) (copied w .buffer-is);
       written = rw (c .number3 .ensures, yes) (rw yes at (copied w .length-is));
     }

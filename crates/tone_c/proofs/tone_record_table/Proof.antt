@@ -1,38 +1,43 @@
 -- `tone_record_table`: refused, with the output as it was; else the table of the record's master is written.
 use native.Mathlib.Omega.{arith}
 use mathlib.Core.Path.{_≡_, sym, ap, _∙_}
+use mathlib.Core.List.{[], _∷_}
 use borrow.Author.Needs.{needs}
 use lib.ListN.{length}
 use Rattle.answers.specs.declared.Answer.the-variants.{Done}
-use Rattle.answers.specs.Numbers.{numberOf, both-done}
+use Rattle.answers.specs.Numbers.{numberOf, told-refused, told-done}
+use Rattle.answers.specs.Checks.{firstRefusal, roomCheck, first-then, done-append, has-room}
 use Rattle.tables.specs.Tables.{byteTable}
 use Rattle.sets.specs.Sets.{View}
 use Rattle.sets.specs.Legal.{passed-set, passed-count}
-use Rattle.records.specs.Format.{readRecord}
-use Rattle.tone_c.specs.Boundary.{roomFor, toneRecordTableAnswer}
-use Rattle.tone_c.proofs.Passed.{refusal, none, has-room}
+use Rattle.records.specs.Checks.{recordChecks}
+use Rattle.records.specs.CheckLaws.{read-answer}
+use Rattle.tone_c.specs.Boundary.{toneRecordTableChecks}
 use Rattle.tone_c.proofs.tone_record_table.Statement.{statement}
 use Rattle.tone_c.proofs.tone_record_table.Tie as tie
 
 answered : (c : tie.After-first-of)
     → let A = c .before .before .before .before .before .args in
-    c .first-of .result ≡ toneRecordTableAnswer (A .«record» .now) (length (A .table .now))
-answered c = rw (c .before .before .read-record .ensures .answer, c .before .room-for .ensures) at (c .first-of .ensures)
+    c .first-of .result ≡ firstRefusal (toneRecordTableChecks (A .«record» .now) (length (A .table .now)))
+answered c =
+    let A = c .before .before .before .before .before .args in
+    first-then (recordChecks (A .«record» .now)) (roomCheck 256 (length (A .table .now)) ∷ [])
+    (c .before .before .read-record .ensures .answer ∙ read-answer (A .«record» .now)) (c .before .room-for .ensures) (c .first-of .ensures)
 
 -- past the refusal
 accepted : (c : tie.Else1)
     → let A = c .before .before .before .before .before .before .before .args in
-    roomFor 256 (length (A .table .now)) ≡ Done
+    firstRefusal (roomCheck 256 (length (A .table .now)) ∷ []) ≡ Done
 accepted c =
     let A = c .before .before .before .before .before .before .before .args in
-    both-done (readRecord (A .«record» .now) .answer) _ (sym (answered (c .before .before)) ∙ none _ (c .before .is-done .ensures) (c .if1 .left)) .1
+    done-append (recordChecks (A .«record» .now)) _ (sym (answered (c .before .before)) ∙ told-done _ (c .before .is-done .ensures) (c .if1 .left)) .1
 
 returns : tie.Need-returns
 returns c =
     let k = c .before .before in
     record {
       number = c .number .ensures ∙ ap numberOf (answered (k .before));
-      table = rw (c .number .ensures, refusal (k .before .first-of .result) (k .is-done .ensures) (c .before .if1 .taken));
+      table = rw (c .number .ensures, told-refused (k .before .first-of .result) (k .is-done .ensures) (c .before .if1 .taken));
     }
 
 byte-table-requires : tie.Need-byte-table-requires
@@ -54,7 +59,7 @@ returns-2 c =
     record {
       number = c .number2 .ensures ∙ ap numberOf (answered (k .before .before));
       table =
-          rw (c .number2 .ensures, none (k .before .before .first-of .result) (k .before .is-done .ensures) (k .if1 .left))
+          rw (c .number2 .ensures, told-done (k .before .before .first-of .result) (k .before .is-done .ensures) (k .if1 .left))
           (rw (long, b .byte-table .ensures ∙ ap (λ (set : View). byteTable (set .kind) (set .master)) (read .set)) at (t .copy-bytes .ensures));
     }
 

@@ -1,40 +1,46 @@
 -- `tone_table`: refused, with the output as it was; else the byte table is written.
 use native.Mathlib.Omega.{arith}
 use mathlib.Core.Path.{_≡_, sym, ap, _∙_}
+use mathlib.Core.List.{[], _∷_}
 use borrow.Author.Needs.{needs}
 use lib.ListN.{length}
 use mir.Facts.{toZ-ofZ}
 use Rattle.answers.specs.declared.Answer.the-variants.{Done}
-use Rattle.answers.specs.Numbers.{numberOf, both-done}
-use Rattle.tone_c.specs.Boundary.{givenAnswer, roomFor, toneTableAnswer}
-use Rattle.tone_c.proofs.Passed.{refusal, none, few-points, has-room}
+use Rattle.answers.specs.Numbers.{numberOf, told-refused, told-done}
+use Rattle.answers.specs.Checks.{firstRefusal, roomCheck, first-then, done-append, has-room}
+use Rattle.tone_c.specs.Boundary.{givenChecks, toneTableChecks}
+use Rattle.tone_c.proofs.Passed.{given-points}
 use Rattle.tone_c.proofs.tone_table.Statement.{statement}
 use Rattle.tone_c.proofs.tone_table.Tie as tie
 
 answered : (c : tie.After-first-of)
     → let A = c .before .before .before .before .before .args in
-    c .first-of .result ≡ toneTableAnswer (A .points .now) (A .kind) (length (A .table .now))
-answered c = rw (c .before .before .check .ensures, c .before .room-for .ensures) at (c .first-of .ensures)
+    c .first-of .result ≡ firstRefusal (toneTableChecks (A .points .now) (A .kind) (length (A .table .now)))
+answered c =
+    let A = c .before .before .before .before .before .args in
+    first-then (givenChecks (A .points .now) (A .kind)) (roomCheck 256 (length (A .table .now)) ∷ [])
+    (c .before .before .check .ensures) (c .before .room-for .ensures) (c .first-of .ensures)
 
 -- past the refusal
 accepted : (c : tie.Else1)
     → let A = c .before .before .before .before .before .before .before .args in
-    (givenAnswer (A .points .now) (A .kind) ≡ Done) × (roomFor 256 (length (A .table .now)) ≡ Done)
+    (firstRefusal (givenChecks (A .points .now) (A .kind)) ≡ Done) × (firstRefusal (roomCheck 256 (length (A .table .now)) ∷ []) ≡ Done)
 accepted c =
     let A = c .before .before .before .before .before .before .before .args in
-    both-done (givenAnswer (A .points .now) (A .kind)) _ (sym (answered (c .before .before)) ∙ none _ (c .before .is-done .ensures) (c .if1 .left))
+    done-append (givenChecks (A .points .now) (A .kind)) (roomCheck 256 (length (A .table .now)) ∷ [])
+    (sym (answered (c .before .before)) ∙ told-done _ (c .before .is-done .ensures) (c .if1 .left))
 
 returns : tie.Need-returns
 returns c =
     let k = c .before .before in
     record {
       number = c .number .ensures ∙ ap numberOf (answered (k .before));
-      table = rw (c .number .ensures, refusal (k .before .first-of .result) (k .is-done .ensures) (c .before .if1 .taken));
+      table = rw (c .number .ensures, told-refused (k .before .first-of .result) (k .is-done .ensures) (c .before .if1 .taken));
     }
 
 curve-of-requires : tie.Need-curve-of-requires
 curve-of-requires c κs =
-    let A = c .before .before .before .before .before .before .before .args in few-points (A .points .now) (A .kind) (accepted c .0)
+    let A = c .before .before .before .before .before .before .before .args in given-points (A .points .now) (A .kind) (accepted c .0)
 
 copy-bytes-requires : tie.Need-copy-bytes-requires
 copy-bytes-requires c κs =
@@ -53,7 +59,7 @@ returns-2 c =
     record {
       number = c .number2 .ensures ∙ ap numberOf (answered (k .before .before));
       table =
-          rw (c .number2 .ensures, none (k .before .before .first-of .result) (k .before .is-done .ensures) (k .if1 .left))
+          rw (c .number2 .ensures, told-done (k .before .before .first-of .result) (k .before .is-done .ensures) (k .if1 .left))
           (rw (long, b .byte-table .ensures, b .before .kind-of .ensures, b .before .before .curve-of .ensures .0, start, end)
           at (t .copy-bytes .ensures));
     }

@@ -1,43 +1,64 @@
 -- `write_record`: by the two refusals, then the copy.
 use native.Mathlib.Omega.{arith}
-use mathlib.Core.Path.{sym, _∙_}
+use mathlib.Core.Path.{_≡_, sym, _∙_}
+use Prim.Native.Nat.{_≤_}
+use lib.ListN.{length}
+use Rattle.answers.specs.declared.Answer.the-variants.{Done}
+use Rattle.answers.specs.Numbers.{told-refused, told-done}
+use Rattle.answers.specs.Checks.{has-room}
 use Rattle.points.specs.Owned.{length-told}
+use Rattle.sets.specs.Sets.{setAnswer}
 use Rattle.sets.specs.SameLaws.{Full}
-use Rattle.writing.proofs.Laws.{passed, wrote-refused, wrote-short, wrote-done}
-use borrow.Author.Tests.{not-true}
+use Rattle.writing.proofs.Laws.{wrote-refused, lists-refused, room-asked, wrote-done}
 use Rattle.writing.proofs.write_record.Statement.{statement}
 use Rattle.writing.proofs.write_record.Tie as tie
 
 returns : tie.Need-returns
 returns c =
     let k = c .before .before in
-    wrote-refused (k .before .before .args .set) (k .before .before .args .buffer .now) (k .check .result) (k .check .ensures)
-    (sym (c .before .is-done .ensures) ∙ not-true _ (c .if1 .taken))
+    let a = k .before .before .args in
+    let no = told-refused (k .check .result) (c .before .is-done .ensures) (c .if1 .taken) in
+    wrote-refused (a .set) (a .buffer .now) (k .check .result) (lists-refused (a .set) (a .buffer .now) (k .check .ensures) no) no
 
-record-of-requires : tie.Need-record-of-requires
-record-of-requires c κs = passed (c .before .before .check .result) (c .before .before .check .ensures) (c .before .is-done .ensures) (c .if1 .left)
+-- the lists have passed
+passed : (c : tie.Else1) → setAnswer (c .before .before .before .before .args .set) ≡ Done
+passed c = sym (c .before .before .check .ensures) ∙ told-done (c .before .before .check .result) (c .before .is-done .ensures) (c .if1 .left)
 
 returns-2 : tie.Need-returns-2
 returns-2 c =
-    let k = c .before .before .before .before in
-    let a = k .before .before .args in
-    wrote-short (a .set) (a .buffer .now) (passed (k .check .result) (k .check .ensures) (c .before .before .before .is-done .ensures) (c .before .before .if1 .left))
-    (c .before .record-of .ensures .0) (c .if2 .taken)
+    let r = c .before .before in
+    let k = r .before .before in
+    let a = k .before .before .before .before .args in
+    wrote-refused (a .set) (a .buffer .now) (r .room-for .result)
+    (room-asked (a .set) (a .buffer .now) (passed k) (r .before .record-of .ensures .0) (r .room-for .ensures))
+    (told-refused (r .room-for .result) (c .before .is-done2 .ensures) (c .if2 .taken))
+
+-- there is room
+module _ (c : tie.Else2) where
+  accepted : c .before .before .room-for .result ≡ Done
+  accepted = told-done (c .before .before .room-for .result) (c .before .is-done2 .ensures) (c .if2 .left)
+
+  fits : let k = c .before .before .before in
+      k .record-of .result .length ≤ length (k .before .before .before .before .before .args .buffer .now)
+  fits = has-room _ _ (sym (c .before .before .room-for .ensures) ∙ accepted)
+
+copy-out-requires : tie.Need-copy-out-requires
+copy-out-requires c κs = (c .before .before .before .before .record-of .ensures .0 .fits, fits (c .before))
 
 returns-3 : tie.Need-returns-3
 returns-3 c =
-    let r = c .before .before .before .before .before in
-    let k = r .before .before .before in
-    let a = k .before .before .args in
-    let own = k .before .before .good .0 .1 .1 in
+    let e = c .before .before .before .before in
+    let r = e .before .before .before in
+    let k = r .before in
+    let a = k .before .before .before .before .args in
+    let own = k .before .before .before .before .good .0 .1 .1 in
     let full : Full (a .set) = record {
       master = search (own .0, length-told);
       red = search (own .1 .0 .1 .1 .1 .0, length-told);
       green = search (own .1 .1 .0 .1 .1 .1 .0, length-told);
       blue = search (own .1 .1 .1 .0 .1 .1 .1 .0, length-told);
     } in
-    wrote-done (a .set) (a .buffer .now) (passed (k .check .result) (k .check .ensures) (r .before .before .is-done .ensures) (r .before .if1 .left))
-    (r .record-of .ensures .0) (c .before .before .before .before .if2 .left) (c .before .before .copy-out .ensures)
+    wrote-done (a .set) (a .buffer .now) (passed k) (r .record-of .ensures .0) (accepted e) (fits e) (c .before .before .copy-out .ensures)
     (record { full = full; kind = r .record-of .ensures .1 })
 
 pub write-record-spec : {M : Type 1} → statement M
@@ -45,6 +66,10 @@ write-record-spec =
     tie.close
     (tie.spec
     (omega arith) (omega arith)
-    returns record-of-requires returns-2
+    returns
+    (λ c κs. passed c)
     (omega arith) (omega arith)
+    returns-2
+    copy-out-requires
+    (omega arith)
     returns-3)

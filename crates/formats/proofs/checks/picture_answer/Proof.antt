@@ -5,7 +5,9 @@ use native.Mathlib.Omega.{arith}
 use borrow.Author.Needs.{needs}
 use borrow.Author.Tests.{lt-ltb, le-ltb, eq-eqb, ne-eqb}
 use Rattle.rows.specs.Places.{mul-bound}
-use Rattle.formats.specs.Checks.{pictureAnswer}
+use Rattle.answers.specs.Checks.{first-then}
+use Rattle.formats.specs.Formats.{bytesAPixel}
+use Rattle.formats.specs.Checks.{planeChecks, outputChecks, pictureAnswer}
 use Rattle.formats.specs.CheckLaws.{sides}
 use Rattle.formats.specs.FormatLaws.{row-small}
 use Rattle.formats.proofs.checks.picture_answer.Statement.{statement}
@@ -61,18 +63,22 @@ mul-output-answer c =
 returns-4 : tie.Need-returns-4
 unfolding pictureAnswer
 returns-4 c =
-    let k = c .before .before .before .before in
+    let plane = c .before .before in
+    let k = plane .before .before in
+    let A = k .before .before .before .before .before .args in
+    let row = A .w * bytesAPixel (A .format) in
+    let read = k .before .before .before .before .planes-read .ensures in
+    let p-is = plane .before .bytes-a-pixel .ensures in
     rw (
-      ← c .before .before .before .bytes-a-pixel .ensures,
-      ← c .before .before .plane-answer .ensures,
-      ← c .before .output-answer .ensures,
-      ← k .before .before .before .before .planes-read .ensures,
+      ← read,
       ne-eqb _ 0 (k .before .before .before .if1 .left),
       ← k .before .before .too-large .ensures,
       k .before .if2 .left,
       le-ltb _ _ (k .if3 .left),
+      read,
     )
-    (c .first-of .ensures)
+    (first-then (planeChecks (A .w) (A .h) row (A .step) (A .held .plane)) (outputChecks (A .format) (A .h * row) (A .held))
+    (rw p-is at (plane .plane-answer .ensures)) (rw p-is at (c .before .output-answer .ensures)) (c .first-of .ensures))
 
 pub picture-answer-spec : {M : Type 1} → statement M
 picture-answer-spec =

@@ -2,13 +2,11 @@
 use mathlib.Core.Path.{sym, _∙_}
 use borrow.Author.Needs.{needs}
 use borrow.Author.Tests.{lt-ltb, le-ltb}
-use Rattle.formats.specs.Checks.{planeAnswer}
 use Rattle.formats.specs.CheckLaws.{steps}
 use Rattle.formats.proofs.checks.plane_answer.Statement.{statement}
 use Rattle.formats.proofs.checks.plane_answer.Tie as tie
 
 returns : tie.Need-returns
-unfolding planeAnswer
 returns c = rw (← c .before .wrong-step .ensures, c .if1 .taken)
 
 needed-bytes-requires : tie.Need-needed-bytes-requires
@@ -17,13 +15,11 @@ needed-bytes-requires c κs =
     let q = steps (A .row) (A .step) (sym (c .before .wrong-step .ensures) ∙ c .if1 .left) in (c .before .before .pre, q .0, q .1)
 
 returns-2 : tie.Need-returns-2
-unfolding planeAnswer
 returns-2 c =
     let k = c .before in
     rw (← k .before .before .wrong-step .ensures, k .before .if1 .left, ← k .needed-bytes .ensures, lt-ltb _ _ (c .if2 .taken))
 
 returns-3 : tie.Need-returns-3
-unfolding planeAnswer
 returns-3 c =
     let k = c .before in
     rw (← k .before .before .wrong-step .ensures, k .before .if1 .left, ← k .needed-bytes .ensures, le-ltb _ _ (c .if2 .left))

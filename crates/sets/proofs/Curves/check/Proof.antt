@@ -1,14 +1,14 @@
 -- `Curves::check`: its calls are the definition's.
 use native.Mathlib.Omega.{arith}
-use Rattle.sets.specs.Sets.{setAnswer}
+use Rattle.sets.specs.Legal.{set-answer}
 use Rattle.sets.proofs.Curves.check.Statement.{statement}
 use Rattle.sets.proofs.Curves.check.Tie as tie
 
 returns : tie.Need-returns
-unfolding setAnswer
 returns c =
     let lists = c .before .before .before in
     rw (
+      set-answer (lists .before .before .before .before .args .«self»),
       c .first-of3 .ensures,
       c .before .first-of2 .ensures,
       c .before .before .first-of .ensures,

@@ -1,20 +1,18 @@
--- `given::check`: the two tests in their order.
+-- `given::check`: 3 and 5 in their order.
 use native.Mathlib.Omega.{arith}
-use borrow.Author.Tests.{lt-ltb, le-ltb}
+use mathlib.Core.List.{[], _∷_}
+use Rattle.answers.specs.Checks.{first-then}
+use Rattle.points.specs.Points.{countCheck}
+use Rattle.records.specs.Checks.{kindCheck}
 use Rattle.tone_c.specs.Boundary.{countOf}
 use Rattle.tone_c.proofs.given.check.Statement.{statement}
 use Rattle.tone_c.proofs.given.check.Tie as tie
 
 returns : tie.Need-returns
-returns c = rw (lt-ltb 64 (countOf (c .before .args .points .now)) (omega arith))
-
-returns-2 : tie.Need-returns-2
-returns-2 c =
-    let a = c .before .before .args in rw (le-ltb 64 (countOf (a .points .now)) (omega arith), lt-ltb 9 (a .kind) (omega arith))
-
-returns-3 : tie.Need-returns-3
-returns-3 c =
-    let a = c .before .before .args in rw (le-ltb 64 (countOf (a .points .now)) (omega arith), le-ltb 9 (a .kind) (omega arith))
+returns c =
+    let a = c .before .before .before .before .args in
+    first-then (countCheck (countOf (a .points .now)) ∷ []) (kindCheck (a .kind) ∷ [])
+    (c .before .before .check-count .ensures) (c .before .kind-answer .ensures) (c .first-of .ensures)
 
 pub check-spec : {M : Type 1} → statement M
-check-spec = tie.close (tie.spec returns returns-2 returns-3)
+check-spec = tie.close (tie.spec (omega arith) (omega arith) (omega arith) returns)

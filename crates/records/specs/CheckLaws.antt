@@ -1,8 +1,8 @@
--- The record reader answers with the number of the first of its checks that fails, and hands back the empty set where one does.
-use Prim.Native.Nat.{ℕ, _*_, _<_}
+-- The record reader answers the first refusal of the record's checks, and hands back the empty set where one of them fails.
+use Prim.Native.Nat.{ℕ, _*_}
 use native.Mathlib.Omega.{arith}
-use mathlib.Core.Path.{_≡_, refl, sym, _∙_}
-use mathlib.Core.Bool.{Bool, true, false, cond, not}
+use mathlib.Core.Path.{_≡_, refl}
+use mathlib.Core.Bool.{Bool, true, false, cond, not, true≢false}
 use mathlib.Core.List.{List, [], _∷_, _++_}
 use lib.Dec.{ltb, eqb}
 use lib.ListN.{length, getD, drop}
@@ -10,7 +10,6 @@ use borrow.Author.Tests.{le-ltb}
 use Rattle.answers.specs.declared.Answer.{Answer}
 use Rattle.answers.specs.declared.Answer.the-variants.{
   Done,
-  ReservedBit,
   RecordTruncated,
   PointCount,
   PointsNotRising,
@@ -18,14 +17,15 @@ use Rattle.answers.specs.declared.Answer.the-variants.{
   FieldMismatch,
   TrailingBytes,
 }
-use Rattle.answers.specs.Numbers.{numberOf, isDone}
+use Rattle.answers.specs.Numbers.{isDone}
+use Rattle.answers.specs.Checks.{Check, _when_, firstRefusal, first-append}
 use Rattle.single.specs.RuleLaws.{by-test}
 use Rattle.points.specs.Points.{limit, rises}
 use Rattle.tables.specs.declared.CurveInterpolation.the-variants.{Cardinal}
 use Rattle.tables.specs.Kinds.{kindNumber}
 use Rattle.sets.specs.declared.Colour.the-variants.{Red, Green, Blue}
 use Rattle.sets.specs.Sets.{View, emptyView, default}
 use Rattle.records.specs.Format.{
   Parse,
   good,
   refused,
@@ -51,9 +51,7 @@ use Rattle.records.specs.Format.{
   readFields,
   readRecord,
 }
-use Rattle.promises.specs.Checks.{
-  Check,
-  _when_,
+use Rattle.records.specs.Checks.{
   isEmpty,
   pointChecks,
   fieldChecks,
@@ -64,7 +62,6 @@ use Rattle.promises.specs.Checks.{
   mapChecks,
   recordChecks,
 }
-use Rattle.promises.specs.Follows.{Follows, follows-none, check, unless, passes, stops}
 
 abbrev answerOf : {A : Type 0} → Parse A → Answer
 answerOf (good v s) = Done
@@ -74,39 +71,39 @@ abbrev GoesOn : {A : Type 0} → List ℕ → Parse A → Type 0
 GoesOn t (good v s) = s ≡ t
 GoesOn t (refused a) = isDone a ≡ false
 
--- a reading follows the checks, and where it refuses nothing it goes on with t
+-- a reading answers the first refusal of the checks, and where it refuses nothing it goes on with t
 record Reads {A : Type 0} (cs : List Check) (t : List ℕ) (p : Parse A) : Type 0 where
-  follows : Follows cs (answerOf p)
+  answer : answerOf p ≡ firstRefusal cs
   goes-on : GoesOn t p
 
 -- one check more in front
 refuses : {A : Type 0} (t : Bool) (a : Answer) {cs : List Check} {u : List ℕ} {p : Parse A} → isDone a ≡ false → Reads cs u p
-    → Reads (numberOf a when t ∷ cs) u (cond t (refused a) p)
-refuses true a refusal f = record { follows = record { number = refl; done = refusal }; goes-on = refusal }
-refuses false a refusal f = record { follows = check false a refusal (f .follows); goes-on = f .goes-on }
+    → Reads (a when t ∷ cs) u (cond t (refused a) p)
+refuses true a refusal f = record { answer = rw refusal; goes-on = refusal }
+refuses false a refusal f = record { answer = rw refusal (f .answer); goes-on = f .goes-on }
 
 -- the last check of a reading
 reads-unless : {A : Type 0} (t : Bool) (a : Answer) (v : A) (s : List ℕ) → isDone a ≡ false
-    → Reads (numberOf a when not t ∷ []) s (cond t (good v s) (refused a))
-reads-unless true a v s refusal = record { follows = unless true a refusal; goes-on = refl }
-reads-unless false a v s refusal = record { follows = unless false a refusal; goes-on = refusal }
+    → Reads (a when not t ∷ []) s (cond t (good v s) (refused a))
+reads-unless true a v s refusal = record { answer = rw refusal; goes-on = refl }
+reads-unless false a v s refusal = record { answer = rw refusal; goes-on = refusal }
 
 reads-on : {A : Type 0} (v : A) (s : List ℕ) → Reads [] s (good v s)
-reads-on v s = record { follows = follows-none; goes-on = refl }
+reads-on v s = record { answer = refl; goes-on = refl }
 
 -- one reading after another
 reads-then : {A B : Type 0} {cs ds : List Check} {t u : List ℕ} {p : Parse A} (next : A → List ℕ → Parse B) → Reads cs t p
     → ((v : A) → Reads ds u (next v t)) → Reads (cs ++ ds) u (p ▷ next)
-reads-then {cs = cs} {p = good v s} next f g =
+reads-then {cs = cs} {ds = ds} {p = good v s} next f g =
     let h = rw (← f .goes-on) at (g v) in
-    record { follows = passes cs (sym (f .follows .done)) (h .follows); goes-on = h .goes-on }
+    record { answer = rw (first-append cs ds, ← f .answer) (h .answer); goes-on = h .goes-on }
 reads-then {cs = cs} {ds = ds} {p = refused a} next f g =
-    record { follows = stops cs ds (sym (f .follows .done) ∙ f .goes-on) (f .follows); goes-on = f .goes-on }
+    record { answer = rw (first-append cs ds, ← f .answer, f .goes-on); goes-on = f .goes-on }
 
 -- a list
 list-read : (least : ℕ) (s : List ℕ) → Reads (pointChecks least s) (drop (getD s 0 0 * pointBytes) (drop 1 s)) (readList least s)
 unfolding readList readPoints
-list-read least [] = record { follows = record { number = refl; done = refl }; goes-on = refl }
+list-read least [] = record { answer = refl; goes-on = refl }
 list-read least (n ∷ s) =
     refuses false RecordTruncated refl
     (refuses (ltb limit n) PointCount refl
@@ -120,16 +117,16 @@ field-read false least s = reads-on [] s
 
 -- a field read, and a member replaced by it
 step-read : {A B : Type 0} {cs : List Check} {t : List ℕ} {p : Parse A} (f : A → B) → Reads cs t p → Reads cs t (p ▷ λ v s. good (f v) s)
-step-read {p = good v s} f h = record { follows = h .follows; goes-on = h .goes-on }
-step-read {p = refused a} f h = record { follows = h .follows; goes-on = h .goes-on }
+step-read {p = good v s} f h = record { answer = h .answer; goes-on = h .goes-on }
+step-read {p = refused a} f h = record { answer = h .answer; goes-on = h .goes-on }
 
 -- the kind
-tension-read : (s : List ℕ) → Reads (2 when ltb (length s) 1 ∷ []) (drop 1 s) (readTension s)
+tension-read : (s : List ℕ) → Reads (RecordTruncated when ltb (length s) 1 ∷ []) (drop 1 s) (readTension s)
 unfolding readTension
-tension-read [] = record { follows = record { number = refl; done = refl }; goes-on = refl }
+tension-read [] = record { answer = refl; goes-on = refl }
 tension-read (q ∷ s) = rw (le-ltb (length (q ∷ s)) 1 (omega arith)) (refuses false RecordTruncated refl (reads-on (Cardinal q) s))
 
-carried-read : (k : ℕ) (s : List ℕ) → Reads (2 when ltb (length s) (carriedLength k) ∷ []) (drop (carriedLength k) s) (readCarried k s)
+carried-read : (k : ℕ) (s : List ℕ) → Reads (RecordTruncated when ltb (length s) (carriedLength k) ∷ []) (drop (carriedLength k) s) (readCarried k s)
 unfolding readCarried readSlopes
 carried-read k s =
     by-test (eqb k 7) (λ t. rw t (tension-read s))
@@ -138,22 +135,22 @@ carried-read k s =
     (λ u. rw (t, u, le-ltb (length s) 0 (omega arith)) (refuses false RecordTruncated refl (reads-on _ s))))
 
 agreed-read : (m k : ℕ) (s : List ℕ)
-    → Reads (6 when not (eqb (carriedBits m) (kindBits k)) ∷ 2 when ltb (length s) (carriedLength k) ∷ []) (drop (carriedLength k) s) (readAgreed m k s)
+    → Reads (FieldMismatch when not (eqb (carriedBits m) (kindBits k)) ∷ RecordTruncated when ltb (length s) (carriedLength k) ∷ []) (drop (carriedLength k) s) (readAgreed m k s)
 agreed-read m k s =
     by-test (eqb (carriedBits m) (kindBits k)) (λ t. rw t (refuses false FieldMismatch refl (carried-read k s)))
-    (λ t. rw t (record { follows = record { number = refl; done = refl }; goes-on = refl }))
+    (λ t. rw t (record { answer = refl; goes-on = refl }))
 
 kind-read : (stands : Bool) (m : ℕ) (s : List ℕ) → Reads (kindChecks stands m s) (afterKind stands s) (readNumber default stands s ▷ readAgreed m)
 unfolding readNumber
 kind-read false m s = refuses false RecordTruncated refl (refuses false UnknownKind refl (agreed-read m (kindNumber default) s))
-kind-read true m [] = record { follows = record { number = refl; done = refl }; goes-on = refl }
+kind-read true m [] = record { answer = refl; goes-on = refl }
 kind-read true m (k ∷ s) =
-    by-test (ltb 9 k) (λ t. rw t (record { follows = record { number = refl; done = refl }; goes-on = refl }))
+    by-test (ltb 9 k) (λ t. rw t (record { answer = refl; goes-on = refl }))
     (λ t. rw t (refuses false RecordTruncated refl (refuses false UnknownKind refl (agreed-read m k s))))
 
-end-read : (v : View) (s : List ℕ) → Reads (7 when not (isEmpty s) ∷ []) [] (endStep v s)
+end-read : (v : View) (s : List ℕ) → Reads (TrailingBytes when not (isEmpty s) ∷ []) [] (endStep v s)
 end-read v [] = refuses false TrailingBytes refl (reads-on v [])
-end-read v (b ∷ s) = record { follows = record { number = refl; done = refl }; goes-on = refl }
+end-read v (b ∷ s) = record { answer = refl; goes-on = refl }
 
 -- the fields in their order
 fields-read : (m : ℕ) (s : List ℕ) → Reads (mapChecks m s) [] (readFields default m s)
@@ -174,22 +171,21 @@ fields-read m s =
     (λ v. step-read _ (kind-read (bit 16 m) m kind)))
     (λ v. end-read v (afterKind (bit 16 m) kind))
 
-result-follows : {cs : List Check} {p : Parse View} → Reads cs [] p → Follows cs (result p .answer)
-result-follows {p = good v s} f = f .follows
-result-follows {p = refused a} f = f .follows
+result-answer : {cs : List Check} {p : Parse View} → Reads cs [] p → result p .answer ≡ firstRefusal cs
+result-answer {p = good v s} f = f .answer
+result-answer {p = refused a} f = f .answer
 
-pub record-follows : (s : List ℕ) → Follows (recordChecks s) (readRecord s .answer)
+pub read-answer : (s : List ℕ) → readRecord s .answer ≡ firstRefusal (recordChecks s)
 unfolding readRecord
-record-follows [] = record { number = refl; done = refl }
-record-follows (m ∷ s) =
-    by-test (bit 128 m) (λ t. rw t (record { number = refl; done = refl })) (λ t. rw t (check false ReservedBit refl (result-follows (fields-read m s))))
+read-answer [] = refl
+read-answer (m ∷ s) = by-test (bit 128 m) (λ t. rw t) (λ t. rw t (result-answer (fields-read m s)))
 
 -- ---- a refused record holds nothing
-result-empty : (p : Parse View) → 0 < numberOf (result p .answer) → result p .set ≡ emptyView
-result-empty (good v s) h = absurd (omega arith)
-result-empty (refused a) h = refl
+result-empty : (p : Parse View) → isDone (result p .answer) ≡ false → result p .set ≡ emptyView
+result-empty (good v s) e = absurd (true≢false e)
+result-empty (refused a) e = refl
 
-pub record-empty : (s : List ℕ) → 0 < numberOf (readRecord s .answer) → readRecord s .set ≡ emptyView
+pub read-empty : (s : List ℕ) → isDone (readRecord s .answer) ≡ false → readRecord s .set ≡ emptyView
 unfolding readRecord
-record-empty [] h = refl
-record-empty (m ∷ s) h = by-test (bit 128 m) (λ t. rw t) (λ t. rw t (result-empty (readFields default m s) (rw t at h)))
+read-empty [] e = refl
+read-empty (m ∷ s) e = by-test (bit 128 m) (λ t. rw t) (λ t. rw t (result-empty (readFields default m s) (rw t at e)))

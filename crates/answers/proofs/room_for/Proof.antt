@@ -1,8 +1,8 @@
--- `given::room_for`: one test.
+-- `room_for`: one test.
 use native.Mathlib.Omega.{arith}
 use borrow.Author.Tests.{lt-ltb, le-ltb}
-use Rattle.tone_c.proofs.given.room_for.Statement.{statement}
-use Rattle.tone_c.proofs.given.room_for.Tie as tie
+use Rattle.answers.proofs.room_for.Statement.{statement}
+use Rattle.answers.proofs.room_for.Tie as tie
 
 returns : tie.Need-returns
 returns c = let a = c .before .args in rw (lt-ltb (a .held) (a .count) (omega arith))

@@ -1,0 +1,80 @@
+-- The checks of a stored record in document 01's order, "When a call says no", as a flat list: the places of the fields are reckoned from their counts, so
+-- that the order can be read without the parser of `Format`, whose answer is the first refusal of the list (`CheckLaws`). Definitions only.
+use Prim.Native.Nat.{ℕ, _*_}
+use mathlib.Core.Bool.{Bool, true, false, cond, not, _&&_}
+use mathlib.Core.List.{List, [], _∷_, _++_}
+use lib.Dec.{ltb, eqb}
+use lib.ListN.{length, getD, drop}
+use Rattle.answers.specs.declared.Answer.the-variants.{ReservedBit, RecordTruncated, PointCount, UnknownKind, FieldMismatch, TrailingBytes}
+use Rattle.answers.specs.Checks.{Check, _when_}
+use Rattle.points.specs.Points.{countCheck}
+use Rattle.tables.specs.Kinds.{kindNumber}
+use Rattle.sets.specs.Sets.{default, risingCheck}
+use Rattle.records.specs.Format.{bit, carriedBits, kindBits, pointBytes, pairs}
+
+abbrev pub isEmpty : List ℕ → Bool
+isEmpty [] = true
+isEmpty (b ∷ s) = false
+
+-- a list of at least so many points at the front of s: "a missing count, 3, missing points, 4"
+abbrev pub pointChecks : ℕ → List ℕ → List Check
+pointChecks least s =
+    let n = getD s 0 0 in
+    let t = drop 1 s in
+    RecordTruncated when isEmpty s
+    ∷ countCheck n
+    ∷ PointCount when ltb n least
+    ∷ RecordTruncated when ltb (length t) (n * pointBytes)
+    ∷ risingCheck (pairs n t)
+    ∷ []
+
+-- "only the fields whose bit stands"; and what follows the field
+abbrev pub fieldChecks : Bool → ℕ → List ℕ → List Check
+fieldChecks stands least s = cond stands (pointChecks least s) []
+
+abbrev pub afterField : Bool → List ℕ → List ℕ
+afterField stands s = cond stands (drop (getD s 0 0 * pointBytes) (drop 1 s)) s
+
+-- the kind's number, where its bit stands its byte, and what follows that byte
+abbrev pub kindIs : Bool → List ℕ → ℕ
+kindIs stands s = cond stands (getD s 0 0) (kindNumber default)
+
+abbrev pub afterByte : Bool → List ℕ → List ℕ
+afterByte stands s = cond stands (drop 1 s) s
+
+-- a tension is one byte, two slopes are four
+abbrev pub carriedLength : ℕ → ℕ
+carriedLength k = cond (eqb k 7) 1 (cond (eqb k 8) 4 0)
+
+-- 5: "The kind byte is above 9"
+abbrev pub kindCheck : ℕ → Check
+kindCheck k = UnknownKind when ltb 9 k
+
+-- "a missing kind byte, 5; then 6, and only then 2 for tension or slopes"
+abbrev pub kindChecks : Bool → ℕ → List ℕ → List Check
+kindChecks stands m s =
+    let k = kindIs stands s in
+    RecordTruncated when (stands && isEmpty s)
+    ∷ kindCheck k
+    ∷ FieldMismatch when not (eqb (carriedBits m) (kindBits k))
+    ∷ RecordTruncated when ltb (length (afterByte stands s)) (carriedLength k)
+    ∷ []
+
+abbrev pub afterKind : Bool → List ℕ → List ℕ
+afterKind stands s = drop (carriedLength (kindIs stands s)) (afterByte stands s)
+
+-- "Inside a record 2 to 5 run field by field": master, red, green, blue and kind, after the map m, each where its bit stands, which is named by its weight;
+-- then 7
+abbrev pub mapChecks : ℕ → List ℕ → List Check
+mapChecks m master =
+    let red = afterField (bit 1 m) master in
+    let green = afterField (bit 2 m) red in
+    let blue = afterField (bit 4 m) green in
+    let kind = afterField (bit 8 m) blue in
+    fieldChecks (bit 1 m) 1 master ++ fieldChecks (bit 2 m) 0 red ++ fieldChecks (bit 4 m) 0 green ++ fieldChecks (bit 8 m) 0 blue
+    ++ kindChecks (bit 16 m) m kind ++ TrailingBytes when not (isEmpty (afterKind (bit 16 m) kind)) ∷ []
+
+-- `read_record`: a record without its map has nothing else to check
+abbrev pub recordChecks : List ℕ → List Check
+recordChecks [] = RecordTruncated when true ∷ []
+recordChecks (m ∷ s) = ReservedBit when bit 128 m ∷ mapChecks m s
