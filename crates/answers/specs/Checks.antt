@@ -38,7 +38,7 @@ module _ (c : Check) where
   by-answer true h e = absurd (true≢false (sym e))
   by-answer false h e = h
 
-  refusal : refuses c ≡ true → isDone (c .answer) ≡ false
+  pub refusal : refuses c ≡ true → isDone (c .answer) ≡ false
   refusal e = by-answer (isDone (c .answer)) refl e
 
 -- ---- lists behind one another

@@ -9,6 +9,7 @@ use lib.Ieee.{Float, nan, lt, le}
 use Rattle.lists.specs.Tabulate.{tabulate}
 use Rattle.answers.specs.declared.Answer.{Answer}
 use Rattle.answers.specs.declared.Answer.the-variants.{TableLength}
+use Rattle.answers.specs.Numbers.{isDone}
 use Rattle.answers.specs.Checks.{Check, _when_, firstRefusal}
 use Rattle.floats.specs.Notation.{_⊕_, _⊖_, _⊗_, _⊘_}
 use Rattle.single.specs.Constants.{𝟎, 𝟏, 𝟐𝟓𝟓, 𝟒𝟎𝟗𝟓}
@@ -41,9 +42,10 @@ indexFrom values at j = floorOf (position (getD values (at + j) nan))
 abbrev pub lookupChecks : ℕ → List Check
 lookupChecks S = TableLength when not (eqb S 4096) ∷ []
 
--- the values after the call: "Each lent value is replaced by its result", unless the table's length is not 4,096, which is refused with 14
+-- the values after the call: "Each lent value is replaced by its result", unless the table is refused
 unfoldable pub lookedUp : List Float → List Float → List Float
-lookedUp table values = cond (eqb (length table) 4096) (tabulate (length values) (looked table values)) values
+lookedUp table values =
+    cond (isDone (firstRefusal (lookupChecks (length table)))) (tabulate (length values) (looked table values)) values
 
 -- the call: its answer, and the values after it
 pub record LookupCall (table values : List Float) (answer : Answer) (after : List Float) : Type 0 where

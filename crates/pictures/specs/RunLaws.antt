@@ -8,7 +8,7 @@ use borrow.Author.Tests.{ltb-false, eqb-false}
 use Rattle.answers.specs.declared.Answer.the-variants.{Done}
 use Rattle.answers.specs.Checks.{AllPassed, roomCheck, done-append, all-passed}
 use Rattle.tables.specs.Tables.{byteTable}
-use Rattle.sets.specs.Sets.{View, viewOf, setChecks, setAnswer}
+use Rattle.sets.specs.Sets.{View, viewOf, curveChecks, setChecks, setAnswer}
 use Rattle.sets.specs.Legal.{Legal, legal-view}
 use Rattle.formats.specs.declared.PixelFormat.{PixelFormat}
 use Rattle.formats.specs.Formats.{planesRead}
@@ -37,7 +37,7 @@ unfolding answer setAnswer
 accepted-run r e =
     let f = r .format in
     let checks = pictureChecks f (r .width) (r .height) (r .planes) (r .plane .step) (held r) in
-    let lists = done-append (setChecks (r .set)) checks e in
+    let lists = done-append (setChecks curveChecks (r .set)) checks e in
     let format = all-passed checks (lists .1) in
     let size = format .1 in
     let planes = size .1 in

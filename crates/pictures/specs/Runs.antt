@@ -16,7 +16,7 @@ use Rattle.tables.specs.Tables.{byteTable}
 use Rattle.sets.specs.declared.Curves.{Curves}
 use Rattle.sets.specs.declared.Colour.{Colour}
 use Rattle.sets.specs.declared.Colour.the-variants.{Red, Green, Blue}
-use Rattle.sets.specs.Sets.{View, viewOf, colourOf, ownOrMaster, setChecks}
+use Rattle.sets.specs.Sets.{View, viewOf, colourOf, ownOrMaster, curveChecks, setChecks}
 use Rattle.sets.specs.Carried.{carriedOf}
 use Rattle.rows.specs.Bytes.{three, rowByte}
 use Rattle.rows.specs.Rows.{tightByte}
@@ -105,7 +105,7 @@ module _ (r : Run) where
 
   -- the checks of the set call: 3 and 4 of the set's lists, then 8 to 13
   abbrev pub runChecks : List Check
-  runChecks = setChecks (r .set) ++ pictureChecks (r .format) (r .width) (r .height) (r .planes) (r .plane .step) held
+  runChecks = setChecks curveChecks (r .set) ++ pictureChecks (r .format) (r .width) (r .height) (r .planes) (r .plane .step) held
 
   unfoldable pub answer : Answer
   answer = firstRefusal runChecks

@@ -10,16 +10,15 @@ use lib.ListN.{length, length-append, length-drop}
 use lib.Dec.{ltb, eqb}
 use lib.IntN.{pos}
 use borrow.Author.Tests.{ltb-false}
-use Rattle.answers.specs.declared.Answer.the-variants.{Done, ReservedBit}
+use Rattle.answers.specs.declared.Answer.the-variants.{Done, ReservedBit, RecordTruncated}
+use Rattle.answers.specs.Checks.{_when_}
 use Rattle.single.specs.RuleLaws.{by-test}
 use Rattle.points.specs.declared.Point.{Point}
-use Rattle.points.specs.Points.{rises}
 use Rattle.tables.specs.declared.CurveInterpolation.{CurveInterpolation}
 use Rattle.tables.specs.Kinds.{kindOf}
 use Rattle.sets.specs.declared.Colour.{Colour}
 use Rattle.sets.specs.declared.Colour.the-variants.{Red, Green, Blue}
 use Rattle.sets.specs.Sets.{View, emptyView, default, withColour}
-use Rattle.points.specs.Points.{limit}
 use Rattle.record_facts.specs.ReadLegal as Read
 use Rattle.records.specs.Format.{
   Parse,
@@ -28,17 +27,18 @@ use Rattle.records.specs.Format.{
   _▷_,
   bit,
   colourBit,
-  carriedBits,
-  kindBits,
   pointBytes,
   pairs,
+  pointChecks,
   readPoints,
   readList,
   readField,
+  kindCheck,
   readNumber,
   readTension,
   readSlopes,
   readCarried,
+  bitsCheck,
   readAgreed,
   readKind,
   masterStep,
@@ -50,6 +50,7 @@ use Rattle.records.specs.Format.{
   result,
   readRecord,
 }
+use Rattle.records.specs.CheckLaws.{checked-has}
 use Rattle.writing.specs.Encode.{pairBytes, fieldBytes, masterField, kindBytes, carriedBytes, encode}
 use Rattle.writing.specs.Lengths.{pairs-length, kind-length}
 
@@ -89,12 +90,15 @@ masterCost l = fieldCost (masterField l)
 points-within : (least n : ℕ) (s : List ℕ) → Within pairsCost (length s) (readPoints least n s)
 unfolding readPoints
 points-within least n s =
-    within-either pairsCost (length s) (ltb limit n) _ _ (λ many. tt)
-    (λ few. within-either pairsCost (length s) (ltb n least) _ _ (λ less. tt)
-    (λ enough. within-either pairsCost (length s) (ltb (length s) (n * pointBytes)) _ _ (λ short. tt)
-    (λ whole. within-either pairsCost (length s) (rises (pairs n s)) _ _
-    (λ rising.
-    omega (arith, pairs-length (pairs n s), Read.pairs-length n s, length-drop (n * pointBytes) s, ltb-false (length s) (n * pointBytes) whole)) (λ falls. tt))))
+    checked-has (Within pairsCost (length s)) (λ a. tt) (pointChecks least n s) _
+    (λ passed.
+    omega (
+      arith,
+      pairs-length (pairs n s),
+      Read.pairs-length n s,
+      length-drop (n * pointBytes) s,
+      ltb-false (length s) (n * pointBytes) (passed .1 .1 .0),
+    ))
 
 list-within : (least : ℕ) (s : List ℕ) → Within listCost (length s) (readList least s)
 unfolding readList
@@ -141,8 +145,8 @@ tension-within (q ∷ s) = omega arith
 slopes-within : (s : List ℕ) → Within carriedCost (length s) (readSlopes s)
 unfolding readSlopes
 slopes-within s =
-    within-either carriedCost (length s) (ltb (length s) 4) _ _ (λ short. tt)
-    (λ whole. omega (arith, length-drop 4 s, ltb-false (length s) 4 whole))
+    checked-has (Within carriedCost (length s)) (λ a. tt) (RecordTruncated when ltb (length s) 4 ∷ []) _
+    (λ whole. omega (arith, length-drop 4 s, ltb-false (length s) 4 (whole .0)))
 
 carried-within : (n : ℕ) (s : List ℕ) → Within carriedCost (length s) (readCarried n s)
 unfolding readCarried
@@ -157,14 +161,15 @@ numberCost n = 1
 kind-within : (named : Bool) (m : ℕ) (s : List ℕ) → Within kindCost (length s) (readNumber default named s ▷ readAgreed m)
 unfolding readNumber readCarried
 kind-within false m s =
-    within-either kindCost (length s) (eqb (carriedBits m) (kindBits 2)) _ _ (λ agrees. omega arith) (λ disagrees. tt)
+    checked-has (Within kindCost (length s)) (λ a. tt) (bitsCheck m 2 ∷ []) (readCarried 2 s) (λ agrees. omega arith)
 kind-within true m [] = tt
 kind-within true m (n ∷ s) =
     within-then numberCost (suc (length s)) kindCost (suc (length s)) (readNumber default true (n ∷ s)) (readAgreed m)
-    (within-either numberCost (suc (length s)) (ltb 9 n) _ _ (λ above. tt) (λ known. omega arith))
-    (λ k t h. within-either kindCost (suc (length s)) (eqb (carriedBits m) (kindBits k)) _ _
+    (checked-has (Within numberCost (suc (length s))) (λ a. tt) (kindCheck n ∷ []) (good n s) (λ known. omega arith))
+    (λ k t h.
+    checked-has (Within kindCost (suc (length s))) (λ a. tt) (bitsCheck m k ∷ []) (readCarried k t)
     (λ agrees. within-less carriedCost (length t) kindCost (suc (length s)) (readCarried k t) (carried-within k t)
-    (λ v j i. omega (arith, kind-length v))) (λ disagrees. tt))
+    (λ v j i. omega (arith, kind-length v))))
 
 -- ---- the set
 abbrev viewCost : View → ℕ

@@ -6,15 +6,17 @@ use mathlib.Core.List.{List, [], _∷_}
 use mathlib.Core.Option.{Option}
 use Prim.Native.Nat.{ℕ, zero, suc, _+_, _*_, _<_}
 use native.Mathlib.Omega.{arith}
-use borrow.Author.Tests.{ltb-true, ltb-false}
+use borrow.Author.Tests.{ltb-true, ltb-false, not-false}
 use lib.Dec.{ltb, eqb, lit<, lit≤}
 use lib.IntN.{pos}
 use lib.ListN.{length, getD, drop}
 use lib.Seq.{getD-drop}
 use lib.Signed.{mag}
+use Rattle.answers.specs.declared.Answer.the-variants.{RecordTruncated}
+use Rattle.answers.specs.Checks.{_when_}
 use Rattle.single.specs.RuleLaws.{by-test}
 use Rattle.points.specs.declared.Point.{Point}
-use Rattle.points.specs.Points.{limit, rises, risesFrom}
+use Rattle.points.specs.Points.{limit, risesFrom}
 use Rattle.tables.specs.declared.CurveInterpolation.{CurveInterpolation}
 use Rattle.tables.specs.Kinds.{kindOf}
 use Rattle.sets.specs.declared.Colour.{Colour}
@@ -29,18 +31,19 @@ use Rattle.records.specs.Format.{
   _▷_,
   bit,
   colourBit,
-  carriedBits,
-  kindBits,
   pointBytes,
   pairs,
+  pointChecks,
   readPoints,
   readList,
   readField,
   storedSlope,
+  kindCheck,
   readNumber,
   readTension,
   readSlopes,
   readCarried,
+  bitsCheck,
   readAgreed,
   readKind,
   masterStep,
@@ -52,6 +55,7 @@ use Rattle.records.specs.Format.{
   result,
   readRecord,
 }
+use Rattle.records.specs.CheckLaws.{checked-has}
 
 pub record LegalSet (v : View) : Type 0 where
   pub lists : Legal v
@@ -91,15 +95,10 @@ pairs-length (suc n) s = rw (pairs-length n (drop pointBytes s))
 points-legal : (least n : ℕ) (s : List ℕ) → AllBytes s → Finds LegalList (readPoints least n s)
 unfolding readPoints
 points-legal least n s b =
-    finds-either LegalList (ltb limit n) _ _ (λ many. tt)
-    (λ few.
-    finds-either LegalList (ltb n least) _ _ (λ less. tt)
-    (λ enough.
-    finds-either LegalList (ltb (length s) (n * pointBytes)) _ _ (λ short. tt)
-    (λ whole.
-    finds-either LegalList (rises (pairs n s)) _ _
-    (λ rising. (record { few = omega (arith, pairs-length n s, ltb-false limit n few); rising = rising }, bytes-drop (n * pointBytes) s b))
-    (λ falls. tt))))
+    checked-has (Finds LegalList) (λ a. tt) (pointChecks least n s) _
+    (λ passed.
+    let few = ltb-false limit n (passed .0) in
+    (record { few = omega (arith, pairs-length n s); rising = not-false _ (passed .1 .1 .1 .0) }, bytes-drop (n * pointBytes) s b))
 
 list-legal : (least : ℕ) (s : List ℕ) → AllBytes s → Finds LegalList (readList least s)
 unfolding readList
@@ -142,7 +141,7 @@ tension-legal (q ∷ s) b = (record { tension = b .byte 0; start = lit< tt; end 
 slopes-legal : (s : List ℕ) → AllBytes s → Finds LegalKind (readSlopes s)
 unfolding readSlopes
 slopes-legal s b =
-    finds-either LegalKind (ltb (length s) 4) _ _ (λ short. tt)
+    checked-has (Finds LegalKind) (λ a. tt) (RecordTruncated when ltb (length s) 4 ∷ []) _
     (λ whole. (
       record {
         tension = lit< tt;
@@ -166,13 +165,15 @@ number-bytes : (unnamed : CurveInterpolation) (present : Bool) (s : List ℕ) �
 unfolding readNumber
 number-bytes unnamed false s b = (tt, b)
 number-bytes unnamed true [] b = tt
-number-bytes unnamed true (k ∷ s) b = finds-either AnyNumber (ltb 9 k) _ _ (λ above. tt) (λ known. (tt, bytes-rest k s b))
+number-bytes unnamed true (k ∷ s) b =
+    checked-has (Finds AnyNumber) (λ a. tt) (kindCheck k ∷ []) (good k s) (λ known. (tt, bytes-rest k s b))
 
 kind-legal : (unnamed : CurveInterpolation) (m : ℕ) (s : List ℕ) → AllBytes s → Finds LegalKind (readKind unnamed m s)
 unfolding readKind
 kind-legal unnamed m s b =
     finds-then AnyNumber LegalKind (readNumber unnamed (bit 16 m) s) (readAgreed m) (number-bytes unnamed (bit 16 m) s b)
-    (λ k t any c. finds-either LegalKind (eqb (carriedBits m) (kindBits k)) _ _ (λ agrees. carried-legal k t c) (λ disagrees. tt))
+    (λ k t any c.
+    checked-has (Finds LegalKind) (λ a. tt) (bitsCheck m k ∷ []) (readCarried k t) (λ agrees. carried-legal k t c))
 
 -- ---- the set
 master-legal : (m : ℕ) (v : View) (s : List ℕ) → LegalSet v → AllBytes s → Finds LegalSet (masterStep m v s)

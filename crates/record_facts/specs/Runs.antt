@@ -8,7 +8,7 @@ use borrow.Author.Tests.{le-ltb}
 use Rattle.answers.specs.declared.Answer.the-variants.{Done}
 use Rattle.answers.specs.Checks.{firstRefusal, roomCheck, first-goes-on}
 use Rattle.sets.specs.declared.Curves.{Curves}
-use Rattle.sets.specs.Sets.{setChecks, setAnswer}
+use Rattle.sets.specs.Sets.{curveChecks, setChecks, setAnswer}
 use Rattle.sets.specs.Same.{Same}
 use Rattle.sets.specs.SameLaws.{view-same}
 use Rattle.records.specs.declared.RecordRead.{RecordRead}
@@ -36,7 +36,7 @@ pub accepted-not-refused : (s : List ℕ) {before after : List ℕ} {r : RecordR
     → w .answer ≡ firstRefusal (roomCheck (length (encode (readRecord s .set))) (length before) ∷ [])
 unfolding setAnswer
 accepted-not-refused s {before} {r = r} handed wrote =
-    wrote .answer ∙ write-answer (r .set) before ∙ sym (first-goes-on (setChecks (r .set)) _ (handed .legal) refl) ∙ rw (handed .set)
+    wrote .answer ∙ write-answer (r .set) before ∙ sym (first-goes-on (setChecks curveChecks (r .set)) _ (handed .legal) refl) ∙ rw (handed .set)
 
 -- and of a record that was accepted it is done in every buffer that has room for that record
 pub accepted-fits : (s : List ℕ) {before after : List ℕ} {r : RecordRead} {w : Written} → HandedBack (readRecord s) r → r .answer ≡ Done

@@ -1,7 +1,7 @@
 -- The kind at a position of the record, and slopes in two's complement.
 use mathlib.Core.Path.{_≡_, refl, sym, ap, _∙_}
-use mathlib.Core.Bool.{Bool, true, false, cond}
-use mathlib.Core.List.{List}
+use mathlib.Core.Bool.{Bool, true, false}
+use mathlib.Core.List.{List, [], _∷_}
 use Prim.Native.Nat.{ℕ, zero, suc, _+_, _-_, _≤_, _<_}
 use native.Mathlib.Nat.{add-zero}
 use native.Mathlib.Omega.{arith}
@@ -9,12 +9,11 @@ use borrow.Author.Tests.{lt-ltb, le-ltb}
 use mir.Syntax.{w16}
 use mir.Val.{toZ, ofZ, SFits}
 use mir.Facts.{toZ-pos, toZ-ofZ}
-use lib.Dec.{ltb}
 use lib.IntN.{ℤ, pos, negsuc, _-ℤ_}
 use lib.ListN.{length, getD, drop, length-drop, drop-of-length-le}
 use lib.Seq.{drop-drop, getD-drop}
 use Rattle.answers.specs.declared.Answer.{Answer}
-use Rattle.answers.specs.declared.Answer.the-variants.{RecordTruncated, UnknownKind}
+use Rattle.answers.specs.declared.Answer.the-variants.{RecordTruncated}
 use Rattle.answers.specs.Numbers.{isDone}
 use Rattle.tables.specs.declared.CurveInterpolation.{CurveInterpolation}
 use Rattle.tables.specs.declared.CurveInterpolation.the-variants.{Cardinal, ClampedCubic}
@@ -23,9 +22,11 @@ use Rattle.records.specs.Format.{
   good,
   refused,
   _▷_,
+  checked,
   bit,
   signed16,
   storedSlope,
+  kindCheck,
   readNumber,
   readTension,
   readSlopes,
@@ -61,7 +62,8 @@ unfolding readNumber
 number-none unnamed at s h = rw (drop-of-length-le s {i = at} h)
 
 pub number-at : (unnamed : CurveInterpolation) (at : ℕ) (s : List ℕ) → at < length s
-    → readNumber unnamed true (drop at s) ≡ cond (ltb 9 (getD s at 0)) (refused UnknownKind) (good (getD s at 0) (drop (at + 1) s))
+    → readNumber unnamed true (drop at s)
+    ≡ checked (kindCheck (getD s at 0) ∷ []) (good (getD s at 0) (drop (at + 1) s))
 unfolding readNumber
 number-at unnamed at s h = rw (drop-at s at h)
 

@@ -1,6 +1,6 @@
 -- A list at a position of the record: its points one by one, and what its reader finds in each case.
 use mathlib.Core.Path.{_≡_, sym, ap, _∙_}
-use mathlib.Core.Bool.{Bool, true, cond}
+use mathlib.Core.Bool.{Bool, true, false, cond}
 use mathlib.Core.List.{List, [], _∷_, _++_, append-nil}
 use Prim.Native.Nat.{ℕ, suc, _+_, _-_, _*_, _≤_, _<_}
 use native.Mathlib.Numerals.{add-one}
@@ -8,13 +8,30 @@ use native.Mathlib.Omega.{arith}
 use borrow.Author.Tests.{lt-ltb, le-ltb}
 use lib.ListN.{length, getD, take, drop, set, length-drop, drop-of-length-le}
 use lib.Seq.{drop-cons, take-suc-set, append-snoc, drop-drop}
-use Rattle.answers.specs.declared.Answer.the-variants.{Done, RecordTruncated, PointCount, PointsNotRising}
+use Rattle.answers.specs.declared.Answer.{Answer}
+use Rattle.answers.specs.declared.Answer.the-variants.{Done, RecordTruncated, PointsNotRising}
+use Rattle.answers.specs.Numbers.{isDone}
+use Rattle.answers.specs.Checks.{firstRefusal}
+use Rattle.single.specs.RuleLaws.{by-test}
 use Rattle.points.specs.declared.Point.{Point}
 use Rattle.points.specs.declared.Curve.{Curve}
 use Rattle.points.specs.Owned.{list-length}
 use Rattle.points.specs.Points.{limit, listOf, rises, risesFrom}
 use Rattle.sets.specs.Sets.{curveAnswer}
-use Rattle.records.specs.Format.{good, refused, pointBytes, pointOf, pairs, readPoints, readList}
+use Rattle.records.specs.Format.{
+  good,
+  refused,
+  checked,
+  pointBytes,
+  pointOf,
+  pairs,
+  countChecks,
+  pairChecks,
+  readPoints,
+  readList,
+}
+use Rattle.records.specs.CheckLaws.{checked-stops, checked-goes-on}
+use Rattle.records.specs.Views.{parsed}
 
 -- what is left at a position within the record
 pub drop-at : (s : List ℕ) (i : ℕ) → i < length s → drop i s ≡ getD s i 0 ∷ drop (i + 1) s
@@ -34,6 +51,11 @@ pub pairs-done : (s : List ℕ) (n i at : ℕ) (ps all : List Point) → i ≡ n
 unfolding pairs
 pairs-done s n i at ps all e inv = let none : n - n ≡ 0 = omega arith in sym (append-nil (take n ps)) ∙ (rw (e, none) at inv)
 
+-- ---- what a reading stands for that hands back a refusal of its checks
+pub parsed-refused : {A : Type 0} {r a : Answer} (v : A) (s : List ℕ) (next : ℕ) → r ≡ a → isDone a ≡ false
+    → parsed r v s next ≡ refused a
+parsed-refused v s next e not-done = rw (e, not-done)
+
 -- ---- the cases of a list
 pub list-none : (least at : ℕ) (s : List ℕ) → length s ≤ at → readList least (drop at s) ≡ refused RecordTruncated
 unfolding readList
@@ -44,35 +66,38 @@ module _ (least at n : ℕ) (s : List ℕ) (h : at < length s) (e : n ≡ getD s
   unfolding readList
   list-some = rw (drop-at s at h, e)
 
-  pub list-many : limit < n → readList least (drop at s) ≡ refused PointCount
+  pub list-refused : {a : Answer} → a ≡ firstRefusal (countChecks least n) → isDone a ≡ false
+      → readList least (drop at s) ≡ refused a
   unfolding readPoints
-  list-many many = list-some ∙ rw (lt-ltb limit n many)
+  list-refused counted not-done =
+      list-some
+      ∙ checked-stops _ (countChecks least n) (pairChecks n (drop (at + 1) s)) counted not-done
 
-  module _ (few : n ≤ limit) where
-    pub list-few : n < least → readList least (drop at s) ≡ refused PointCount
+  module _ (counted : firstRefusal (countChecks least n) ≡ Done) where
+    list-counted : readList least (drop at s)
+        ≡ checked (pairChecks n (drop (at + 1) s))
+        (good (pairs n (drop (at + 1) s)) (drop (n * pointBytes) (drop (at + 1) s)))
     unfolding readPoints
-    list-few less = list-some ∙ rw (le-ltb limit n few, lt-ltb n least less)
+    list-counted =
+        list-some ∙ checked-goes-on _ (countChecks least n) (pairChecks n (drop (at + 1) s)) counted
 
-    module _ (enough : least ≤ n) where
-      pub list-short : length s - (at + 1) < n * pointBytes → readList least (drop at s) ≡ refused RecordTruncated
-      unfolding readPoints
-      list-short short =
-          list-some
-          ∙ rw (le-ltb limit n few, le-ltb n least enough, length-drop (at + 1) s, lt-ltb (length s - (at + 1)) (n * pointBytes) short)
+    pub list-short : length s - (at + 1) < n * pointBytes
+        → readList least (drop at s) ≡ refused RecordTruncated
+    list-short short =
+        list-counted
+        ∙ rw (length-drop (at + 1) s, lt-ltb (length s - (at + 1)) (n * pointBytes) short)
 
-      pub list-whole : (r : Bool) → n * pointBytes ≤ length s - (at + 1) → r ≡ rises (pairs n (drop (at + 1) s))
-          → readList least (drop at s) ≡ cond r (good (pairs n (drop (at + 1) s)) (drop (at + 1 + n * pointBytes) s)) (refused PointsNotRising)
-      unfolding readPoints
-      list-whole r whole rising =
-          list-some
-          ∙ rw (
-            le-ltb limit n few,
-            le-ltb n least enough,
-            length-drop (at + 1) s,
-            le-ltb (length s - (at + 1)) (n * pointBytes) whole,
-            drop-drop (n * pointBytes) (at + 1) s,
-            rising,
-          )
+    pub list-whole : (r : Bool) → n * pointBytes ≤ length s - (at + 1) → r ≡ rises (pairs n (drop (at + 1) s))
+        → readList least (drop at s)
+        ≡ cond r (good (pairs n (drop (at + 1) s)) (drop (at + 1 + n * pointBytes) s)) (refused PointsNotRising)
+    list-whole r whole rising =
+        list-counted
+        ∙ rw (
+          length-drop (at + 1) s,
+          le-ltb (length s - (at + 1)) (n * pointBytes) whole,
+          drop-drop (n * pointBytes) (at + 1) s,
+          ← rising,
+        ) (by-test r (λ t. rw t) (λ t. rw t))
 
 -- ---- the check of the list that was read
 pub rising-passes : (c : Curve) → c .count ≤ limit → rises (listOf c) ≡ true → curveAnswer c ≡ Done

@@ -1,7 +1,7 @@
 -- The record reader answers the first refusal of the record's checks, and hands back the empty set where one of them fails.
 use Prim.Native.Nat.{ℕ, _*_}
 use native.Mathlib.Omega.{arith}
-use mathlib.Core.Path.{_≡_, refl}
+use mathlib.Core.Path.{_≡_, refl, sym, ap}
 use mathlib.Core.Bool.{Bool, true, false, cond, not, true≢false}
 use mathlib.Core.List.{List, [], _∷_, _++_}
 use lib.Dec.{ltb, eqb}
@@ -11,16 +11,22 @@ use Rattle.answers.specs.declared.Answer.{Answer}
 use Rattle.answers.specs.declared.Answer.the-variants.{
   Done,
   RecordTruncated,
-  PointCount,
-  PointsNotRising,
   UnknownKind,
-  FieldMismatch,
   TrailingBytes,
 }
 use Rattle.answers.specs.Numbers.{isDone}
-use Rattle.answers.specs.Checks.{Check, _when_, firstRefusal, first-append}
+use Rattle.answers.specs.Checks.{
+  Check,
+  _when_,
+  refuses,
+  firstRefusal,
+  refusal,
+  first-append,
+  first-stops,
+  AllPassed,
+  all-passed,
+}
 use Rattle.single.specs.RuleLaws.{by-test}
-use Rattle.points.specs.Points.{limit, rises}
 use Rattle.tables.specs.declared.CurveInterpolation.the-variants.{Cardinal}
 use Rattle.tables.specs.Kinds.{kindNumber}
 use Rattle.sets.specs.declared.Colour.the-variants.{Red, Green, Blue}
@@ -30,11 +36,12 @@ use Rattle.records.specs.Format.{
   good,
   refused,
   _▷_,
+  checked,
   bit,
-  carriedBits,
-  kindBits,
   pointBytes,
   pairs,
+  kindCheck,
+  bitsCheck,
   readPoints,
   readList,
   readField,
@@ -53,7 +60,7 @@ use Rattle.records.specs.Format.{
 }
 use Rattle.records.specs.Checks.{
   isEmpty,
-  pointChecks,
+  storedListChecks,
   fieldChecks,
   afterField,
   carriedLength,
@@ -63,6 +70,34 @@ use Rattle.records.specs.Checks.{
   recordChecks,
 }
 
+-- ---- what a reading behind checks finds: a refusal of theirs, or what it finds without them
+module _ {A : Type 0} (p : Parse A) where
+  checked-refused : (cs : List Check) {a : Answer} → a ≡ firstRefusal cs → isDone a ≡ false
+      → checked cs p ≡ refused a
+  checked-refused [] e not-done = absurd (true≢false (rw e at not-done))
+  checked-refused (c ∷ cs) e not-done =
+      by-test (refuses c) (λ t. rw t (ap refused (sym (rw t at e))))
+      (λ t. rw t (checked-refused cs (rw t at e) not-done))
+
+  pub checked-stops : (cs ds : List Check) {a : Answer} → a ≡ firstRefusal cs → isDone a ≡ false
+      → checked (cs ++ ds) p ≡ refused a
+  checked-stops cs ds e not-done = checked-refused (cs ++ ds) (first-stops cs ds e not-done) not-done
+
+  pub checked-goes-on : (cs ds : List Check) → firstRefusal cs ≡ Done → checked (cs ++ ds) p ≡ checked ds p
+  checked-goes-on [] ds done = refl
+  checked-goes-on (c ∷ cs) ds done =
+      let q = all-passed (c ∷ cs) done in
+      rw (q .0) (checked-goes-on cs ds (rw (q .0) at done))
+
+-- what every refusal has, and the reading once its checks have passed
+pub checked-has : {A : Type 0} (P : Parse A → Type 0) → ((a : Answer) → P (refused a)) → (cs : List Check) (p : Parse A)
+    → (AllPassed cs → P p) → P (checked cs p)
+checked-has P none [] p holds = holds tt
+checked-has P none (c ∷ cs) p holds =
+    by-test (refuses c) (λ t. rw t (none (c .answer)))
+    (λ t. rw t (checked-has P none cs p (λ passed. holds (t, passed))))
+
+-- ---- the reader against the flat list
 abbrev answerOf : {A : Type 0} → Parse A → Answer
 answerOf (good v s) = Done
 answerOf (refused a) = a
@@ -76,18 +111,6 @@ record Reads {A : Type 0} (cs : List Check) (t : List ℕ) (p : Parse A) : Type 
   answer : answerOf p ≡ firstRefusal cs
   goes-on : GoesOn t p
 
--- one check more in front
-refuses : {A : Type 0} (t : Bool) (a : Answer) {cs : List Check} {u : List ℕ} {p : Parse A} → isDone a ≡ false → Reads cs u p
-    → Reads (a when t ∷ cs) u (cond t (refused a) p)
-refuses true a refusal f = record { answer = rw refusal; goes-on = refusal }
-refuses false a refusal f = record { answer = rw refusal (f .answer); goes-on = f .goes-on }
-
--- the last check of a reading
-reads-unless : {A : Type 0} (t : Bool) (a : Answer) (v : A) (s : List ℕ) → isDone a ≡ false
-    → Reads (a when not t ∷ []) s (cond t (good v s) (refused a))
-reads-unless true a v s refusal = record { answer = rw refusal; goes-on = refl }
-reads-unless false a v s refusal = record { answer = rw refusal; goes-on = refusal }
-
 reads-on : {A : Type 0} (v : A) (s : List ℕ) → Reads [] s (good v s)
 reads-on v s = record { answer = refl; goes-on = refl }
 
@@ -100,16 +123,27 @@ reads-then {cs = cs} {ds = ds} {p = good v s} next f g =
 reads-then {cs = cs} {ds = ds} {p = refused a} next f g =
     record { answer = rw (first-append cs ds, ← f .answer, f .goes-on); goes-on = f .goes-on }
 
+-- a reading behind checks
+behind : {A : Type 0} (c : Check) (t : Bool) → refuses c ≡ t → {cs : List Check} {u : List ℕ} {p : Parse A}
+    → Reads cs u p
+    → (answerOf (cond t (refused (c .answer)) p) ≡ cond t (c .answer) (firstRefusal cs))
+    × GoesOn u (cond t (refused (c .answer)) p)
+behind c true e f = (refl, refusal c e)
+behind c false e f = (f .answer, f .goes-on)
+
+checked-read : {A : Type 0} (cs : List Check) {ds : List Check} {u : List ℕ} {p : Parse A} → Reads ds u p
+    → Reads (cs ++ ds) u (checked cs p)
+checked-read [] f = f
+checked-read (c ∷ cs) f =
+    let r = behind c (refuses c) refl (checked-read cs f) in
+    record { answer = r .0; goes-on = r .1 }
+
 -- a list
-list-read : (least : ℕ) (s : List ℕ) → Reads (pointChecks least s) (drop (getD s 0 0 * pointBytes) (drop 1 s)) (readList least s)
+list-read : (least : ℕ) (s : List ℕ)
+    → Reads (storedListChecks least s) (drop (getD s 0 0 * pointBytes) (drop 1 s)) (readList least s)
 unfolding readList readPoints
 list-read least [] = record { answer = refl; goes-on = refl }
-list-read least (n ∷ s) =
-    refuses false RecordTruncated refl
-    (refuses (ltb limit n) PointCount refl
-    (refuses (ltb n least) PointCount refl
-    (refuses (ltb (length s) (n * pointBytes)) RecordTruncated refl
-    (reads-unless (rises (pairs n s)) PointsNotRising (pairs n s) (drop (n * pointBytes) s) refl))))
+list-read least (n ∷ s) = checked-read (storedListChecks least (n ∷ s)) (reads-on (pairs n s) (drop (n * pointBytes) s))
 
 field-read : (stands : Bool) (least : ℕ) (s : List ℕ) → Reads (fieldChecks stands least s) (afterField stands s) (readField stands least s)
 field-read true least s = list-read least s
@@ -124,32 +158,36 @@ step-read {p = refused a} f h = record { answer = h .answer; goes-on = h .goes-o
 tension-read : (s : List ℕ) → Reads (RecordTruncated when ltb (length s) 1 ∷ []) (drop 1 s) (readTension s)
 unfolding readTension
 tension-read [] = record { answer = refl; goes-on = refl }
-tension-read (q ∷ s) = rw (le-ltb (length (q ∷ s)) 1 (omega arith)) (refuses false RecordTruncated refl (reads-on (Cardinal q) s))
+tension-read (q ∷ s) =
+    rw (le-ltb (length (q ∷ s)) 1 (omega arith)) (checked-read (RecordTruncated when false ∷ []) (reads-on (Cardinal q) s))
 
 carried-read : (k : ℕ) (s : List ℕ) → Reads (RecordTruncated when ltb (length s) (carriedLength k) ∷ []) (drop (carriedLength k) s) (readCarried k s)
 unfolding readCarried readSlopes
 carried-read k s =
     by-test (eqb k 7) (λ t. rw t (tension-read s))
     (λ t.
-    by-test (eqb k 8) (λ u. rw (t, u) (refuses (ltb (length s) 4) RecordTruncated refl (reads-on _ (drop 4 s))))
-    (λ u. rw (t, u, le-ltb (length s) 0 (omega arith)) (refuses false RecordTruncated refl (reads-on _ s))))
+    by-test (eqb k 8)
+    (λ u. rw (t, u) (checked-read (RecordTruncated when ltb (length s) 4 ∷ []) (reads-on _ (drop 4 s))))
+    (λ u. rw (t, u, le-ltb (length s) 0 (omega arith)) (checked-read (RecordTruncated when false ∷ []) (reads-on _ s))))
 
 agreed-read : (m k : ℕ) (s : List ℕ)
-    → Reads (FieldMismatch when not (eqb (carriedBits m) (kindBits k)) ∷ RecordTruncated when ltb (length s) (carriedLength k) ∷ []) (drop (carriedLength k) s) (readAgreed m k s)
-agreed-read m k s =
-    by-test (eqb (carriedBits m) (kindBits k)) (λ t. rw t (refuses false FieldMismatch refl (carried-read k s)))
-    (λ t. rw t (record { answer = refl; goes-on = refl }))
+    → Reads (bitsCheck m k ∷ RecordTruncated when ltb (length s) (carriedLength k) ∷ [])
+    (drop (carriedLength k) s) (readAgreed m k s)
+agreed-read m k s = checked-read (bitsCheck m k ∷ []) (carried-read k s)
 
 kind-read : (stands : Bool) (m : ℕ) (s : List ℕ) → Reads (kindChecks stands m s) (afterKind stands s) (readNumber default stands s ▷ readAgreed m)
 unfolding readNumber
-kind-read false m s = refuses false RecordTruncated refl (refuses false UnknownKind refl (agreed-read m (kindNumber default) s))
+kind-read false m s =
+    checked-read (RecordTruncated when false ∷ kindCheck (kindNumber default) ∷ [])
+    (agreed-read m (kindNumber default) s)
 kind-read true m [] = record { answer = refl; goes-on = refl }
 kind-read true m (k ∷ s) =
     by-test (ltb 9 k) (λ t. rw t (record { answer = refl; goes-on = refl }))
-    (λ t. rw t (refuses false RecordTruncated refl (refuses false UnknownKind refl (agreed-read m k s))))
+    (λ t.
+    rw t (checked-read (RecordTruncated when false ∷ UnknownKind when false ∷ []) (agreed-read m k s)))
 
 end-read : (v : View) (s : List ℕ) → Reads (TrailingBytes when not (isEmpty s) ∷ []) [] (endStep v s)
-end-read v [] = refuses false TrailingBytes refl (reads-on v [])
+end-read v [] = checked-read (TrailingBytes when false ∷ []) (reads-on v [])
 end-read v (b ∷ s) = record { answer = refl; goes-on = refl }
 
 -- the fields in their order

@@ -1,36 +1,29 @@
--- The checks of a stored record in document 01's order, "When a call says no", as a flat list: the places of the fields are reckoned from their counts, so
--- that the order can be read without the parser of `Format`, whose answer is the first refusal of the list (`CheckLaws`). Definitions only.
+-- The checks of a stored record in document 01's order, "When a call says no", as a flat list: the places
+-- of the fields are reckoned from their counts, so that the order can be read without the parser of
+-- `Format`, whose answer is the first refusal of the list (`CheckLaws`). Definitions only.
 use Prim.Native.Nat.{ℕ, _*_}
 use mathlib.Core.Bool.{Bool, true, false, cond, not, _&&_}
 use mathlib.Core.List.{List, [], _∷_, _++_}
 use lib.Dec.{ltb, eqb}
 use lib.ListN.{length, getD, drop}
-use Rattle.answers.specs.declared.Answer.the-variants.{ReservedBit, RecordTruncated, PointCount, UnknownKind, FieldMismatch, TrailingBytes}
+use Rattle.answers.specs.declared.Answer.the-variants.{ReservedBit, RecordTruncated, TrailingBytes}
 use Rattle.answers.specs.Checks.{Check, _when_}
-use Rattle.points.specs.Points.{countCheck}
 use Rattle.tables.specs.Kinds.{kindNumber}
-use Rattle.sets.specs.Sets.{default, risingCheck}
-use Rattle.records.specs.Format.{bit, carriedBits, kindBits, pointBytes, pairs}
+use Rattle.sets.specs.Sets.{default}
+use Rattle.records.specs.Format.{bit, pointBytes, pointChecks, kindCheck, bitsCheck}
 
 abbrev pub isEmpty : List ℕ → Bool
 isEmpty [] = true
 isEmpty (b ∷ s) = false
 
 -- a list of at least so many points at the front of s: "a missing count, 3, missing points, 4"
-abbrev pub pointChecks : ℕ → List ℕ → List Check
-pointChecks least s =
-    let n = getD s 0 0 in
-    let t = drop 1 s in
-    RecordTruncated when isEmpty s
-    ∷ countCheck n
-    ∷ PointCount when ltb n least
-    ∷ RecordTruncated when ltb (length t) (n * pointBytes)
-    ∷ risingCheck (pairs n t)
-    ∷ []
+abbrev pub storedListChecks : ℕ → List ℕ → List Check
+storedListChecks least s =
+    RecordTruncated when isEmpty s ∷ pointChecks least (getD s 0 0) (drop 1 s)
 
 -- "only the fields whose bit stands"; and what follows the field
 abbrev pub fieldChecks : Bool → ℕ → List ℕ → List Check
-fieldChecks stands least s = cond stands (pointChecks least s) []
+fieldChecks stands least s = cond stands (storedListChecks least s) []
 
 abbrev pub afterField : Bool → List ℕ → List ℕ
 afterField stands s = cond stands (drop (getD s 0 0 * pointBytes) (drop 1 s)) s
@@ -46,17 +39,13 @@ afterByte stands s = cond stands (drop 1 s) s
 abbrev pub carriedLength : ℕ → ℕ
 carriedLength k = cond (eqb k 7) 1 (cond (eqb k 8) 4 0)
 
--- 5: "The kind byte is above 9"
-abbrev pub kindCheck : ℕ → Check
-kindCheck k = UnknownKind when ltb 9 k
-
 -- "a missing kind byte, 5; then 6, and only then 2 for tension or slopes"
 abbrev pub kindChecks : Bool → ℕ → List ℕ → List Check
 kindChecks stands m s =
     let k = kindIs stands s in
     RecordTruncated when (stands && isEmpty s)
     ∷ kindCheck k
-    ∷ FieldMismatch when not (eqb (carriedBits m) (kindBits k))
+    ∷ bitsCheck m k
     ∷ RecordTruncated when ltb (length (afterByte stands s)) (carriedLength k)
     ∷ []
 

@@ -1,8 +1,8 @@
 -- The stored record, edition 1: what a reader makes of a list of bytes, as document 01's sections "Stored record" and "When a call says no" have it.
 -- Definitions only.
 use Prim.Native.Nat.{ℕ, zero, suc, _+_, _-_, _*_, _/_, _%_}
-use mathlib.Core.List.{List, [], _∷_}
-use mathlib.Core.Bool.{Bool, true, false, cond}
+use mathlib.Core.List.{List, [], _∷_, _++_}
+use mathlib.Core.Bool.{Bool, true, false, cond, not}
 use mathlib.Core.Option.{Option, none, some}
 use lib.ListN.{length, getD, drop}
 use lib.Dec.{ltb, eqb}
@@ -13,19 +13,19 @@ use Rattle.answers.specs.declared.Answer.the-variants.{
   ReservedBit,
   RecordTruncated,
   PointCount,
-  PointsNotRising,
   UnknownKind,
   FieldMismatch,
   TrailingBytes,
 }
+use Rattle.answers.specs.Checks.{Check, _when_, refuses}
 use Rattle.points.specs.declared.Point.{Point}
-use Rattle.points.specs.Points.{pt, limit, rises}
+use Rattle.points.specs.Points.{pt, limit, countCheck}
 use Rattle.tables.specs.declared.CurveInterpolation.{CurveInterpolation}
 use Rattle.tables.specs.declared.CurveInterpolation.the-variants.{Cardinal, ClampedCubic}
 use Rattle.tables.specs.Kinds.{kindNumber, kindOf}
 use Rattle.sets.specs.declared.Colour.{Colour}
 use Rattle.sets.specs.declared.Colour.the-variants.{Red, Green, Blue}
-use Rattle.sets.specs.Sets.{View, emptyView, default, withMaster, withColour, withKind}
+use Rattle.sets.specs.Sets.{View, emptyView, default, withMaster, withColour, withKind, risingCheck}
 
 -- ---- one reading after another
 -- what a reading finds: a value and the bytes after it, or a refusal
@@ -38,6 +38,11 @@ infixl 20 _▷_
 abbrev pub _▷_ : {A B : Type 0} → Parse A → (A → List ℕ → Parse B) → Parse B
 good a s ▷ f = f a s
 refused a ▷ f = refused a
+
+-- a reading behind checks: their first refusal, or what the reading finds
+abbrev pub checked : {A : Type 0} → List Check → Parse A → Parse A
+checked [] p = p
+checked (c ∷ cs) p = cond (refuses c) (refused (c .answer)) (checked cs p)
 
 -- ---- the bit map
 -- the bit of this weight stands in the map
@@ -75,13 +80,21 @@ longestField = 1 + limit * pointBytes
 abbrev pub longest : ℕ
 longest = 1 + 4 * longestField + 1 + 4
 
--- what follows the count n of a list of at least so many points: "3, missing points, 4"
+-- 3: "A count of points is above 64, or a record's master count is 0", n being the count of a list of
+-- at least so many points
+abbrev pub countChecks : ℕ → ℕ → List Check
+countChecks least n = countCheck n ∷ PointCount when ltb n least ∷ []
+
+-- the x, y pairs of n points at the front of s: "missing points, 4"
+abbrev pub pairChecks : ℕ → List ℕ → List Check
+pairChecks n s = RecordTruncated when ltb (length s) (n * pointBytes) ∷ risingCheck (pairs n s) ∷ []
+
+-- a list with the count n, s being what follows it: "3, missing points, 4"
+abbrev pub pointChecks : ℕ → ℕ → List ℕ → List Check
+pointChecks least n s = countChecks least n ++ pairChecks n s
+
 unfoldable pub readPoints : ℕ → ℕ → List ℕ → Parse (List Point)
-readPoints least n s =
-    cond (ltb limit n) (refused PointCount)
-    (cond (ltb n least) (refused PointCount)
-    (cond (ltb (length s) (n * pointBytes)) (refused RecordTruncated)
-    (cond (rises (pairs n s)) (good (pairs n s) (drop (n * pointBytes) s)) (refused PointsNotRising))))
+readPoints least n s = checked (pointChecks least n s) (good (pairs n s) (drop (n * pointBytes) s))
 
 -- "a missing count" comes first
 unfoldable pub readList : ℕ → List ℕ → Parse (List Point)
@@ -105,11 +118,15 @@ storedSlope low high = signed16 (low + high * 256)
 abbrev pub kindBits : ℕ → ℕ
 kindBits k = cond (eqb k 7) 1 (cond (eqb k 8) 2 0)
 
+-- 5: "The kind byte is above 9"
+abbrev pub kindCheck : ℕ → Check
+kindCheck k = UnknownKind when ltb 9 k
+
 -- "a missing kind byte, 5"; where the record names no kind, it is the unnamed one
 unfoldable pub readNumber : CurveInterpolation → Bool → List ℕ → Parse ℕ
 readNumber unnamed false s = good (kindNumber unnamed) s
 readNumber unnamed true [] = refused RecordTruncated
-readNumber unnamed true (k ∷ s) = cond (ltb 9 k) (refused UnknownKind) (good k s)
+readNumber unnamed true (k ∷ s) = checked (kindCheck k ∷ []) (good k s)
 
 unfoldable pub readTension : List ℕ → Parse CurveInterpolation
 readTension [] = refused RecordTruncated
@@ -117,7 +134,7 @@ readTension (q ∷ s) = good (Cardinal q) s
 
 unfoldable pub readSlopes : List ℕ → Parse CurveInterpolation
 readSlopes s =
-    cond (ltb (length s) 4) (refused RecordTruncated)
+    checked (RecordTruncated when ltb (length s) 4 ∷ [])
     (good (ClampedCubic (storedSlope (getD s 0 0) (getD s 1 0)) (storedSlope (getD s 2 0) (getD s 3 0))) (drop 4 s))
 
 -- the kind of number k with what it carries: "only then 2 for tension or slopes"
@@ -125,8 +142,11 @@ unfoldable pub readCarried : ℕ → List ℕ → Parse CurveInterpolation
 readCarried k s = cond (eqb k 7) (readTension s) (cond (eqb k 8) (readSlopes s) (good (kindOf k 0 (pos 0) (pos 0)) s))
 
 -- 6: "Bit 5 or bit 6 disagrees with the kind, tested before either's bytes"
+abbrev pub bitsCheck : ℕ → ℕ → Check
+bitsCheck m k = FieldMismatch when not (eqb (carriedBits m) (kindBits k))
+
 abbrev pub readAgreed : ℕ → ℕ → List ℕ → Parse CurveInterpolation
-readAgreed m k s = cond (eqb (carriedBits m) (kindBits k)) (readCarried k s) (refused FieldMismatch)
+readAgreed m k s = checked (bitsCheck m k ∷ []) (readCarried k s)
 
 unfoldable pub readKind : CurveInterpolation → ℕ → List ℕ → Parse CurveInterpolation
 readKind unnamed m s = readNumber unnamed (bit 16 m) s ▷ readAgreed m

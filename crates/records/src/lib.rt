@@ -2,8 +2,10 @@
 // A field is read from a position on; past the end there is nothing, so no position is asked to lie within the record.
 ghost use mathlib.Core.Path.{_≡_};
 ghost use Prim.Native.Nat.{_+_, _*_, _≤_, _<_};
+ghost use mathlib.Core.List.{[], _∷_};
 ghost use lib.ListN.{length, drop};
 ghost use Rattle.answers.specs.declared.Answer.the-variants.{Done};
+ghost use Rattle.answers.specs.Checks.{firstRefusal};
 ghost use Rattle.points.specs.Points.{limit, listOf};
 ghost use Rattle.sets.specs.Sets.{curveAnswer, setAnswer};
 ghost use Rattle.records.specs.Format.{
@@ -14,9 +16,11 @@ ghost use Rattle.records.specs.Format.{
   pointBytes,
   pointOf,
   pairs,
+  countChecks,
   readList,
   readField,
   storedSlope,
+  kindCheck,
   readNumber,
   readTension,
   readSlopes,
@@ -35,6 +39,7 @@ ghost use Rattle.records.specs.Views.{numberParsed, kindParsed, setParse
 use answers::Answer;
 use points::Curve;
 use points::Point;
+use points::check_count;
 use sets::Channel;
 use sets::Colour;
 use sets::Curves;
@@ -137,6 +142,16 @@ fn no_curve(refusal: Answer) -> CurveRead
     }
 }
 
+// 3, of the count of a list of at least so many points.
+fn check_stored_count(n: usize, least: usize) -> Answer
+    ensures { λ r. ⌜ r ≡ firstRefusal (countChecks least n) ⌝ }
+{
+    if n < least {
+        return Answer::PointCount;
+    }
+    check_count(n)
+}
+
 // A list of at least so many points: its count, then its points.
 fn read_curve(s: &[u8], at: usize, least: usize) -> CurveRead
     ensures { λ r. ⌜ ListRead (now (s .entry)) (readList least (drop at (now (s .entry)))) r ⌝ }
@@ -145,11 +160,9 @@ fn read_curve(s: &[u8], at: usize, least: usize) -> CurveRead
         return no_curve(Answer::RecordTruncated);
     }
     let n = wide(s[at]);
-    if Curve::LIMIT < n {
-        return no_curve(Answer::PointCount);
-    }
-    if n < least {
-        return no_curve(Answer::PointCount);
+    let counted = check_stored_count(n, least);
+    if !counted.is_done() {
+        return no_curve(counted);
     }
     let from = at + 1;
     if s.len() - from < n * POINT_BYTES {
@@ -192,6 +205,17 @@ fn no_number(refusal: Answer) -> NumberRead
     }
 }
 
+// 5, of a kind's number.
+pub fn check_kind(kind: u8) -> Answer
+    ensures { λ r. ⌜ r ≡ firstRefusal (kindCheck kind ∷ []) ⌝ }
+{
+    if 9 < kind {
+        Answer::UnknownKind
+    } else {
+        Answer::Done
+    }
+}
+
 // The kind byte where it is there; else the number of the unnamed kind.
 fn read_number(s: &[u8], at: usize, present: bool, unnamed: CurveInterpolation) -> NumberRead
     ensures { λ r. ⌜ numberParsed (now (s .entry)) r ≡ readNumber unnamed present (drop at (now (s .entry))) ⌝ }
@@ -201,8 +225,9 @@ fn read_number(s: &[u8], at: usize, present: bool, unnamed: CurveInterpolation) 
             return no_number(Answer::RecordTruncated);
         }
         let k = s[at];
-        if 9 < k {
-            return no_number(Answer::UnknownKind);
+        let known = check_kind(k);
+        if !known.is_done() {
+            return no_number(known);
         }
         NumberRead {
             answer: Answer::Done,

@@ -7,16 +7,27 @@ use mathlib.Core.Bool.{true}
 use mathlib.Core.Option.{Option, none, some}
 use lib.ListN.{length, length-take}
 use borrow.Author.Tests.{ltb-false, not-false}
+use Rattle.answers.specs.declared.Answer.{Answer}
 use Rattle.answers.specs.declared.Answer.the-variants.{Done}
 use Rattle.answers.specs.Numbers.{firstOf, both-done}
-use Rattle.answers.specs.Checks.{first-append, all-passed}
+use Rattle.answers.specs.Checks.{Check, firstRefusal, first-append, all-passed}
 use Rattle.single.specs.RuleLaws.{by-test}
 use Rattle.points.specs.declared.Point.{Point}
 use Rattle.points.specs.declared.Curve.{Curve}
 use Rattle.points.specs.Points.{listOf, rises}
 use Rattle.sets.specs.declared.Channel.{Channel}
 use Rattle.sets.specs.declared.Curves.{Curves}
-use Rattle.sets.specs.Sets.{View, viewOf, channelOf, curveChecks, channelChecks, curveAnswer, channelAnswer, setAnswer}
+use Rattle.sets.specs.Sets.{
+  View,
+  viewOf,
+  channelOf,
+  curveChecks,
+  channelChecks,
+  setChecks,
+  curveAnswer,
+  channelAnswer,
+  setAnswer,
+}
 
 pub record LegalList (l : List Point) : Type 0 where
   pub few : length l ≤ 64
@@ -33,17 +44,32 @@ pub record Legal (v : View) : Type 0 where
   pub blue : LegalColour (v .blue)
 
 -- ---- from the check
--- the answer of a set by those of its lists
+-- the answer of a set by those of its lists, whatever is checked of a list
+module _ (checks : Curve → List Check) (s : Curves) where
+  abbrev ofMaster : Answer
+  ofMaster = firstRefusal (checks (s .master))
+
+  abbrev ofColour : Channel → Answer
+  ofColour c = firstRefusal (channelChecks checks c)
+
+  pub lists-answer : firstRefusal (setChecks checks s)
+      ≡ firstOf (firstOf (firstOf ofMaster (ofColour (s .red))) (ofColour (s .green)))
+      (ofColour (s .blue))
+  lists-answer =
+      let master = checks (s .master) in
+      let red = channelChecks checks (s .red) in
+      let green = channelChecks checks (s .green) in
+      first-append (master ++ red ++ green) (channelChecks checks (s .blue))
+      ∙ ap (λ a. firstOf a (ofColour (s .blue)))
+      (first-append (master ++ red) green
+      ∙ ap (λ a. firstOf a (ofColour (s .green))) (first-append master red))
+
 pub set-answer : (s : Curves)
-    → setAnswer s ≡ firstOf (firstOf (firstOf (curveAnswer (s .master)) (channelAnswer (s .red))) (channelAnswer (s .green))) (channelAnswer (s .blue))
+    → setAnswer s
+    ≡ firstOf (firstOf (firstOf (curveAnswer (s .master)) (channelAnswer (s .red))) (channelAnswer (s .green)))
+    (channelAnswer (s .blue))
 unfolding setAnswer curveAnswer channelAnswer
-set-answer s =
-    let master = curveChecks (s .master) in
-    let red = channelChecks (s .red) in
-    let green = channelChecks (s .green) in
-    first-append (master ++ red ++ green) (channelChecks (s .blue))
-    ∙ ap (λ a. firstOf a (channelAnswer (s .blue)))
-    (first-append (master ++ red) green ∙ ap (λ a. firstOf a (channelAnswer (s .green))) (first-append master red))
+set-answer s = lists-answer curveChecks s
 
 -- a set passes where each of its lists does
 pub record Passed (s : Curves) : Type 0 where

@@ -95,24 +95,30 @@ withKind k v = record { master = v .master; red = v .red; green = v .green; blue
 abbrev pub risingCheck : List Point → Check
 risingCheck l = PointsNotRising when not (rises l)
 
+-- one list: 3, then 4
 abbrev pub curveChecks : Curve → List Check
 curveChecks c = listChecks c ++ risingCheck (listOf c) ∷ []
 
-abbrev pub channelChecks : Channel → List Check
-channelChecks c = cond (c .present) (curveChecks (c .curve)) []
+-- the checks of a set, by those of a list
+module _ (checks : Curve → List Check) where
+  abbrev pub channelChecks : Channel → List Check
+  channelChecks c = cond (c .present) (checks (c .curve)) []
 
--- "A set's present lists go master, red, green, blue, used or not, each with 3 and then 4"
-abbrev pub setChecks : Curves → List Check
-setChecks s = curveChecks (s .master) ++ channelChecks (s .red) ++ channelChecks (s .green) ++ channelChecks (s .blue)
+  -- "A set's present lists go master, red, green, blue, used or not"
+  abbrev pub setChecks : Curves → List Check
+  setChecks s =
+      checks (s .master) ++ channelChecks (s .red) ++ channelChecks (s .green)
+      ++ channelChecks (s .blue)
 
 unfoldable pub curveAnswer : Curve → Answer
 curveAnswer c = firstRefusal (curveChecks c)
 
 unfoldable pub channelAnswer : Channel → Answer
-channelAnswer c = firstRefusal (channelChecks c)
+channelAnswer c = firstRefusal (channelChecks curveChecks c)
 
+-- "each with 3 and then 4"
 unfoldable pub setAnswer : Curves → Answer
-setAnswer s = firstRefusal (setChecks s)
+setAnswer s = firstRefusal (setChecks curveChecks s)
 
 -- ---- the table and the list of a channel
 -- "the colour's own table or else the master's"

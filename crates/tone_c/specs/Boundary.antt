@@ -19,8 +19,8 @@ use Rattle.sets.specs.Sets.{View}
 use Rattle.formats.specs.declared.Lengths.{Lengths}
 use Rattle.formats.specs.Formats.{formatOf}
 use Rattle.formats.specs.Checks.{chromaRead, lutChecks, pictureChecks}
-use Rattle.records.specs.Format.{pointBytes, pairs, readRecord}
-use Rattle.records.specs.Checks.{kindCheck, recordChecks}
+use Rattle.records.specs.Format.{pointBytes, pairs, kindCheck, readRecord}
+use Rattle.records.specs.Checks.{recordChecks}
 use Rattle.writing.specs.Encode.{encode}
 use Rattle.pictures.specs.OneTable.{tonedWithin}
 use Rattle.pictures.specs.Runs.{tablesOf, tightRows}

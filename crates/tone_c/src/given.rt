@@ -4,30 +4,21 @@ ghost use Prim.Native.Nat.{_≤_};
 ghost use Rattle.points.specs.Points.{listOf};
 ghost use mathlib.Core.List.{[], _∷_};
 ghost use Rattle.answers.specs.Checks.{firstRefusal};
-ghost use Rattle.records.specs.Checks.{kindCheck};
 ghost use Rattle.tone_c.specs.Boundary.{countOf, pairsOf, givenChecks, formatCheck};
 use answers::Answer;
 use answers::first_of;
 use points::Curve;
 use points::check_count;
+use records::check_kind;
 use records::read_points;
 
 // 3, then 5.
 pub fn check(points: &[u8], kind: u8) -> Answer
     ensures { λ r. ⌜ r ≡ firstRefusal (givenChecks (now (points .entry)) kind) ⌝ }
 {
-    first_of(check_count(points.len() / 2), kind_answer(kind))
-}
-
-// 5.
-fn kind_answer(kind: u8) -> Answer
-    ensures { λ r. ⌜ r ≡ firstRefusal (kindCheck kind ∷ []) ⌝ }
-{
-    if 9 < kind {
-        Answer::UnknownKind
-    } else {
-        Answer::Done
-    }
+    let counted = check_count(points.len() / 2);
+    let known = check_kind(kind);
+    first_of(counted, known)
 }
 
 // The points as a list: x, y pairs; a last odd byte is none.

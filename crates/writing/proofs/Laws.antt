@@ -22,7 +22,7 @@ use Rattle.points.specs.declared.Curve.{Curve}
 use Rattle.points.specs.Points.{pt, nth, listOf}
 use Rattle.sets.specs.declared.Channel.{Channel}
 use Rattle.sets.specs.declared.Curves.{Curves}
-use Rattle.sets.specs.Sets.{viewOf, channelOf, setChecks, curveAnswer, channelAnswer, setAnswer}
+use Rattle.sets.specs.Sets.{viewOf, channelOf, curveChecks, setChecks, curveAnswer, channelAnswer, setAnswer}
 use Rattle.sets.specs.Legal.{passed-count}
 use Rattle.writing.specs.declared.Draft.{Draft}
 use Rattle.writing.specs.declared.Written.{Written}
@@ -144,13 +144,13 @@ module _ (s : Curves) (buffer : List ℕ) where
   -- the check of the lists refused
   pub lists-refused : {a : Answer} → a ≡ setAnswer s → isDone a ≡ false → a ≡ firstRefusal (writeChecks s (ListN.length buffer))
   unfolding setAnswer
-  lists-refused e t = first-stops (setChecks s) (roomCheck (ListN.length (encode (viewOf s))) (ListN.length buffer) ∷ []) e t
+  lists-refused e t = first-stops (setChecks curveChecks s) (roomCheck (ListN.length (encode (viewOf s))) (ListN.length buffer) ∷ []) e t
 
   module _ (passed : setAnswer s ≡ Done) {d : Draft} (h : Holds (encode (viewOf s)) d) where
     -- it passed, and what is left is the room for the draft
     pub room-asked : {a : Answer} → a ≡ firstRefusal (roomCheck (d .length) (ListN.length buffer) ∷ []) → a ≡ firstRefusal (writeChecks s (ListN.length buffer))
     unfolding setAnswer
-    room-asked e = first-goes-on (setChecks s) (roomCheck (ListN.length (encode (viewOf s))) (ListN.length buffer) ∷ []) passed (rw (h .length) at e)
+    room-asked e = first-goes-on (setChecks curveChecks s) (roomCheck (ListN.length (encode (viewOf s))) (ListN.length buffer) ∷ []) passed (rw (h .length) at e)
 
     pub wrote-done : {a : Answer} {after : List ℕ} → a ≡ Done → d .length ≤ ListN.length buffer → after ≡ bytesMade d ++ drop (d .length) buffer → Held s
         → Wrote s buffer (record { answer = a; length = d .length }) after

@@ -12,7 +12,7 @@ use Rattle.answers.specs.Numbers.{isDone, done-is}
 use Rattle.answers.specs.Checks.{Check, firstRefusal, roomCheck, first-goes-on, done-append, has-room}
 use Rattle.single.specs.RuleLaws.{by-test}
 use Rattle.sets.specs.declared.Curves.{Curves}
-use Rattle.sets.specs.Sets.{viewOf, setChecks, setAnswer}
+use Rattle.sets.specs.Sets.{viewOf, curveChecks, setChecks, setAnswer}
 use Rattle.writing.specs.Encode.{encode, outcome, writeChecks, writeRecord}
 
 module _ (s : Curves) (buffer : List ℕ) where
@@ -28,7 +28,7 @@ module _ (s : Curves) (buffer : List ℕ) where
     pub write-passed : writeRecord s buffer
         ≡ outcome (firstRefusal (roomCheck (ListN.length (encode (viewOf s))) (ListN.length buffer) ∷ [])) (encode (viewOf s)) buffer
     unfolding setAnswer
-    write-passed = written (first-goes-on (setChecks s) room passed refl)
+    write-passed = written (first-goes-on (setChecks curveChecks s) room passed refl)
 
     pub write-done : ListN.length (encode (viewOf s)) ≤ ListN.length buffer
         → writeRecord s buffer ≡ record {
@@ -57,5 +57,5 @@ module _ (s : Curves) (buffer : List ℕ) where
   pub done-case : writeRecord s buffer .answer ≡ Done → (setAnswer s ≡ Done) × (ListN.length (encode (viewOf s)) ≤ ListN.length buffer)
   unfolding setAnswer
   done-case e =
-      let d = done-append (setChecks s) room (sym write-answer ∙ e) in
+      let d = done-append (setChecks curveChecks s) room (sym write-answer ∙ e) in
       (d .0, has-room _ _ (d .1))

@@ -28,7 +28,7 @@ use Rattle.tables.specs.declared.CurveInterpolation.the-variants.{
 }
 use Rattle.tables.specs.Kinds.{kindNumber}
 use Rattle.sets.specs.declared.Curves.{Curves}
-use Rattle.sets.specs.Sets.{View, viewOf, default, setChecks}
+use Rattle.sets.specs.Sets.{View, viewOf, default, curveChecks, setChecks}
 use Rattle.records.specs.Format.{kindBits}
 
 -- ---- the lists
@@ -121,7 +121,7 @@ outcome a bytes buffer =
 
 -- the checks of the writer into a buffer of so many bytes: those of the set's lists, then 13
 abbrev pub writeChecks : Curves → ℕ → List Check
-writeChecks s room = setChecks s ++ roomCheck (length (encode (viewOf s))) room ∷ []
+writeChecks s room = setChecks curveChecks s ++ roomCheck (length (encode (viewOf s))) room ∷ []
 
 unfoldable pub writeRecord : Curves → List ℕ → Write
 writeRecord s buffer = outcome (firstRefusal (writeChecks s (length buffer))) (encode (viewOf s)) buffer

@@ -5,7 +5,7 @@ use native.Mathlib.Omega.{arith}
 use borrow.Author.Tests.{eq-eqb, ne-eqb, not-true, not-false}
 use Rattle.answers.specs.Numbers.{isDone, done-is}
 use Rattle.answers.specs.Checks.{first-then}
-use Rattle.sets.specs.Sets.{setChecks, setAnswer}
+use Rattle.sets.specs.Sets.{curveChecks, setChecks, setAnswer}
 use Rattle.formats.specs.Checks.{pictureChecks, pictureAnswer}
 use Rattle.pictures.specs.Runs.{Run, Lent, given, hasChroma, held, answer}
 use Rattle.pictures.specs.RunLaws.{Accepted, accepted-run}
@@ -25,7 +25,7 @@ answered : (c : tie.After-first-of) → c .first-of .result ≡ answer (run c)
 unfolding answer setAnswer pictureAnswer
 answered c =
     let r = run c in
-    first-then (setChecks (r .set)) (pictureChecks (r .format) (r .width) (r .height) (r .planes) (r .plane .step) (held r))
+    first-then (setChecks curveChecks (r .set)) (pictureChecks (r .format) (r .width) (r .height) (r .planes) (r .plane .step) (held r))
     (c .before .before .check .ensures) (c .before .picture-answer .ensures) (c .first-of .ensures)
 
 -- what it was lent

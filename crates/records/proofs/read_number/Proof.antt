@@ -1,8 +1,12 @@
 -- `read_number` meets its contract.
 use mathlib.Core.Path.{sym, _∙_}
 use native.Mathlib.Omega.{arith}
-use borrow.Author.Tests.{lt-ltb, le-ltb}
-use Rattle.records.specs.Format.{readNumber}
+use mathlib.Core.List.{[], _∷_}
+use lib.ListN.{getD}
+use Rattle.answers.specs.Numbers.{told-refused, told-done}
+use Rattle.records.specs.Format.{kindCheck, readNumber}
+use Rattle.records.specs.CheckLaws.{checked-stops, checked-goes-on}
+use Rattle.records.proofs.Lists.{parsed-refused}
 use Rattle.records.proofs.Kind.{number-none, number-at}
 use Rattle.records.proofs.read_number.Statement.{statement}
 use Rattle.records.proofs.read_number.Tie as tie
@@ -15,16 +19,24 @@ returns c =
 
 returns-2 : tie.Need-returns-2
 returns-2 c =
-    let b = c .before .before .before .before in
+    let k = c .before .before .before in
+    let b = k .before .before .before in
     let a = b .before .before .args in
-    rw (c .no-number2 .ensures, b .if1 .taken)
-    (sym (number-at (a .unnamed) (a .at) (a .s .now) (omega arith) ∙ rw (lt-ltb 9 _ (c .before .if3 .taken))))
+    let refusal = told-refused (k .check-kind .result) (c .before .before .is-done .ensures) (c .before .if3 .taken) in
+    parsed-refused _ (a .s .now) (c .no-number2 .result .next) (c .no-number2 .ensures) refusal
+    ∙ sym (rw (b .if1 .taken)
+    (number-at (a .unnamed) (a .at) (a .s .now) (omega arith)
+    ∙ checked-stops _ (kindCheck (getD (a .s .now) (a .at) 0) ∷ []) [] (k .check-kind .ensures) refusal))
 
 returns-3 : tie.Need-returns-3
 returns-3 c =
-    let b = c .before .before .before in
+    let k = c .before .before in
+    let b = k .before .before .before in
     let a = b .before .before .args in
-    rw (b .if1 .taken) (sym (number-at (a .unnamed) (a .at) (a .s .now) (omega arith) ∙ rw (le-ltb 9 _ (c .if3 .left))))
+    rw (b .if1 .taken)
+    (sym (number-at (a .unnamed) (a .at) (a .s .now) (omega arith)
+    ∙ checked-goes-on _ (kindCheck (getD (a .s .now) (a .at) 0) ∷ []) []
+    (sym (k .check-kind .ensures) ∙ told-done _ (c .before .is-done .ensures) (c .if3 .left))))
 
 returns-4 : tie.Need-returns-4
 unfolding readNumber
@@ -36,7 +48,7 @@ read-number-spec =
     (tie.spec
     (omega arith)
     returns
-    (omega arith) (omega arith)
+    (omega arith) (omega arith) (omega arith) (omega arith)
     returns-2
     (omega arith) (omega arith)
     returns-3

@@ -9,7 +9,7 @@ use Rattle.answers.specs.declared.Answer.{Answer}
 use Rattle.answers.specs.declared.Answer.the-variants.{Done}
 use Rattle.answers.specs.Numbers.{numberOf, isDone, told-refused, told-done}
 use Rattle.answers.specs.Checks.{Check, firstRefusal, first-then, first-stops, first-goes-on}
-use Rattle.sets.specs.Sets.{View, setChecks, setAnswer}
+use Rattle.sets.specs.Sets.{View, curveChecks, setChecks, setAnswer}
 use Rattle.formats.specs.Formats.{formatOf}
 use Rattle.formats.specs.Checks.{pictureChecks}
 use Rattle.records.specs.declared.RecordRead.{RecordRead}
@@ -31,7 +31,7 @@ front stored format = recordChecks stored ++ (formatCheck format ∷ [])
 of-picture : (r : Run) → setAnswer (r .set) ≡ Done
     → answer r ≡ firstRefusal (pictureChecks (r .format) (r .width) (r .height) (r .planes) (r .plane .step) (held r))
 unfolding answer setAnswer
-of-picture r passed = sym (first-goes-on (setChecks (r .set)) _ passed refl)
+of-picture r passed = sym (first-goes-on (setChecks curveChecks (r .set)) _ passed refl)
 
 -- the ends of the call, said of its arguments
 module _ {stored y u v outY outU outV : List ℕ} {format w h planes step r : ℕ} where

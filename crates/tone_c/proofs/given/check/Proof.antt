@@ -3,7 +3,7 @@ use native.Mathlib.Omega.{arith}
 use mathlib.Core.List.{[], _∷_}
 use Rattle.answers.specs.Checks.{first-then}
 use Rattle.points.specs.Points.{countCheck}
-use Rattle.records.specs.Checks.{kindCheck}
+use Rattle.records.specs.Format.{kindCheck}
 use Rattle.tone_c.specs.Boundary.{countOf}
 use Rattle.tone_c.proofs.given.check.Statement.{statement}
 use Rattle.tone_c.proofs.given.check.Tie as tie
@@ -12,7 +12,7 @@ returns : tie.Need-returns
 returns c =
     let a = c .before .before .before .before .args in
     first-then (countCheck (countOf (a .points .now)) ∷ []) (kindCheck (a .kind) ∷ [])
-    (c .before .before .check-count .ensures) (c .before .kind-answer .ensures) (c .first-of .ensures)
+    (c .before .before .check-count .ensures) (c .before .check-kind .ensures) (c .first-of .ensures)
 
 pub check-spec : {M : Type 1} → statement M
 check-spec = tie.close (tie.spec (omega arith) (omega arith) (omega arith) returns)
