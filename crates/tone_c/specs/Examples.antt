@@ -37,6 +37,12 @@ use Rattle.tone_c.specs.Boundary.{
   toneRecordTableChecks,
   toneRecordCopyChecks,
 }
+use Rattle.tone_c.specs.Version.{version}
+
+-- ---- the version
+-- the first one
+pub first-version : version ≡ 1
+first-version = refl
 
 -- ---- a curve that is given
 pub odd-byte : pairsOf (10 ∷ 5 ∷ 0 ∷ 0 ∷ 77 ∷ []) ≡ pt 10 5 ∷ pt 0 0 ∷ []

@@ -1,6 +1,8 @@
 // The tone calls for a C or Rust caller. Each answers one byte: 0 when it did its work, else the first refusal's number; then no lent byte has changed.
 // A slice crosses as a pointer and a length.
 ghost use Rattle.tone_c.specs.Boundary.{ToneTable, ToneFineTable, ToneLookup, TonePlane, TonePicture, ToneRecordTable, ToneRecordCopy};
+ghost use mathlib.Core.Path.{_≡_};
+ghost use Rattle.tone_c.specs.Version.{version};
 use answers::first_of;
 use answers::room_for;
 use formats::format_of;
@@ -14,6 +16,14 @@ use tables::kind_of;
 use writing::write_record;
 
 mod given;
+
+// The version of this boundary, for a caller to compare with its header's. It is no answer.
+#[no_mangle]
+pub extern "C" fn tone_version() -> u32
+    ensures { λ r. ⌜ r ≡ version ⌝ }
+{
+    1
+}
 
 // Writes the byte table of the curve through the points, x, y pairs in any order, to the front of table. A last odd byte of points is ignored.
 // The tension is read for kind 7 only, the slopes for kind 8 only.
