@@ -1,16 +1,40 @@
 /* The tone engine for C and C++ callers: tables of tone curves, and pictures toned by them.
  *
- * Link with libtone_c.a, which `rt staticlib tone_c` makes of the proved crate. C99 or C++98 and later.
+ * Link with libtone_c.a, which `rt staticlib tone_c` makes of the proved crate:
  *
- * Every call answers one byte: TONE_DONE when it did its work, else the number of the first refusal that applies, in the order of
- * the numbers. A refused call has changed nothing that it was lent. No call keeps a pointer, allocates memory or holds a state,
- * so calls from several threads do not disturb each other.
+ *     cc -std=c99 -I bindings/c program.c target/staticlib/libtone_c.a
+ *
+ * C99 or C++98 and later, on x86-64 Linux; the archive is for no other machine.
+ *
+ * Every call but tone_version answers one byte: TONE_DONE when it did its work, else the number of
+ * the first refusal that applies. The order is document 01's: that in which each call below names
+ * its refusals, and inside a record field by field, not by number: of each list a missing count 2,
+ * then 3, missing points 2, 4; a missing kind byte 2, then 5, 6, and only then 2 for a tension or
+ * slopes; 7 last. A refused call has changed nothing that it was lent. No call keeps a pointer,
+ * allocates memory or holds a state, so calls from several threads do not disturb each other.
  *
  * What a caller must see to:
- *  - An array passes as a pointer and the number of its elements. The pointer must not be null, even where the number is 0: then
- *    any other pointer will do, and nothing is read or written through it.
+ *  - Floating point is as a program finds it at its start: rounding to nearest, and small numbers
+ *    not flushed to zero. Do not link with -ffast-math or -Ofast: their start code turns the flush
+ *    on for the whole program. Before a call put a rounding mode of your own back. In another mode
+ *    tables are not those promised: upward rounding changes a third of all their bytes.
+ *  - There is stack for the call: enum tone_stack says how much.
+ *  - An array passes as a pointer and the number of its elements. The pointer must not be null,
+ *    even where the number is 0: then any other pointer will do, and nothing is read or written
+ *    through it.
+ *  - Memory of `float` and of `size_t` is aligned as the type asks, to 4 and to 8 bytes.
  *  - What a call writes must not overlap anything else that the same call is lent.
- *  - A number of elements or a row step may be any value, but memory must be there for what is lent. */
+ *  - A number of elements or a row step may be any value, but memory must be there for what is
+ *    lent.
+ *  - The archive is the one that this header describes: tone_version() == TONE_VERSION.
+ *
+ * Memory that a call only writes may be uninitialised: tables that are made, outputs, `written`.
+ *
+ * What is proved is the archive's source, for every input that keeps to these points. No proof
+ * covers the compiler's back end (LLVM), the prover and its libraries, this header and the Rust
+ * wrapper, which are written by hand and tested, the operating system, or how much stack there is.
+ * Of floats the proof tells the values, and all NaN are one value: that a refused call leaves the
+ * bits of a NaN too as they were is tested. */
 #ifndef TONE_H
 #define TONE_H
 
@@ -20,6 +44,13 @@
 #ifdef __cplusplus
 extern "C" {
 #endif
+
+/* The version of this boundary. It grows with every change that a program linked before would
+ * notice: other arguments, other or new numbers, another limit or default, another record. */
+#define TONE_VERSION 1
+
+/* The archive's version. If it is not TONE_VERSION, this header does not describe the archive. */
+uint32_t tone_version(void);
 
 /* The kinds of interpolation. */
 enum tone_kind {
@@ -35,7 +66,8 @@ enum tone_kind {
     TONE_NOT_A_KNOT_CUBIC = 9
 };
 
-/* The formats of pictures. A row of the first plane has 1 byte a pixel (Gray8, YUV), 2 (Ya8), 3 (Rgb24) or 4 (Rgba, Cmyk). */
+/* The formats of pictures. A row of the first plane has 1 byte a pixel (Gray8, YUV), 2 (Ya8),
+ * 3 (Rgb24) or 4 (Rgba, Cmyk). */
 enum tone_format {
     TONE_GRAY8 = 0,
     TONE_YA8 = 1,
@@ -80,6 +112,20 @@ enum tone_size {
     TONE_LONGEST_RECORD = 522     /* bytes: no record is longer */
 };
 
+/* The bytes of stack that a call needs at most, below its caller's frame: measured, not proved.
+ * Where the dynamic linker looks up memcpy and memset at their first use, that call takes some KB
+ * more; a program linked statically or with -z now is spared it. */
+enum tone_stack {
+    TONE_STACK_VERSION = 256,
+    TONE_STACK_TABLE = 7 * 1024,
+    TONE_STACK_FINE_TABLE = 5 * 1024,
+    TONE_STACK_LOOKUP = 1024,
+    TONE_STACK_PLANE = 1024,
+    TONE_STACK_PICTURE = 8 * 1024,
+    TONE_STACK_RECORD_TABLE = 7 * 1024,
+    TONE_STACK_RECORD_COPY = 9 * 1024
+};
+
 /* An answer in words; never null. */
 static inline const char *tone_refusal_text(uint8_t answer)
 {
@@ -115,67 +161,85 @@ static inline const char *tone_refusal_text(uint8_t answer)
     case TONE_TABLE_LENGTH:
         return "a float table's length isn't 256 or 4,096 (build) or 4,096 (lookup)";
     default:
-        return "no answer of the engine";
+        return "an answer that this version does not know";
     }
 }
 
-/* Writes the byte table of the curve through some points to the first 256 bytes of `table`; what stands behind them stays.
+/* Writes the byte table of the curve through some points to the first 256 bytes of `table`; what
+ * stands behind them stays.
  *
- * `points` holds x, y pairs in any order; of equal x the first counts, and a last odd byte is ignored. `kind` is a tone_kind.
- * `tension` is read for TONE_CARDINAL only, the slopes for TONE_CLAMPED_CUBIC only.
+ * `points` holds x, y pairs in any order; of equal x the first counts, and a last odd byte is
+ * ignored. `kind` is a tone_kind. `tension` is read for TONE_CARDINAL only, the slopes for
+ * TONE_CLAMPED_CUBIC only.
  *
  * Refusals: 3 more than 64 points; 5 a kind above 9; 13 a table_length below 256. */
-uint8_t tone_table(const uint8_t *points, size_t points_length, uint8_t kind, uint8_t tension, int16_t start_slope,
-                   int16_t end_slope, uint8_t *table, size_t table_length);
+uint8_t tone_table(const uint8_t *points, size_t points_length, uint8_t kind, uint8_t tension,
+                   int16_t start_slope, int16_t end_slope, uint8_t *table, size_t table_length);
 
-/* Fills `table`, of 256 or 4,096 floats, with as many samples of that curve from x = 0 to x = 255, clamped to 0..255.
+/* Fills `table`, of 256 or 4,096 floats, with as many samples of that curve from x = 0 to x = 255,
+ * clamped to 0..255.
  *
  * Points, kind, tension and slopes as for tone_table.
  *
- * Refusals: 3 more than 64 points; 5 a kind above 9; 14 a table_length that is neither 256 nor 4,096. */
-uint8_t tone_fine_table(const uint8_t *points, size_t points_length, uint8_t kind, uint8_t tension, int16_t start_slope,
-                        int16_t end_slope, float *table, size_t table_length);
+ * Refusals: 3 more than 64 points; 5 a kind above 9; 14 a table_length that is neither 256 nor
+ * 4,096. */
+uint8_t tone_fine_table(const uint8_t *points, size_t points_length, uint8_t kind, uint8_t tension,
+                        int16_t start_slope, int16_t end_slope, float *table, size_t table_length);
 
-/* Replaces each of `values`, clamped to 0..1 with NaN taken as 0, by the height there of a fine table of 4,096 samples, over 255.
+/* Replaces each of `values`, clamped to 0..1 with NaN taken as 0, by the height there of a fine
+ * table of 4,096 samples, over 255.
  *
  * Refusals: 14 a table_length other than 4,096. */
 uint8_t tone_lookup(const float *table, size_t table_length, float *values, size_t values_length);
 
-/* Tones a plane in place by one table of 256 bytes, all twelve formats. Alpha of Ya8 and Rgba and the bytes between the rows stay as they are;
- * Cmyk tones all four inks; of the YUV formats the plane is the luma.
+/* Tones a plane in place by one table of 256 bytes, all twelve formats. Alpha of Ya8 and Rgba and
+ * the bytes between the rows stay as they are; Cmyk tones all four inks; of the YUV formats the
+ * plane is the luma.
  *
- * `format` is a tone_format. Row y starts at byte y * step. A picture of width or height 0 needs no bytes.
+ * `format` is a tone_format. Row y starts at byte y * step. A picture of width or height 0 needs no
+ * bytes. All 256 bytes of `table` are read, also by a call that is refused.
  *
- * Refusals: 8 a format above 11; 9 a width or height above 4,096; 11 a step below the row's bytes or above 32,768, also at
- * height 0; 12 a plane_length below (height - 1) * step + the row's bytes. */
-uint8_t tone_plane(const uint8_t table[TONE_TABLE_BYTES], uint8_t format, uint32_t width, uint32_t height, uint8_t *plane,
-                   size_t plane_length, size_t step);
+ * Refusals: 8 a format above 11; 9 a width or height above 4,096; 11 a step below the row's bytes
+ * or above 32,768, also at height 0; 12 a plane_length below (height - 1) * step + the row's
+ * bytes. */
+uint8_t tone_plane(const uint8_t table[TONE_TABLE_BYTES], uint8_t format, uint32_t width,
+                   uint32_t height, uint8_t *plane, size_t plane_length, size_t step);
 
-/* Tones a picture by the set of curves that a record holds, into tight rows at the front of `out_y`: Gray8 and luma by the master, Rgb24 and Rgba by
- * each colour's list or else the master's, alpha copied. For the YUV formats `u` is copied to the front of `out_u` and `v` to that of
- * `out_v`, each whole, whatever its length. What stands in an output behind that stays; of the other formats so do out_u and out_v.
+/* Tones a picture by the set of curves that a record holds, into tight rows at the front of
+ * `out_y`: Gray8 and luma by the master, Rgb24 and Rgba by each colour's list or else the master's,
+ * alpha copied. For the YUV formats `u` is copied to the front of `out_u` and `v` to that of
+ * `out_v`, each whole, whatever its length. What stands in an output behind that stays; of the
+ * other formats so do out_u and out_v.
  *
- * `planes` says how many planes are given, of which Gray8, Rgb24 and Rgba read the first, YUV the first three. `y` is the first, whatever
- * the format, and row k starts at its byte k * y_step. Where the format has no chroma, u, v, out_u and out_v may have length 0.
+ * `planes` says how many planes are given, of which Gray8, Rgb24 and Rgba read the first, YUV the
+ * first three. `y` is the first, whatever the format, and row k starts at its byte k * y_step.
+ * Where the format has no chroma, u, v, out_u and out_v may have length 0.
  *
- * Refusals: 1 to 7 the record's; 8 Ya8, Cmyk, CmykInverted or a format above 11; 9 a width or height above 4,096; 10 no plane, or
- * fewer than three for YUV; 11 a y_step below the row's bytes or above 32,768, also at height 0; 12 a y_length below
- * (height - 1) * y_step + the row's bytes; 13 an output that holds less than would be written to it. */
-uint8_t tone_picture(const uint8_t *record, size_t record_length, uint8_t format, uint32_t width, uint32_t height, size_t planes,
-                     const uint8_t *y, size_t y_length, size_t y_step, const uint8_t *u, size_t u_length, const uint8_t *v,
-                     size_t v_length, uint8_t *out_y, size_t out_y_length, uint8_t *out_u, size_t out_u_length, uint8_t *out_v,
-                     size_t out_v_length);
+ * Refusals: 1 to 7 the record's; 8 Ya8, Cmyk, CmykInverted or a format above 11; 9 a width or
+ * height above 4,096; 10 no plane, or fewer than three for YUV; 11 a y_step below the row's bytes
+ * or above 32,768, also at height 0; 12 a y_length below (height - 1) * y_step + the row's bytes;
+ * 13 an output that holds less than would be written to it. */
+uint8_t tone_picture(const uint8_t *record, size_t record_length, uint8_t format, uint32_t width,
+                     uint32_t height, size_t planes, const uint8_t *y, size_t y_length,
+                     size_t y_step, const uint8_t *u, size_t u_length, const uint8_t *v,
+                     size_t v_length, uint8_t *out_y, size_t out_y_length, uint8_t *out_u,
+                     size_t out_u_length, uint8_t *out_v, size_t out_v_length);
 
-/* Writes the byte table of a record's master, by the record's kind, to the first 256 bytes of `table`; what stands behind them stays.
+/* Writes the byte table of a record's master, by the record's kind, to the first 256 bytes of
+ * `table`; what stands behind them stays.
  *
  * Refusals: 1 to 7 the record's; 13 a table_length below 256. */
-uint8_t tone_record_table(const uint8_t *record, size_t record_length, uint8_t *table, size_t table_length);
+uint8_t tone_record_table(const uint8_t *record, size_t record_length, uint8_t *table,
+                          size_t table_length);
 
-/* Reads a record and writes the set it holds to the front of `out`, as the present writer has it, and the length to `written`; what
- * stands in `out` behind that stays. TONE_LONGEST_RECORD bytes always suffice.
+/* Reads a record and writes the set it holds to the front of `out`, as the present writer has it,
+ * and the length to `written`; what stands in `out` behind that stays. TONE_LONGEST_RECORD bytes
+ * always suffice.
  *
- * Refusals: 1 to 7 the record's; 13 an out_length below the length that would be written. `written` too is unchanged then. */
-uint8_t tone_record_copy(const uint8_t *record, size_t record_length, uint8_t *out, size_t out_length, size_t *written);
+ * Refusals: 1 to 7 the record's; 13 an out_length below the length that would be written. `written`
+ * too is unchanged then. */
+uint8_t tone_record_copy(const uint8_t *record, size_t record_length, uint8_t *out,
+                         size_t out_length, size_t *written);
 
 #ifdef __cplusplus
 }
