@@ -1,5 +1,7 @@
 //! Links the proved library and, where the original's text is at hand, makes the original's curve part compile.
 //!
+//! It stops where the target is not x86-64 Linux, and where header, archive and crate are not of one version.
+//!
 //! | variable | meaning | without it |
 //! |---|---|---|
 //! | `TONE_ARCHIVE` | the static library to link | `rt staticlib tone_c` is run at the repository's root |
@@ -11,6 +13,9 @@ use std::fs;
 use std::path::{Path, PathBuf};
 use std::process::Command;
 
+#[path = "src/version.rs"]
+mod version;
+
 fn main() {
     let here = PathBuf::from(env::var_os("CARGO_MANIFEST_DIR").unwrap());
     let out = PathBuf::from(env::var_os("OUT_DIR").unwrap());
@@ -19,8 +24,15 @@ fn main() {
     println!("cargo::rerun-if-env-changed=TONE_ARCHIVE");
     println!("cargo::rerun-if-env-changed=TONE_ORIGINAL");
 
+    let target = env::var("TARGET").unwrap();
+    assert!(is_x86_64_linux(&target), "the archive is for x86-64 Linux only, not for {target}");
     let archive = archive(&here.join("../.."));
     println!("cargo::rerun-if-changed={}", archive.display());
+    println!("cargo::rerun-if-changed=src/version.rs");
+    one_version("bindings/c/tone.h", header_version(&here.join("../c/tone.h")));
+    if is_x86_64_linux(&env::var("HOST").unwrap()) {
+        one_version(&archive.display().to_string(), archive_version(&archive, &out));
+    }
     println!("cargo::rustc-link-search=native={}", archive.parent().unwrap().display());
     println!("cargo::rustc-link-lib=static=tone_c");
 
@@ -46,6 +58,41 @@ fn archive(root: &Path) -> PathBuf {
     let run = run.unwrap_or_else(|e| panic!("rt, the Rattle toolchain, could not be run ({e}); name an archive by TONE_ARCHIVE"));
     assert!(run.status.success(), "rt staticlib tone_c failed:\n{}", String::from_utf8_lossy(&run.stdout));
     root.join("target/staticlib/libtone_c.a")
+}
+
+fn is_x86_64_linux(target: &str) -> bool {
+    target.starts_with("x86_64-") && target.contains("-linux-")
+}
+
+fn one_version(what: &str, found: u32) {
+    let here = version::VERSION;
+    assert_eq!(found, here, "{what} is of version {found}, the crate tone of version {here}");
+}
+
+/// The number of `TONE_VERSION` in the header.
+fn header_version(header: &Path) -> u32 {
+    let text = read(header);
+    let mut defined = text.lines().filter_map(|line| line.strip_prefix("#define TONE_VERSION "));
+    let number = defined.next().and_then(|number| number.trim().parse().ok());
+    number.unwrap_or_else(|| panic!("{} defines no TONE_VERSION", header.display()))
+}
+
+/// What the archive's `tone_version` answers: a program of one line is linked with it and run.
+fn archive_version(archive: &Path, out: &Path) -> u32 {
+    let source = "extern \"C\" { fn tone_version() -> u32; }\nfn main() { print!(\"{}\", unsafe { tone_version() }) }\n";
+    write(out, "archive_version.rs", source);
+    let program = out.join("archive_version");
+    let mut rustc = Command::new(env::var_os("RUSTC").unwrap());
+    rustc.arg(out.join("archive_version.rs")).arg("-o").arg(&program);
+    rustc.arg("-L").arg(archive.parent().unwrap()).args(["-l", "static=tone_c"]);
+    if let Some(linker) = env::var_os("RUSTC_LINKER") {
+        rustc.arg("-C").arg(format!("linker={}", linker.display()));
+    }
+    let built = rustc.output().unwrap_or_else(|e| panic!("the compiler could not be run: {e}"));
+    let said = String::from_utf8_lossy(&built.stderr);
+    assert!(built.status.success(), "{} has no tone_version, or cannot be linked:\n{said}", archive.display());
+    let run = Command::new(&program).output().unwrap_or_else(|e| panic!("{}: {e}", program.display()));
+    String::from_utf8_lossy(&run.stdout).parse().unwrap_or_else(|_| panic!("{} says no version", archive.display()))
 }
 
 /// Writes what `src/original.rs` includes: the curve part twice, as published and with the roots that document 01 asks for, its closure `lookup`

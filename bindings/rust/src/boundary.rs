@@ -1,5 +1,6 @@
 //! The exported functions, as `bindings/c/tone.h` declares and describes them. A slice passes as a pointer and a length.
 extern "C" {
+    pub fn tone_version() -> u32;
     pub fn tone_table(
         points: *const u8,
         points_length: usize,

@@ -60,3 +60,19 @@ impl From<Format> for u8 {
         format.number()
     }
 }
+
+/// A format as the boundary takes it, a number. One above 11 is refused by the calls.
+///
+/// Nothing but a [`Format`] becomes one unasked, so no other number passes for a format:
+///
+/// ```compile_fail,E0277
+/// tone::plane(&[0; 256], true, 1, 1, &mut [0], 1);
+/// ```
+#[derive(Clone, Copy, Debug, PartialEq, Eq)]
+pub struct FormatNumber(pub u8);
+
+impl From<Format> for FormatNumber {
+    fn from(format: Format) -> FormatNumber {
+        FormatNumber(format.number())
+    }
+}

@@ -11,8 +11,32 @@
 //! # Ok::<(), tone::Refusal>(())
 //! ```
 //!
-//! Kinds and formats are enums. Whoever has numbers from elsewhere passes them as they are, a [`KindNumbers`] or a `u8`: one that means nothing is
-//! refused.
+//! Kinds and formats are enums. Whoever has numbers from elsewhere passes them as [`KindNumbers`] or
+//! as a [`FormatNumber`]: one that means nothing is refused.
+//!
+//! # What a caller must see to
+//!
+//! The slices take care of pointers, lengths, alignment and overlap. What is left:
+//!
+//! - Rounding is to nearest and small numbers are not flushed to zero, as a program finds it at its
+//!   start. Do not link with C code that is linked by `-ffast-math` or `-Ofast`, whose start code
+//!   turns the flush on for the whole program, and put a rounding mode of your own back before a
+//!   call. In another mode tables are not those promised: upward rounding changes a third of all
+//!   their bytes.
+//! - There is stack for the call: up to 9 KB, each call's figure is in `enum tone_stack` of the C
+//!   header. A test measures them; no proof does.
+//! - The machine is x86-64 Linux, the only one that the archive is for.
+//!
+//! A refused call has changed nothing. The first refusal is meant in document 01's order: that in
+//! which each function here names its refusals, and inside a record field by field, not by number.
+//!
+//! # What is proved
+//!
+//! The source of the linked archive, for every input. No proof covers the compiler's back end
+//! (LLVM), the prover and its libraries, this crate and the C header, which are written by hand and
+//! tested, the operating system, or how much stack there is. Of floats the proof tells the values,
+//! and all NaN are one value: that a refused call leaves the bits of a NaN too as they were is
+//! tested.
 #[doc(hidden)]
 pub mod boundary;
 #[doc(hidden)]
@@ -27,14 +51,22 @@ mod format;
 mod kind;
 mod picture;
 mod refusal;
+mod version;
 
-pub use format::Format;
+pub use format::{Format, FormatNumber};
 pub use kind::{Kind, KindNumbers};
 pub use picture::{Outputs, Planes};
 pub use refusal::Refusal;
+pub use version::VERSION;
 
 /// No record is longer, so an output of this size holds every record.
 pub const LONGEST_RECORD: usize = 522;
+
+/// The version of the archive that is linked: [`VERSION`], or this crate does not describe it.
+pub fn version() -> u32 {
+    // SAFETY: nothing passes.
+    unsafe { boundary::tone_version() }
+}
 
 /// Writes the byte table of a list of points to the first 256 bytes of `table`.
 ///
@@ -87,9 +119,17 @@ pub fn lookup(table: &[f32], values: &mut [f32]) -> Result<(), Refusal> {
 ///
 /// `step` is from a row to the next, in bytes. Refusals, in order: a format above 11; a width or height above 4,096; a step below the row's
 /// bytes or above 32,768; a plane too short.
-pub fn plane(table: &[u8; 256], format: impl Into<u8>, width: u32, height: u32, plane: &mut [u8], step: usize) -> Result<(), Refusal> {
+pub fn plane(
+    table: &[u8; 256],
+    format: impl Into<FormatNumber>,
+    width: u32,
+    height: u32,
+    plane: &mut [u8],
+    step: usize,
+) -> Result<(), Refusal> {
+    let format = format.into().0;
     // SAFETY: as in `table`; the array passes as its pointer.
-    Refusal::check(unsafe { boundary::tone_plane(table, format.into(), width, height, plane.as_mut_ptr(), plane.len(), step) })
+    Refusal::check(unsafe { boundary::tone_plane(table, format, width, height, plane.as_mut_ptr(), plane.len(), step) })
 }
 
 /// Tones a picture by the set that a record holds, into tight rows: Gray8 and luma by the master, Rgb24 and Rgba by each colour's list or
@@ -97,7 +137,15 @@ pub fn plane(table: &[u8; 256], format: impl Into<u8>, width: u32, height: u32, 
 ///
 /// Refusals, in order: the record's; Ya8, Cmyk, CmykInverted or a format above 11; a width or height above 4,096; no plane, or fewer than three
 /// for YUV; a step below the row's bytes or above 32,768; a first plane too short; an output too small.
-pub fn picture(record: &[u8], format: impl Into<u8>, width: u32, height: u32, planes: Planes, outputs: Outputs) -> Result<(), Refusal> {
+pub fn picture(
+    record: &[u8],
+    format: impl Into<FormatNumber>,
+    width: u32,
+    height: u32,
+    planes: Planes,
+    outputs: Outputs,
+) -> Result<(), Refusal> {
+    let format = format.into().0;
     let [u, v] = planes.chroma;
     let [out_u, out_v] = outputs.chroma;
     // SAFETY: as in `table`; the outputs are lent to this call alone.
@@ -105,7 +153,7 @@ pub fn picture(record: &[u8], format: impl Into<u8>, width: u32, height: u32, pl
         boundary::tone_picture(
             record.as_ptr(),
             record.len(),
-            format.into(),
+            format,
             width,
             height,
             planes.count,

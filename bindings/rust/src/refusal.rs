@@ -2,24 +2,26 @@
 use std::error::Error;
 use std::fmt;
 
-/// Why a call did nothing. Its number is document 01's.
+/// Why a call did nothing. Its number is document 01's; later versions may have more of them.
 #[derive(Clone, Copy, Debug, PartialEq, Eq)]
-#[repr(u8)]
+#[non_exhaustive]
 pub enum Refusal {
-    ReservedBit = 1,
-    RecordTruncated = 2,
-    PointCount = 3,
-    PointsNotRising = 4,
-    UnknownKind = 5,
-    FieldMismatch = 6,
-    TrailingBytes = 7,
-    UnsupportedFormat = 8,
-    PictureTooLarge = 9,
-    MissingPlane = 10,
-    RowStep = 11,
-    PlaneTooShort = 12,
-    OutputTooSmall = 13,
-    TableLength = 14,
+    ReservedBit,
+    RecordTruncated,
+    PointCount,
+    PointsNotRising,
+    UnknownKind,
+    FieldMismatch,
+    TrailingBytes,
+    UnsupportedFormat,
+    PictureTooLarge,
+    MissingPlane,
+    RowStep,
+    PlaneTooShort,
+    OutputTooSmall,
+    TableLength,
+    /// A number that this crate does not know: the archive is of another version.
+    Unknown(u8),
 }
 
 /// Each refusal, in the order of the numbers, in document 01's words.
@@ -47,20 +49,36 @@ impl Refusal {
     }
 
     pub fn number(self) -> u8 {
-        self as u8
+        match self {
+            Refusal::ReservedBit => 1,
+            Refusal::RecordTruncated => 2,
+            Refusal::PointCount => 3,
+            Refusal::PointsNotRising => 4,
+            Refusal::UnknownKind => 5,
+            Refusal::FieldMismatch => 6,
+            Refusal::TrailingBytes => 7,
+            Refusal::UnsupportedFormat => 8,
+            Refusal::PictureTooLarge => 9,
+            Refusal::MissingPlane => 10,
+            Refusal::RowStep => 11,
+            Refusal::PlaneTooShort => 12,
+            Refusal::OutputTooSmall => 13,
+            Refusal::TableLength => 14,
+            Refusal::Unknown(number) => number,
+        }
     }
 
     /// Document 01's words for it.
     pub fn words(self) -> &'static str {
-        ALL[usize::from(self.number()) - 1].1
+        let known = ALL.iter().find(|(refusal, _)| *refusal == self);
+        known.map_or("an answer that this version does not know", |(_, words)| words)
     }
 
     /// The answer byte of a boundary function: 0, or a refusal's number.
-    pub(crate) fn check(answer: u8) -> Result<(), Refusal> {
-        match answer {
-            0 => Ok(()),
-            n => Err(ALL[usize::from(n) - 1].0),
-        }
+    #[doc(hidden)]
+    pub fn check(answer: u8) -> Result<(), Refusal> {
+        let Some(place) = usize::from(answer).checked_sub(1) else { return Ok(()) };
+        Err(ALL.get(place).map_or(Refusal::Unknown(answer), |(refusal, _)| *refusal))
     }
 }
 

@@ -1,5 +1,5 @@
 //! Both picture calls through the wrapper.
-use tone::{Format, Outputs, Planes, Refusal};
+use tone::{Format, FormatNumber, Outputs, Planes, Refusal};
 
 /// The table that turns brightness round.
 fn negative() -> [u8; 256] {
@@ -69,15 +69,16 @@ fn a_set_tones_grey_and_luma_by_the_master() {
 fn refusals_of_the_one_table_call_come_in_order() {
     let mut plane = [8; 10];
     let table = negative();
-    assert_eq!(tone::plane(&table, 12, 4097, 1, &mut plane, 40_000), Err(Refusal::UnsupportedFormat));
-    assert_eq!(tone::plane(&table, 0, 4097, 1, &mut plane, 40_000), Err(Refusal::PictureTooLarge));
-    assert_eq!(tone::plane(&table, 0, 1, 5000, &mut plane, 40_000), Err(Refusal::PictureTooLarge));
-    assert_eq!(tone::plane(&table, 0, 1, 0, &mut plane, 32_769), Err(Refusal::RowStep));
-    assert_eq!(tone::plane(&table, 2, 4, 1, &mut plane, 11), Err(Refusal::RowStep));
-    assert_eq!(tone::plane(&table, 2, 4, 1, &mut plane, 12), Err(Refusal::PlaneTooShort));
-    assert_eq!(tone::plane(&table, 0, 3, 3, &mut plane, 4), Err(Refusal::PlaneTooShort));
+    let unknown = FormatNumber(12);
+    assert_eq!(tone::plane(&table, unknown, 4097, 1, &mut plane, 40_000), Err(Refusal::UnsupportedFormat));
+    assert_eq!(tone::plane(&table, Format::Gray8, 4097, 1, &mut plane, 40_000), Err(Refusal::PictureTooLarge));
+    assert_eq!(tone::plane(&table, Format::Gray8, 1, 5000, &mut plane, 40_000), Err(Refusal::PictureTooLarge));
+    assert_eq!(tone::plane(&table, Format::Gray8, 1, 0, &mut plane, 32_769), Err(Refusal::RowStep));
+    assert_eq!(tone::plane(&table, Format::Rgb24, 4, 1, &mut plane, 11), Err(Refusal::RowStep));
+    assert_eq!(tone::plane(&table, Format::Rgb24, 4, 1, &mut plane, 12), Err(Refusal::PlaneTooShort));
+    assert_eq!(tone::plane(&table, Format::Gray8, 3, 3, &mut plane, 4), Err(Refusal::PlaneTooShort));
     assert_eq!(plane, [8; 10]);
-    tone::plane(&table, 0, 2, 3, &mut plane, 4).unwrap();
+    tone::plane(&table, Format::Gray8, 2, 3, &mut plane, 4).unwrap();
     tone::plane(&table, Format::Gray8, 0, 4096, &mut [], 32_768).unwrap();
 }
 
@@ -87,7 +88,7 @@ fn refusals_of_the_set_call_come_in_order() {
     let (mut y, mut u, mut v) = ([9; 5], [9; 1], [9; 1]);
     let mut ask = |record: &[u8], format: u8, size: (u32, u32), count: usize, step: usize| {
         let planes = Planes { count, first: &plane, step, chroma: [&[1, 2], &[3]] };
-        tone::picture(record, format, size.0, size.1, planes, Outputs::three(&mut y, [&mut u, &mut v]))
+        tone::picture(record, FormatNumber(format), size.0, size.1, planes, Outputs::three(&mut y, [&mut u, &mut v]))
     };
     assert_eq!(ask(&[0x80], 1, (5000, 1), 0, 0), Err(Refusal::ReservedBit));
     assert_eq!(ask(&RECORD[..10], 1, (5000, 1), 0, 0), Err(Refusal::RecordTruncated));

@@ -4,7 +4,7 @@ use tone::model::checks::{Answer, Shape};
 use tone::model::record::{self, Set};
 use tone::original::{curves, frame, pixel_format, tonal_lut, PixelFilter, VideoStreamParams};
 use tone::trial::{any_record, any_set, damaged, legal_record, shape, Contents, Lent};
-use tone::{Format, Outputs, Planes, Refusal};
+use tone::{Format, FormatNumber, Outputs, Planes, Refusal};
 
 /// The one-table call on pictures of every format.
 pub fn one_table(t: &mut Trial) {
@@ -75,7 +75,7 @@ fn tone_plane(t: &mut Trial, shape: Shape) {
     let mut plane = Lent::new(&contents);
     let mut lent = Lent::new(&table);
     let of_256: &[u8; 256] = (&*lent.lend()).try_into().expect("256 bytes");
-    let answer = tone::plane(of_256, shape.format, shape.width, shape.height, plane.lend(), shape.step);
+    let answer = tone::plane(of_256, FormatNumber(shape.format), shape.width, shape.height, plane.lend(), shape.step);
     let expected = shape.plane_answer();
     t.answered(answer, expected, &shape);
     t.kept(&lent, 0, &shape);
@@ -130,7 +130,7 @@ fn call(shape: &Shape, record: &[u8], first: &[u8], chroma: [&mut [u8]; 2], outp
     let planes = Planes { count: shape.planes, first, step: shape.step, chroma: [u, v] };
     let [y, u, v] = outputs;
     let outputs = Outputs::three(y.lend(), [u.lend(), v.lend()]);
-    tone::picture(record, shape.format, shape.width, shape.height, planes, outputs)
+    tone::picture(record, FormatNumber(shape.format), shape.width, shape.height, planes, outputs)
 }
 
 /// How many bytes of each output a call may write.

@@ -90,8 +90,7 @@ fn copied(record: &[u8], out: &mut [u8], before: usize) -> (Answer, usize) {
     let mut written = before;
     // SAFETY: both slices pass as their pointer and length, the length as its pointer.
     let answer = unsafe { tone_record_copy(record.as_ptr(), record.len(), out.as_mut_ptr(), out.len(), &mut written) };
-    let refusal = usize::from(answer).checked_sub(1).map(|i| Refusal::all()[i]);
-    (refusal.map_or(Ok(()), Err), written)
+    (Refusal::check(answer), written)
 }
 
 /// Loans for calls that are refused, so that nothing may change: outputs are looked at from time to time and at the end.
