@@ -1,6 +1,7 @@
 //! Stores samples of the Rust original's answers for the programs `replay` and `replay_pictures` of the gate.
 //!
 //! `cargo run --release --bin store` writes their files `stdin`, the questions, and `stdout`, what the original answers. The port has no part in it.
+//! With `--check` it writes nothing, and fails where a file is not what it would write.
 #[cfg(original)]
 mod pictures;
 #[cfg(original)]
@@ -14,8 +15,9 @@ fn main() {
 
 #[cfg(original)]
 fn main() {
-    store("replay", tables::sample());
-    store("replay_pictures", pictures::sample());
+    let work = if std::env::args().any(|word| word == "--check") { check } else { store };
+    work("replay", tables::sample());
+    work("replay_pictures", pictures::sample());
 }
 
 /// Lines of questions and lines of answers.
@@ -35,12 +37,31 @@ impl Sample {
 }
 
 #[cfg(original)]
+impl Sample {
+    /// The files of a program, and what is in them.
+    fn files(&self, program: &str) -> [(std::path::PathBuf, &str); 2] {
+        let folder = std::path::Path::new(env!("CARGO_MANIFEST_DIR")).join("../../crates").join(program);
+        [(folder.join("stdin"), &self.asked), (folder.join("stdout"), &self.answered)]
+    }
+}
+
+#[cfg(original)]
 fn store(program: &str, sample: Sample) {
-    let folder = std::path::Path::new(env!("CARGO_MANIFEST_DIR")).join("../../crates").join(program);
-    let write = |name: &str, text: &str| std::fs::write(folder.join(name), text).unwrap_or_else(|e| panic!("{program}/{name}: {e}"));
-    write("stdin", &sample.asked);
-    write("stdout", &sample.answered);
+    for (path, text) in sample.files(program) {
+        std::fs::write(&path, text).unwrap_or_else(|e| panic!("{}: {e}", path.display()));
+    }
     println!("{program}: {} questions and the original's answers", sample.asked.lines().count());
+}
+
+#[cfg(original)]
+fn check(program: &str, sample: Sample) {
+    for (path, text) in sample.files(program) {
+        if std::fs::read(&path).ok().as_deref() != Some(text.as_bytes()) {
+            eprintln!("{} is not what `store` writes", path.display());
+            std::process::exit(1);
+        }
+    }
+    println!("{program}: {} questions are stored with the original's answers", sample.asked.lines().count());
 }
 
 #[cfg(original)]
