@@ -1,5 +1,8 @@
 #!/usr/bin/env python3
-"""Says which must-fail edits no longer fit their crate: each old text must stand once in its file. The gate would find it too, after half an hour."""
+"""Says which must-fail edits no longer fit their crate: each old text is in its file once, each pair
+changes something, and no line is one that `rt` would pass over in silence. The gate would find most
+of it too, after half an hour.
+"""
 import pathlib
 import sys
 
@@ -16,18 +19,25 @@ def faults(edit):
             text.setdefault(name, (crate / name).read_text())
         elif key == "old":
             old = rest
-        elif line.startswith("new:"):
+        elif line.startswith("new:") and name is not None and old is not None:
+            new = line[len("new: ") :]
             if text[name].count(old) != 1:
-                yield f"{edit.relative_to(ROOT)}: found {text[name].count(old)} times in {name}: {old.strip()}"
-            text[name] = text[name].replace(old, line[len("new: ") :])
-            pairs += 1
-    if not pairs:
-        yield f"{edit.relative_to(ROOT)}: no pair of old and new"
+                yield f"found {text[name].count(old)} times in {name}: {old.strip()}"
+            if new == old:
+                yield f"changes nothing: {old.strip()}"
+            text[name] = text[name].replace(old, new)
+            old, pairs = None, pairs + 1
+        elif line.strip() and not line.startswith("#"):
+            yield f"a line that is passed over: {line.strip()}"
+    if not pairs or old is not None:
+        yield "no pair of old and new, or half a pair"
 
 
 def main():
     edits = sorted(ROOT.glob("crates/*/must-fail/*.edit"))
-    found = [fault for edit in edits for fault in faults(edit)]
+    found = [f"{edit.relative_to(ROOT)}: {fault}" for edit in edits for fault in faults(edit)]
+    if not edits:
+        found = ["there are no must-fail edits"]
     print("\n".join(found) or f"must-fail: {len(edits)} edits fit their crates")
     return 1 if found else 0
 
