@@ -15,9 +15,10 @@
  *
  * What a caller must see to:
  *  - Floating point is as a program finds it at its start: rounding to nearest, and small numbers
- *    not flushed to zero. Do not link with -ffast-math or -Ofast: their start code turns the flush
- *    on for the whole program. Before a call put a rounding mode of your own back. In another mode
- *    tables are not those promised: upward rounding changes a third of all their bytes.
+ *    not flushed to zero. Do not link with -ffast-math or -Ofast, nor load a library that was:
+ *    their start code turns the flush on for the whole program. Before a call put a rounding mode
+ *    of your own back. In another mode tables are not those promised: upward rounding changes a
+ *    third of all their bytes.
  *  - There is stack for the call: enum tone_stack says how much.
  *  - An array passes as a pointer and the number of its elements. The pointer must not be null,
  *    even where the number is 0: then any other pointer will do, and nothing is read or written

@@ -19,9 +19,9 @@
 //! The slices take care of pointers, lengths, alignment and overlap. What is left:
 //!
 //! - Rounding is to nearest and small numbers are not flushed to zero, as a program finds it at its
-//!   start. Do not link with C code that is linked by `-ffast-math` or `-Ofast`, whose start code
-//!   turns the flush on for the whole program, and put a rounding mode of your own back before a
-//!   call. In another mode tables are not those promised: upward rounding changes a third of all
+//!   start. Link nothing with `-ffast-math` or `-Ofast`, and load no library that was: their start
+//!   code turns the flush on for the whole program. Before a call put a rounding mode of your own
+//!   back. In another mode tables are not those promised: upward rounding changes a third of all
 //!   their bytes.
 //! - There is stack for the call: up to 9 KB, each call's figure is in `enum tone_stack` of the C
 //!   header. A test measures them; no proof does.
