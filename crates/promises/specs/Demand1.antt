@@ -1,17 +1,20 @@
--- The first demand, call by call. "If a call is given any list, set, record, table or planes at all, it finishes with the toned result or with the first
--- refusal number that document 01 names, and a refusal changes no byte lent."
--- That a call finishes is the language's check, made of every function, and no open call asks anything of what it is given. Each statement here follows from
--- the call's contract alone, and so holds of every run: the answer has the number of the first of the call's checks that fails, 0 where none does; and where
--- it is a refusal, what was lent is as it was, and what is handed back is empty. With 0 the call gives its result, which is the second demand's.
+-- The first demand, call by call. "If a call is given any list, set, record, table or planes at
+-- all, it finishes with the toned result or with the first refusal number that document 01 names,
+-- and a refusal changes no byte lent."
+-- That a call finishes is the language's check, made of every function, and no call of document 01
+-- asks anything of what it is given. Each statement here follows from the call's contract alone,
+-- and so holds of every run: the answer has the number of the first of the call's checks that
+-- fails, 0 where none does; and where it is a refusal, what was lent is as it was, and what is
+-- handed back is empty. With 0 the call gives its result, which is the second demand's.
 use Prim.Native.Nat.{ℕ}
 use mathlib.Core.Path.{_≡_, refl, ap, _∙_}
-use mathlib.Core.Bool.{true≢false}
+use mathlib.Core.Bool.{false, true≢false}
 use mathlib.Core.List.{List, []}
 use lib.Dec.{eqb}
 use lib.ListN.{length, replicate}
 use lib.Ieee.{Float}
 use Rattle.answers.specs.declared.Answer.{Answer}
-use Rattle.answers.specs.Numbers.{numberOf}
+use Rattle.answers.specs.Numbers.{numberOf, isDone}
 use Rattle.answers.specs.Checks.{firstRefusal}
 use Rattle.single.specs.RuleLaws.{by-test}
 use Rattle.points.specs.declared.Curve.{Curve}
@@ -22,7 +25,7 @@ use Rattle.tables.specs.declared.Lut.{Lut}
 use Rattle.tables.specs.Tables.{tableChecks, BuiltTable, BuiltLut}
 use Rattle.lookup.specs.Lookup.{lookupChecks, lookedUp, LookupCall}
 use Rattle.sets.specs.declared.Curves.{Curves}
-use Rattle.sets.specs.Sets.{viewOf, emptyView}
+use Rattle.sets.specs.Sets.{viewOf, emptyView, setChecks, setAnswer}
 use Rattle.records.specs.declared.RecordRead.{RecordRead}
 use Rattle.records.specs.Format.{readRecord}
 use Rattle.records.specs.Checks.{recordChecks}
@@ -36,7 +39,9 @@ use Rattle.formats.specs.declared.PixelFormat.{PixelFormat}
 use Rattle.formats.specs.Checks.{lutChecks, lutAnswer}
 use Rattle.pictures.specs.declared.Toned.{Toned}
 use Rattle.pictures.specs.OneTable.{LutCall}
-use Rattle.pictures.specs.Runs.{Run, runChecks, answer, first, chroma, SetCall}
+use Rattle.pictures.specs.Runs.{PlaneOf, Run, given, runChecks, answer, first, chroma, SetCall}
+use Rattle.text.specs.declared.Text.{Text}
+use Rattle.text.specs.Text.{refusalText, printed, textOf}
 use Rattle.promises.specs.Checks.{Answers, answers}
 
 -- ---- "any list"
@@ -56,6 +61,12 @@ pub build-table : {given : Curve} {kind : CurveInterpolation} {old new : List Fl
 build-table call = answers (ap numberOf (call .answer)) (λ no. rw no at (call .table))
 
 -- ---- "set"
+-- `Curves::check`, which is lent nothing
+pub check : (set : Curves) {r : Answer} → r ≡ setAnswer set
+    → Answers (setChecks set) (numberOf r) (Unit {0})
+unfolding setAnswer
+check set call = answers (ap numberOf call) (λ no. tt)
+
 -- `write_record`
 pub write-record : {set : Curves} {old new : List ℕ} {r : Written} → Wrote set old r new
     → Answers (writeChecks set (length old)) (numberOf (r .answer)) (new ≡ old)
@@ -68,6 +79,13 @@ pub read-record : (s : List ℕ) {r : RecordRead} → HandedBack (readRecord s) 
     → Answers (recordChecks s) (numberOf (r .answer)) (viewOf (r .set) ≡ emptyView)
 read-record s call =
     answers (ap numberOf (call .answer ∙ read-answer s)) (λ no. call .set ∙ read-empty s (rw (call .answer) at no))
+
+-- `text_of`: "one line, `refused ` and the number"
+pub text-of : (s : List ℕ) (r : Text) → textOf r ≡ printed s
+    → isDone (firstRefusal (recordChecks s)) ≡ false
+    → textOf r ≡ refusalText (numberOf (firstRefusal (recordChecks s)))
+unfolding printed
+text-of s r call refused = call ∙ rw (read-answer s, refused)
 
 -- ---- "table"
 -- `lookup`
@@ -87,6 +105,14 @@ pub apply-tone-lut : {format : PixelFormat} {width height step : ℕ} {table old
 unfolding lutAnswer
 apply-tone-lut call = answers (ap numberOf (call .answer-is)) (λ no. rw no at (call .plane-is))
 
+-- the same on a plane, `planes::tone_plane`
+pub tone-plane : {plane : PlaneOf} {format : PixelFormat} {width height : ℕ} {table new : List ℕ}
+    {r : Answer}
+    → LutCall format width height (plane .step) table (plane .bytes) r new
+    → Answers (lutChecks format width height (plane .step) (length (plane .bytes))) (numberOf r)
+    (new ≡ plane .bytes)
+tone-plane = apply-tone-lut
+
 of-run : (run : Run) → answer run ≡ firstRefusal (runChecks run)
 unfolding answer
 of-run run = refl
@@ -98,3 +124,14 @@ unfolding first chroma
 apply-pixels {run} call =
     answers (ap numberOf (call .answer-is ∙ of-run run))
     (λ no. let n = rw (call .answer-is) at no in (rw n at (call .out-is), rw n at (call .cb-is), rw n at (call .cr-is)))
+
+-- the same on planes, `planes::tone_picture`
+pub tone-picture : {set : Curves} {format : PixelFormat} {width height planes : ℕ}
+    {plane cb cr : PlaneOf} {out outCb outCr : List ℕ}
+    {r : Toned} {newOut newCb newCr : List ℕ}
+    → let run = given set format width height planes (plane .bytes) (plane .step) (cb .bytes)
+    (cb .step) (cr .bytes) (cr .step) out outCb outCr in
+    SetCall run r newOut newCb newCr
+    → Answers (runChecks run) (numberOf (r .answer))
+    ((newOut ≡ out) × (newCb ≡ outCb) × (newCr ≡ outCr))
+tone-picture call = apply-pixels call

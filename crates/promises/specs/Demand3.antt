@@ -69,3 +69,13 @@ padding-apart = Fact.alike-but-padding
 -- "Alpha and chroma come out as they went in."
 pub passed-through : (a : Call) → Accepted a → PassedThrough a
 passed-through = Fact.alpha-and-chroma
+
+-- "Dithering would break this order and has no part in the work": a toned output byte is a matter
+-- of the kind, the list that tones it and its input byte alone. a and b may be one run, at two
+-- places; runs that share a set have one kind
+pub no-dithering : (a b : Call) → Accepted a → Accepted b → kindIn (a .given) ≡ kindIn (b .given)
+    → (p q : Place)
+    → TonedAt (a .given) p → TonedAt (b .given) q
+    → listThatTones (a .given) p ≡ listThatTones (b .given) q
+    → input a p ≡ input b q → output a p ≡ output b q
+no-dithering = Fact.by-input-alone

@@ -1,5 +1,5 @@
 -- What stands at each place of the outputs of a run that is not refused, and the clauses of the third demand that follow.
-use Prim.Native.Nat.{ℕ, _+_, _-_, _/_, _%_, _≤_, _<_}
+use Prim.Native.Nat.{ℕ, _+_, _-_, _*_, _/_, _%_, _≤_, _<_}
 use native.Mathlib.Nat.{mod-lt, div-lt-iff-lt-mul, eq-zero-or-pos, mul-zero, div-add-mod'}
 use native.Mathlib.Decide.{ℕ-discrete}
 use native.Mathlib.Omega.{arith}
@@ -20,6 +20,7 @@ use Rattle.points.specs.Knots.{OnLine}
 use Rattle.points.specs.Order.{All, Bytes, NeverFalls}
 use Rattle.points.specs.Kept.{kept-rising, rising-is-kept}
 use Rattle.table_facts.specs.BrokenLine.{on-line, line-width, one-value}
+use Rattle.tables.specs.declared.CurveInterpolation.{CurveInterpolation}
 use Rattle.tables.specs.declared.CurveInterpolation.the-variants.{Linear}
 use Rattle.tables.specs.Tables.{entryOf}
 use Rattle.table_facts.specs.Near.{entry-near}
@@ -80,20 +81,22 @@ front-rest l m k h =
     let past : length l + (k - length l) ≡ k = omega arith in
     rw past at (getD-append-add l (drop (length l) m) (k - length l) 0) ∙ rw past at (getD-drop (length l) m (k - length l) 0)
 
+-- index k of m rows of n bytes each: its row, and how far along
+pub split-index : (m n k : ℕ) → k < m * n → (k / n < m) × (k % n < n)
+split-index m n k h =
+    let some : 0 < n = ⊎-elim (λ e. absurd (omega (arith, rw (e, mul-zero) at h))) (λ s. s)
+    (eq-zero-or-pos n) in
+    (div-lt-iff-lt-mul {x = k} {y = m} some .1 h, mod-lt k some)
+
 -- every byte of the tight rows has a place
-place-of : (r : Run) (k : ℕ) → k < size r → (p : Place) × Within r p × (inOutput r p ≡ k)
+pub place-of : (r : Run) (k : ℕ) → k < size r → (p : Place) × Within r p × (inOutput r p ≡ k)
 place-of r k h =
     let n = bytesAPixel (r .format) in
     let row = rowBytes r in
-    let wide : 0 < row = ⊎-elim (λ e. absurd (omega (arith, rw (e, mul-zero) at h))) (λ s. s) (eq-zero-or-pos row) in
-    let inside : k % row < row = mod-lt k wide in
-    let some : 0 < n = ⊎-elim (λ e. absurd (omega (arith, rw (e, mul-zero) at inside))) (λ s. s) (eq-zero-or-pos n) in (
+    let of-rows = split-index (r .height) row k h in
+    let of-row = split-index (r .width) n (k % row) (of-rows .1) in (
       record { row = k / row; column = k % row / n; channel = k % row % n },
-      record {
-        row = div-lt-iff-lt-mul {x = k} {y = r .height} wide .1 h;
-        column = div-lt-iff-lt-mul {x = k % row} {y = r .width} some .1 inside;
-        channel = mod-lt (k % row) some;
-      },
+      record { row = of-rows .0; column = of-row .0; channel = of-row .1 },
       rw (div-add-mod' (k % row) n) (div-add-mod' k row),
     )
 
@@ -251,6 +254,21 @@ module _ (c : Call) (ok : Accepted c) where
       ∙ Table.through-points l (list-bytes p) (kindIn (c .given)) (no-spline (kindIn (c .given)) other (c .contract .lent .tension)) q (rw (list-kept p) m)
 
 -- ---- two runs
+entry-alike : {j k : CurveInterpolation} {l m : List Point} {x y : ℕ} → j ≡ k → l ≡ m → x ≡ y
+    → entryOf j l x ≡ entryOf k m y
+entry-alike {k = k} {l = l} {m = m} {x = x} kind list byte =
+    ap (λ (i : CurveInterpolation). entryOf i l x) kind
+    ∙ ap (λ (o : List Point). entryOf k o x) list ∙ ap (entryOf k m) byte
+
+-- a toned byte is a matter of the kind, the list and the byte alone
+pub by-input-alone : (a b : Call) → Accepted a → Accepted b → kindIn (a .given) ≡ kindIn (b .given)
+    → (p q : Place)
+    → TonedAt (a .given) p → TonedAt (b .given) q
+    → listThatTones (a .given) p ≡ listThatTones (b .given) q
+    → input a p ≡ input b q → output a p ≡ output b q
+by-input-alone a b a-ok b-ok kind p q a-toned b-toned list byte =
+    toned-entry a a-ok p a-toned ∙ entry-alike kind list byte ∙ sym (toned-entry b b-ok q b-toned)
+
 toned-alike : {f g : PixelFormat} {v w : View} {x y : ℕ} (j : ℕ) → f ≡ g → v ≡ w → x ≡ y
     → toned (keptOf f) (tablesOf f v) j x ≡ toned (keptOf g) (tablesOf g w) j y
 toned-alike {g = g} {v = v} {w = w} {x = x} j format view e =

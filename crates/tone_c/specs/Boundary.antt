@@ -8,7 +8,7 @@ use lib.Dec.{ltb, eqb}
 use lib.IntN.{ℤ}
 use lib.ListN.{length, drop}
 use lib.Ieee.{Float}
-use Rattle.answers.specs.declared.Answer.the-variants.{UnsupportedFormat}
+use Rattle.answers.specs.declared.Answer.the-variants.{Done, UnsupportedFormat}
 use Rattle.answers.specs.Numbers.{numberOf}
 use Rattle.answers.specs.Checks.{Check, _when_, firstRefusal, roomCheck}
 use Rattle.points.specs.declared.Point.{Point}
@@ -19,11 +19,14 @@ use Rattle.sets.specs.Sets.{View}
 use Rattle.formats.specs.declared.Lengths.{Lengths}
 use Rattle.formats.specs.Formats.{formatOf}
 use Rattle.formats.specs.Checks.{chromaRead, lutChecks, pictureChecks}
+use Rattle.records.specs.declared.RecordRead.{RecordRead}
 use Rattle.records.specs.Format.{pointBytes, pairs, kindCheck, readRecord}
 use Rattle.records.specs.Checks.{recordChecks}
+use Rattle.records.specs.Views.{HandedBack}
 use Rattle.writing.specs.Encode.{encode}
+use Rattle.pictures.specs.declared.Toned.{Toned}
 use Rattle.pictures.specs.OneTable.{tonedWithin}
-use Rattle.pictures.specs.Runs.{tablesOf, tightRows}
+use Rattle.pictures.specs.Runs.{given, tablesOf, tightRows, SetCall}
 use Rattle.lookup.specs.Lookup.{lookupChecks, lookedUp}
 
 -- ---- what a caller gives
@@ -102,7 +105,24 @@ lengthsOf y u v outY outU outV = record {
 abbrev pub chromaOut : ℕ → ℕ → List ℕ → List ℕ → List ℕ
 chromaOut r format chroma old = cond (eqb r 0 && chromaRead (formatOf format)) (chroma ++ drop (length chroma) old) old
 
--- the number answered; and the outputs: tight rows toned by the record's set, chroma copied, or on a refusal unchanged
+-- the run of the set call that a call answered with 0 is, on the set that the record's reader
+-- handed back. A caller gives no chroma steps and gets none: they are 0
+pub record PictureRun
+    (stored : List ℕ)
+    (format w h planes : ℕ)
+    (y : List ℕ)
+    (step : ℕ)
+    (u v oldY oldU oldV newY newU newV : List ℕ)
+    : Type 0 where
+  pub handed : RecordRead
+  pub toned : Toned
+  pub read : HandedBack (readRecord stored) handed
+  pub call : SetCall (given (handed .set) (formatOf format) w h planes y step u 0 v 0 oldY oldU
+      oldV) toned newY newU newV
+  pub done : toned .answer ≡ Done
+
+-- the number answered; the outputs: tight rows toned by the record's set, chroma copied, or on a
+-- refusal unchanged; and with 0 the run
 pub record TonePicture
     (stored : List ℕ)
     (format w h planes : ℕ)
@@ -116,6 +136,7 @@ pub record TonePicture
   pub first : newY ≡ cond (eqb r 0) (tightRows (formatOf format) w h step (tablesOf (formatOf format) (setOf stored)) y oldY) oldY
   pub cb : newU ≡ chromaOut r format u oldU
   pub cr : newV ≡ chromaOut r format v oldV
+  pub run : r ≡ 0 → PictureRun stored format w h planes y step u v oldY oldU oldV newY newU newV
 
 -- ---- tone_record_table
 -- 1 to 7 of the record, then 13: the table is 256 bytes

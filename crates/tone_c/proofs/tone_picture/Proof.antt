@@ -3,11 +3,12 @@
 use native.Mathlib.Omega.{arith}
 use Prim.Native.Nat.{ℕ}
 use mathlib.Core.Path.{_≡_, refl, sym, ap, _∙_}
-use mathlib.Core.Bool.{false, cond}
+use mathlib.Core.Bool.{false, cond, false≢true}
 use mathlib.Core.List.{List, [], _∷_, _++_}
+use lib.Dec.{eqb}
 use Rattle.answers.specs.declared.Answer.{Answer}
 use Rattle.answers.specs.declared.Answer.the-variants.{Done}
-use Rattle.answers.specs.Numbers.{numberOf, isDone, told-refused, told-done}
+use Rattle.answers.specs.Numbers.{numberOf, isDone, told-refused, told-done, number-unique}
 use Rattle.answers.specs.Checks.{Check, firstRefusal, first-then, first-stops, first-goes-on}
 use Rattle.sets.specs.Sets.{View, curveChecks, setChecks, setAnswer}
 use Rattle.formats.specs.Formats.{formatOf}
@@ -43,6 +44,7 @@ module _ {stored y u v outY outU outV : List ℕ} {format w h planes step r : �
     first = rw (e, bad);
     cb = rw (e, bad);
     cr = rw (e, bad);
+    run = λ zero. absurd (false≢true (sym bad ∙ ap (λ (n : ℕ). eqb n 0) (sym e ∙ zero)));
   }
 
   -- neither is refused: the set call answers, on the set that the reader handed back
@@ -62,6 +64,13 @@ module _ {stored y u v outY outU outV : List ℕ} {format w h planes step r : �
             ∙ ap (λ (set : View). cond (isDone (t .answer)) (tightRows f w h step (tablesOf f set) y outY) outY) (read .set));
         cb = rw e (rw (← call .answer-is) at (call .cb-is));
         cr = rw e (rw (← call .answer-is) at (call .cr-is));
+        run = λ zero. record {
+          handed = handed;
+          toned = t;
+          read = read;
+          call = call;
+          done = number-unique (t .answer) Done (sym e ∙ zero);
+        };
       }
 
 -- what the record and the format are answered
