@@ -11,7 +11,6 @@ use Rattle.points.specs.Order.{NeverFalls}
 use Rattle.tables.specs.declared.CurveInterpolation.the-variants.{Linear}
 use Rattle.sets.specs.Sets.{View, viewOf}
 use Rattle.sets.specs.SameLaws.{view-same}
-use Rattle.formats.specs.declared.PixelFormat.{PixelFormat}
 use Rattle.formats.specs.Formats.{formatOf}
 use Rattle.pictures.specs.Runs.{EveryList, given, tonedBy}
 use Rattle.tone_c.specs.Boundary.{setOf, TonePicture}
@@ -64,47 +63,16 @@ run c =
       contract = r .call;
     }
 
--- it is a run on what the call was given: the set that the record holds, the format of that number,
--- the picture's size and bytes; and it wrote what the call wrote
-pub record RunOf (c : AcceptedCall) (r : Run.Call) : Type 0 where
+-- the documents do not refuse it, and its set is the one that the record holds. What else it was
+-- given and what it wrote is the call's by definition
+pub record RunsAs (c : AcceptedCall) (r : Run.Call) : Type 0 where
   pub accepted : Run.Accepted r
   pub set : viewOf (r .given .set) ≡ setOf (c .stored)
-  pub format : r .given .format ≡ formatOf (c .format)
-  pub width : r .given .width ≡ c .width
-  pub height : r .given .height ≡ c .height
-  pub planes : r .given .planes ≡ c .planes
-  pub plane : r .given .plane .bytes ≡ c .y
-  pub step : r .given .plane .step ≡ c .step
-  pub cb : r .given .cb .bytes ≡ c .u
-  pub cr : r .given .cr .bytes ≡ c .v
-  pub out : r .given .out ≡ c .oldY
-  pub outCb : r .given .outCb ≡ c .oldU
-  pub outCr : r .given .outCr ≡ c .oldV
-  pub newOut : r .out ≡ c .newY
-  pub newCb : r .cb ≡ c .newU
-  pub newCr : r .cr ≡ c .newV
 
-pub tone-picture-run : (c : AcceptedCall) → RunOf c (run c)
+pub tone-picture-run : (c : AcceptedCall) → RunsAs c (run c)
 tone-picture-run c =
     let r = c .contract .run refl in
-    record {
-      accepted = sym (r .call .answer-is) ∙ r .done;
-      set = r .read .set;
-      format = refl;
-      width = refl;
-      height = refl;
-      planes = refl;
-      plane = refl;
-      step = refl;
-      cb = refl;
-      cr = refl;
-      out = refl;
-      outCb = refl;
-      outCr = refl;
-      newOut = refl;
-      newCb = refl;
-      newCr = refl;
-    }
+    record { accepted = sym (r .call .answer-is) ∙ r .done; set = r .read .set }
 
 -- a byte of the plane before a call, and of the first output after it; where a byte is toned, and
 -- by which list

@@ -1,9 +1,13 @@
--- Controls of the third demand. What it asks of kinds, lists, rows and chroma is needed: without it the clause is refuted, by runs of one pixel that are
--- computed from the definitions. And two of the programs that document 01 says must not pass, one flat table and a copy, do not keep the demand.
+-- Controls of the third demand. What it asks of kinds, lists, rows and chroma is needed: without it
+-- the clause is refuted, by runs of a pixel or two that are computed from the definitions; what it
+-- asks of the runs is ControlsOfRuns'. And two of the programs that document 01 says must not pass,
+-- one flat table and a copy, do not keep the demand.
 use Prim.Native.Nat.{ℕ, zero, suc, _*_, _+_, _≤_, _<_}
+use native.Mathlib.Nat.{le-refl}
 use native.Mathlib.Decide.{ℕ-discrete}
 use native.Mathlib.Omega.{arith}
 use mathlib.Core.Path.{_≡_, refl, sym, ap, _∙_}
+use mathlib.Core.Bool.{false≢true}
 use mathlib.Core.List.{List, [], _∷_, List·Memᴰ, List·Memᴰ·head, List·Memᴰ·tail}
 use lib.Dec.{lit<, lit≤}
 use lib.ListN.{getD}
@@ -11,15 +15,18 @@ use lib.Seq.{getD-take}
 use Rattle.points.specs.declared.Point.{Point}
 use Rattle.points.specs.Points.{pt, straightCurve}
 use Rattle.points.specs.Knots.{rest, knots, OnLine}
+use Rattle.points.specs.Order.{NeverFalls}
 use Rattle.hermite.specs.CatmullRom.{slope}
 use Rattle.monotone.specs.Monotone.{secantAt, meanAt, boxed, adjusted, reached, monotoneAt}
 use Rattle.spline.specs.Second.{recovered, endsRecovered, notAKnotAt}
 use Rattle.tables.specs.declared.CurveInterpolation.{CurveInterpolation}
 use Rattle.tables.specs.declared.CurveInterpolation.the-variants.{Linear, MonotoneCubicBox, NotAKnotCubic}
 use Rattle.tables.specs.Tables.{entryOf}
+use Rattle.sets.specs.Sets.{viewOf}
+use Rattle.sets.specs.SameLaws.{same-refl}
 use Rattle.rows.specs.Rows.{inRow}
-use Rattle.formats.specs.declared.PixelFormat.the-variants.{Gray8, Rgba, Yuv420P}
-use Rattle.pictures.specs.Runs.{Run}
+use Rattle.formats.specs.declared.PixelFormat.the-variants.{Gray8, Rgb24, Rgba, Yuv420P}
+use Rattle.pictures.specs.Runs.{Run, Lent, given}
 use Rattle.pictures.specs.Examples.{answered}
 use Rattle.examples.specs.Computed as Computed
 use Rattle.promises.specs.Words.{
@@ -42,12 +49,41 @@ use Rattle.promises.specs.Words.{
   WriteTheSame,
 }
 use Rattle.promises.specs.Demand3.{through-points, passed-through}
-use Rattle.promises.specs.Pixels.{Toning, Strip, AreBytes, runOf, ran, shared, here, grey, ranGrey, grey-toned, grey-input, grey-output}
+use Rattle.promises.specs.ControlsOfWords.{no-splines}
+use Rattle.promises.specs.Pixels.{
+  Toning,
+  Strip,
+  AreBytes,
+  own,
+  linear,
+  byte-at,
+  runOf,
+  ranOn,
+  ran,
+  shared,
+  here,
+  grey,
+  ranGrey,
+  grey-toned,
+  grey-input,
+  grey-output,
+}
 
 -- what the computation of an entry opens, under every kind that is used here
 computed : CurveInterpolation → List Point → ℕ → ℕ
 unfolding Computed.entry slope secantAt meanAt boxed adjusted reached monotoneAt recovered endsRecovered notAKnotAt
 computed = entryOf
+
+abbrev straightLine : Toning
+straightLine = record {
+  list = straightCurve;
+  kind = Linear;
+  bytes = ((lit< tt, lit< tt), ((lit< tt, lit< tt), tt));
+  tension = lit< tt;
+}
+
+linear-is-no-spline : IsSpline Linear → ⊥
+linear-is-no-spline = no-splines 0 .0
 
 -- ---- "order", with P for its premise on kind and lists
 abbrev OrderUnder : (Run → Type 0) → Type 0
@@ -111,6 +147,50 @@ unfolding answered
 order-wants-linear =
     order-refuted NoListFalls steep 33 34 (lit< tt) (lit< tt) (lit≤ tt) (omega (arith, steep-at-33, steep-at-34)) refl refl
     (record { master = (lit≤ tt, (lit≤ tt, (lit≤ tt, tt))); red = tt; green = tt; blue = tt })
+
+-- .. and so does a colour that falls, where the master never does: red in a pixel of Rgb24, by the
+-- straight master and a red list of its own
+abbrev reddened : ℕ → Run
+reddened v =
+    given (linear straightCurve (own (falling .list))) Rgb24 1 1 1 (v ∷ 0 ∷ 0 ∷ []) 3 [] 0 [] 0
+    (0 ∷ 0 ∷ 0 ∷ []) [] []
+
+reddened-lent : (v : ℕ) → v < 256 → Lent (reddened v)
+reddened-lent v byte = record {
+  plane = byte-at (v ∷ 0 ∷ 0 ∷ []) (byte, (lit< tt, (lit< tt, tt)));
+  points = record { master = straightLine .bytes; red = falling .bytes; green = tt; blue = tt };
+  tension = lit< tt;
+}
+
+red-toned : (v : ℕ) → TonedAt (reddened v) here
+red-toned v = record {
+  within = record { row = lit< tt; column = lit< tt; channel = lit< tt };
+  not-alpha = λ e. omega (arith, e);
+}
+
+reddened-below : (i : ℕ) → _≤_ (getD (0 ∷ 0 ∷ 0 ∷ []) i 0) (getD (255 ∷ 0 ∷ 0 ∷ []) i 0)
+reddened-below zero = lit≤ tt
+reddened-below (suc i) = le-refl (getD (0 ∷ 0 ∷ []) i 0)
+
+abbrev MasterNeverFalls : Run → Type 0
+MasterNeverFalls r = NeverFalls (viewOf (r .set) .master)
+
+pub order-wants-no-colour-to-fall : OrderUnder (λ r. IsLinear r × MasterNeverFalls r) → ⊥
+unfolding answered
+order-wants-no-colour-to-fall order =
+    let a = ranOn (reddened 0) (reddened-lent 0 (lit< tt)) in
+    let b = ranOn (reddened 255) (reddened-lent 255 (lit< tt)) in
+    let share : Share a b =
+    record { set = same-refl (reddened 0 .set); format = refl; width = refl; height = refl } in
+    omega (
+      arith,
+      order a b share refl refl (refl, (lit≤ tt, tt))
+          (λ p t. reddened-below (p .row * 3 + (p .column * 3 + p .channel))) here (red-toned 0),
+      through-points a refl linear-is-no-spline here (red-toned 0) (pt 0 9)
+          (List·Memᴰ·head refl) refl,
+      through-points b refl linear-is-no-spline here (red-toned 255) (pt 255 0)
+          (List·Memᴰ·tail (List·Memᴰ·head refl)) refl,
+    )
 
 -- ---- "near", with P for its premise on the kind, and IsNear for what it says of an output byte and the line n / d
 abbrev NearUnder : (Run → Type 0) → (ℕ → ℕ → ℕ → Type 0) → Type 0
@@ -180,9 +260,6 @@ through-points-wants-no-spline through =
     )
 
 -- ---- "rows alone": alpha and chroma are written too, so it is not enough that runs are alike in their toned bytes, or in their rows
-abbrev straightLine : Toning
-straightLine = record { list = straightCurve; kind = Linear; bytes = ((lit< tt, lit< tt), ((lit< tt, lit< tt), tt)); tension = lit< tt }
-
 abbrev colours : ℕ → List ℕ
 colours alpha = 5 ∷ 6 ∷ 7 ∷ alpha ∷ []
 
@@ -238,15 +315,24 @@ rows-alone-wants-chroma claim =
     let alike : _≡_ {A = List ℕ} (1 ∷ []) (2 ∷ []) = sym (passed-through a refl .cb refl) ∙ same ∙ passed-through b refl .cb refl in
     omega (arith, ap (λ (l : List ℕ). getD l 0 0) alike)
 
--- it speaks of runs whose padding and row steps differ: rows 5 and 6, one after the other, and with two bytes of padding between
+-- it speaks of runs whose padding and row steps differ: rows 5 and 6, one after the other, and with
+-- two bytes of padding between; and of a format without chroma, whatever stands in its place
 abbrev unpadded : Strip
 unpadded = record { by = straightLine; format = Gray8; height = 2; plane = 5 ∷ 6 ∷ []; step = 1; chroma = [] }
 
 abbrev padded : Strip
-padded = record { by = straightLine; format = Gray8; height = 2; plane = 5 ∷ 99 ∷ 98 ∷ 6 ∷ []; step = 3; chroma = [] }
+padded = record {
+  by = straightLine;
+  format = Gray8;
+  height = 2;
+  plane = 5 ∷ 99 ∷ 98 ∷ 6 ∷ [];
+  step = 3;
+  chroma = 97 ∷ [];
+}
 
 pub rows-alone-with-padding :
-    (a b : Call) × Share a b × Accepted a × Accepted b × AlikeInRows a b × (a .given .plane .step < b .given .plane .step) × IsPadding (b .given) 1
+    (a b : Call) × Share a b × Accepted a × Accepted b × AlikeInRows a b × AlikeInChroma a b
+    × (a .given .plane .step < b .given .plane .step) × IsPadding (b .given) 1
 unfolding answered inRow
 rows-alone-with-padding =
     let a-bytes : AreBytes (unpadded .plane) = (lit< tt, (lit< tt, tt)) in
@@ -263,12 +349,20 @@ rows-alone-with-padding =
           let j : p .row * 3 + (p .column * 1 + p .channel) ≡ 3 = omega (arith, w .row, w .column, w .channel) in
           rw (i, j)
     ] in
-    (a, b, shared unpadded padded a-bytes b-bytes refl refl refl, refl, refl, alike, lit< tt, refl)
+    let grey-has-none : AlikeInChroma a b =
+    record { cb = λ yuv. absurd (false≢true yuv); cr = λ yuv. absurd (false≢true yuv) } in (
+      a,
+      b,
+      shared unpadded padded a-bytes b-bytes refl refl refl,
+      refl,
+      refl,
+      alike,
+      grey-has-none,
+      lit< tt,
+      refl,
+    )
 
 -- ---- programs that must not pass: one flat table for every set, and a copy of the picture. Each misses a point's y
-linear-is-no-spline : IsSpline Linear → ⊥
-linear-is-no-spline e = let z : _≡_ {A = ℕ} 0 1 = cc in omega arith
-
 pub no-flat-table : (t : ℕ) → ((a : Call) → Accepted a → (p : Place) → TonedAt (a .given) p → output a p ≡ t) → ⊥
 unfolding answered
 no-flat-table t flat =

@@ -6,7 +6,11 @@
 -- survive writing then reading. Results has its words.
 -- Demand3: what two runs of the set call owe. Words has its words.
 -- Boundary: the first two demands of the calls of the C boundary; BoundaryDemand3: the third.
--- Controls: that the premises of the third demand are needed, by computed runs made in Pixels.
+-- ControlsOfWords, Determined: the words held from both sides, by computed cases at their edges and
+-- by what they determine.
+-- Controls, ControlsOfRuns: that the premises of the third demand are needed, by computed runs made
+-- in Pixels; the first on kinds, lists, rows and chroma, the other on what runs share and refusals.
+-- BoundaryControls: the same of the C boundary's words.
 -- P1 to P12 are a table of their own, Marked of the crate `examples`.
 -- Proofs of the second demand: Drawn, ResultFacts; of the third: ListFacts, PictureFacts.
 pub mod Checks
@@ -22,4 +26,8 @@ pub mod Demand2
 pub mod Demand3
 pub mod BoundaryDemand3
 pub mod Pixels
+pub mod ControlsOfWords
+pub mod Determined
 pub mod Controls
+pub mod ControlsOfRuns
+pub mod BoundaryControls

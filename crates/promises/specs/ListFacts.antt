@@ -1,6 +1,7 @@
 -- The list that tones a byte: what holds of every list in a set holds of it, and its table is the one that tones the byte.
 use Prim.Native.Nat.{ℕ, zero, suc, _<_}
 use mathlib.Core.Path.{_≡_, refl}
+use mathlib.Core.Logic.{inl, inr}
 use mathlib.Core.List.{List}
 use mathlib.Core.Option.{Option, none, some}
 use Rattle.lists.specs.Tabulate.{getD-tabulate}
@@ -76,9 +77,9 @@ no-spline Linear other byte = tt
 no-spline CatmullRom other byte = tt
 no-spline MonotoneCubic other byte = tt
 no-spline MonotoneCubicBox other byte = tt
-no-spline NaturalCubic other byte = other refl
+no-spline NaturalCubic other byte = other (inl refl)
 no-spline CentripetalCatmullRom other byte = tt
 no-spline ChordalCatmullRom other byte = tt
 no-spline (Cardinal q) other byte = byte
-no-spline (ClampedCubic start end) other byte = other refl
-no-spline NotAKnotCubic other byte = other refl
+no-spline (ClampedCubic start end) other byte = other (inr (inl refl))
+no-spline NotAKnotCubic other byte = other (inr (inr refl))

@@ -1,17 +1,21 @@
--- Runs of one column, by a master alone, for the controls: made of a list, a kind and bytes, with what the contract says that they answer and write.
+-- Runs for the controls, with what the contract says that they answer and write: of any picture,
+-- and of one column by a master alone, made of a list, a kind and bytes.
 use Prim.Native.Nat.{ℕ, zero, suc, _+_, _*_, _<_}
 use native.Mathlib.Omega.{arith}
 use mathlib.Core.Path.{_≡_, refl, _∙_}
-use mathlib.Core.Bool.{false, cond}
+use mathlib.Core.Bool.{true, false, cond}
 use mathlib.Core.List.{List, [], _∷_}
 use lib.Dec.{lit<}
 use lib.ListN.{length, getD}
 use lib.Seq.{take-length}
 use Rattle.points.specs.declared.Point.{Point}
+use Rattle.points.specs.declared.Curve.{Curve}
 use Rattle.points.specs.Order.{All, Bytes}
 use Rattle.tables.specs.declared.CurveInterpolation.{CurveInterpolation}
+use Rattle.tables.specs.declared.CurveInterpolation.the-variants.{Linear}
 use Rattle.tables.specs.Tables.{entryOf}
 use Rattle.sets.specs.declared.Channel.{Channel}
+use Rattle.sets.specs.declared.Curves.{Curves}
 use Rattle.sets.specs.Carried.{carriedOf}
 use Rattle.sets.specs.SameLaws.{same-refl}
 use Rattle.formats.specs.declared.PixelFormat.{PixelFormat}
@@ -36,8 +40,20 @@ pub record Strip : Type 0 where
   pub step : ℕ
   pub chroma : List ℕ
 
+-- a list as a curve holds it, and as a colour that is present
+abbrev stored : List Point → Curve
+stored l = record { points = l; count = length l }
+
+abbrev pub own : List Point → Channel
+own l = record { present = true; curve = stored l }
+
 abbrev absent : Channel
-absent = record { present = false; curve = record { points = []; count = 0 } }
+absent = record { present = false; curve = stored [] }
+
+-- the Linear set of a master and a red list
+abbrev pub linear : List Point → Channel → Curves
+linear master red =
+    record { master = stored master; red = red; green = absent; blue = absent; interpolation = Linear }
 
 abbrev noBytes : PlaneOf
 noBytes = record { bytes = []; step = 0 }
@@ -45,7 +61,7 @@ noBytes = record { bytes = []; step = 0 }
 abbrev pub runOf : Strip → Run
 runOf g = record {
   set = record {
-    master = record { points = g .by .list; count = length (g .by .list) };
+    master = stored (g .by .list);
     red = absent;
     green = absent;
     blue = absent;
@@ -68,7 +84,7 @@ abbrev pub AreBytes : List ℕ → Type 0
 AreBytes [] = Unit {0}
 AreBytes (x ∷ l) = (x < 256) × AreBytes l
 
-byte-at : (l : List ℕ) → AreBytes l → (k : ℕ) → k < length l → getD l k 0 < 256
+pub byte-at : (l : List ℕ) → AreBytes l → (k : ℕ) → k < length l → getD l k 0 < 256
 byte-at [] a k h = absurd (omega arith)
 byte-at (x ∷ l) a zero h = a .0
 byte-at (x ∷ l) a (suc k) h = byte-at l (a .1) k (omega arith)
@@ -80,26 +96,33 @@ lent-bytes g bytes = record {
   tension = g .by .tension;
 }
 
+-- the call that a run is
+abbrev pub ranOn : (r : Run) → Lent r → Call
+ranOn r lent = record {
+  given = r;
+  answered = record {
+    answer = answer r;
+    step = cond (accepted r) (rowBytes r) 0;
+    «cb_step» = stepOf r (r .cb);
+    «cr_step» = stepOf r (r .cr);
+  };
+  out = first r;
+  cb = chroma r (r .cb) (r .outCb);
+  cr = chroma r (r .cr) (r .outCr);
+  contract = record {
+    answer-is = refl;
+    step-is = refl;
+    cb-step-is = refl;
+    cr-step-is = refl;
+    out-is = refl;
+    cb-is = refl;
+    cr-is = refl;
+    lent = lent;
+  };
+}
+
 abbrev pub ran : (g : Strip) → AreBytes (g .plane) → Call
-ran g bytes =
-    let r = runOf g in
-    record {
-      given = r;
-      answered = record { answer = answer r; step = cond (accepted r) (rowBytes r) 0; «cb_step» = stepOf r (r .cb); «cr_step» = stepOf r (r .cr) };
-      out = first r;
-      cb = chroma r (r .cb) (r .outCb);
-      cr = chroma r (r .cr) (r .outCr);
-      contract = record {
-        answer-is = refl;
-        step-is = refl;
-        cb-step-is = refl;
-        cr-step-is = refl;
-        out-is = refl;
-        cb-is = refl;
-        cr-is = refl;
-        lent = lent-bytes g bytes;
-      };
-    }
+ran g bytes = ranOn (runOf g) (lent-bytes g bytes)
 
 pub shared : (g h : Strip) (g-bytes : AreBytes (g .plane)) (h-bytes : AreBytes (h .plane)) → g .by ≡ h .by → g .format ≡ h .format
     → g .height ≡ h .height → Share (ran g g-bytes) (ran h h-bytes)

@@ -1,6 +1,7 @@
 -- The words of the third demand, with document 01's terms. Definitions only.
 use Prim.Native.Nat.{ℕ, _+_, _*_, _≤_, _<_}
 use mathlib.Core.Path.{_≡_}
+use mathlib.Core.Logic.{_⊎_}
 use mathlib.Core.Bool.{true, false, cond}
 use mathlib.Core.List.{List, []}
 use lib.ListN.{length, getD, take}
@@ -8,10 +9,9 @@ use Rattle.answers.specs.declared.Answer.the-variants.{Done}
 use Rattle.points.specs.declared.Point.{Point}
 use Rattle.points.specs.Knots.{OnLine}
 use Rattle.points.specs.Order.{NeverFalls}
-use Rattle.sampling.specs.declared.Form.the-variants.{Spline}
 use Rattle.tables.specs.declared.CurveInterpolation.{CurveInterpolation}
 use Rattle.tables.specs.declared.CurveInterpolation.the-variants.{Linear}
-use Rattle.tables.specs.Kinds.{formOf}
+use Rattle.tables.specs.Kinds.{kindNumber}
 use Rattle.tables.specs.Tables.{entryOf}
 use Rattle.sets.specs.Sets.{viewOf}
 use Rattle.sets.specs.Same.{Same}
@@ -98,9 +98,9 @@ kindIn r = r .set .interpolation
 abbrev pub IsLinear : Run → Type 0
 IsLinear r = kindIn r ≡ Linear
 
--- one of "the three splines", document 01's "Splines (4, 8, 9)": NaturalCubic, ClampedCubic, NotAKnotCubic
+-- one of "the three splines", document 01's "Splines (4, 8, 9)"
 abbrev pub IsSpline : CurveInterpolation → Type 0
-IsSpline k = formOf k ≡ Spline
+IsSpline k = (kindNumber k ≡ 4) ⊎ (kindNumber k ≡ 8) ⊎ (kindNumber k ≡ 9)
 
 -- "no list in the set has a point lower than the one before it"
 abbrev pub NoListFalls : Run → Type 0
