@@ -25,7 +25,7 @@ use Rattle.tables.specs.declared.Lut.{Lut}
 use Rattle.tables.specs.Tables.{tableChecks, BuiltTable, BuiltLut}
 use Rattle.lookup.specs.Lookup.{lookupChecks, lookedUp, LookupCall}
 use Rattle.sets.specs.declared.Curves.{Curves}
-use Rattle.sets.specs.Sets.{viewOf, emptyView, setChecks, setAnswer}
+use Rattle.sets.specs.Sets.{viewOf, emptyView, curveChecks, setChecks, setAnswer}
 use Rattle.records.specs.declared.RecordRead.{RecordRead}
 use Rattle.records.specs.Format.{readRecord}
 use Rattle.records.specs.Checks.{recordChecks}
@@ -63,7 +63,7 @@ build-table call = answers (ap numberOf (call .answer)) (λ no. rw no at (call .
 -- ---- "set"
 -- `Curves::check`, which is lent nothing
 pub check : (set : Curves) {r : Answer} → r ≡ setAnswer set
-    → Answers (setChecks set) (numberOf r) (Unit {0})
+    → Answers (setChecks curveChecks set) (numberOf r) (Unit {0})
 unfolding setAnswer
 check set call = answers (ap numberOf call) (λ no. tt)
 
