@@ -1,6 +1,6 @@
 -- What each operation rounds: the exact sum, difference, product and quotient, as a signed fraction made of any fractions that the operands equal.
 use mathlib.Core.Path.{_≡_, refl, sym, ap, _∙_}
-use mathlib.Core.Logic.{inl}
+use mathlib.Core.Logic.{inl, inr}
 use Prim.Native.Nat.{ℕ, _+_, _-_, _*_, _≤_, _<_}
 use native.Mathlib.Nat.{zero-add, add-comm, mul-comm, mul-pos, ne-of-gt}
 use native.Mathlib.Omega.{arith}
@@ -11,8 +11,8 @@ use lib.Ieee.Scale.{finite}
 use lib.Ieee.Positive.{num, den, den-pos, first-pos}
 use borrow.Author.Tests.{ne-eqb}
 use Rattle.floats.specs.Signed.{sum-same, product-same, quotient-same}
-use Rattle.floats.specs.Value.{top, bot, Is, is-neg, size-is, nonzero-is, sign, sign-is}
-use Rattle.floats.specs.Round.{Rounds, over, under, rounds-same}
+use Rattle.floats.specs.Value.{top, bot, Is, is-neg, size-is, nonzero-is, sign, sign-is, sign-is-below}
+use Rattle.floats.specs.Round.{Rounds, over, under, rounds-same, round-opposite, rounds-neg}
 
 -- ---- the sign of a product
 pub unlike-swap : (s t : Bool) → unlike s t ≡ unlike t s
@@ -28,6 +28,10 @@ unlike-self false = refl
 pub unlike-plus : (s : Bool) → unlike s false ≡ s
 unlike-plus true = refl
 unlike-plus false = refl
+
+unlike-minus : (s : Bool) → unlike s true ≡ not s
+unlike-minus true = refl
+unlike-minus false = refl
 
 -- ---- finite operands, by sign and size: |x| is num x / den x
 pub add-is : (f : Format) (x y : Float) → T (finite x) → T (finite y)
@@ -178,11 +182,30 @@ scaled f (inf s) a c p = absurd p
 scaled f (fin false m e) a c p = over (m * up e * a) (omega arith) refl
 scaled f (fin true m e) a c p = under (m * up e * a) (omega arith) refl
 
+-- x over the size of y, which is q / d
+by-size : (f : Format) (x y : Float) (p n c q d : ℕ) → 0 < c → 0 < q → 0 < num y → Is x p n c
+    → num y * d ≡ q * den y → Rounds f (round f (sign x) (num x * den y) (num y * den x)) (p * d) (n * d) (c * q)
+by-size f x y p n c q d C Q N h e =
+    let z = round f (sign x) (num x * den y) (num y * den x) in
+    rounds-same f z (top x * den y) (bot x * den y) (num y * den x) (p * d) (n * d) (c * q)
+    (mul-pos N (den-pos x)) (mul-pos C Q) (scaled f x (den y) (num y * den x) (h .0))
+    (quotient-same (top x) (bot x) (den x) (num y) (den y) p n c q d (h .1) e)
+
+-- (p - n) / c over q / d is (p - n) * d / (c * q)
 pub div-rounds : (f : Format) (x y : Float) (p n c q d : ℕ) → 0 < c → 0 < d → 0 < q → Is x p n c → Is y q 0 d
     → Rounds f (div f x y) (p * d) (n * d) (c * q)
 div-rounds f x y p n c q d C D Q h k =
     let apart = inl (sym (zero-add q)) in
     let N = nonzero-is y q 0 d q k apart Q in
-    rounds-same f (div f x y) (top x * den y) (bot x * den y) (num y * den x) (p * d) (n * d) (c * q) (mul-pos N (den-pos x)) (mul-pos C Q)
-    (rw (div-is f x y (h .0) N, sign-is y q 0 d k Q, unlike-plus) (scaled f x (den y) (num y * den x) (h .0)))
-    (quotient-same (top x) (bot x) (den x) (num y) (den y) p n c q d (h .1) (size-is y q 0 d q k apart))
+    rw (div-is f x y (h .0) N, sign-is y q 0 d k Q, unlike-plus)
+    (by-size f x y p n c q d C Q N h (size-is y q 0 d q k apart))
+
+-- and over -q / d it is (n - p) * d / (c * q)
+pub div-rounds-below : (f : Format) (x y : Float) (p n c q d : ℕ) → 0 < c → 0 < d → 0 < q → Is x p n c → Is y 0 q d
+    → Rounds f (div f x y) (n * d) (p * d) (c * q)
+div-rounds-below f x y p n c q d C D Q h k =
+    let apart = inr (sym (zero-add q)) in
+    let N = nonzero-is y 0 q d q k apart Q in
+    rw (div-is f x y (h .0) N, sign-is-below y 0 q d k Q, unlike-minus, ← round-opposite)
+    (rounds-neg f (round f (sign x) (num x * den y) (num y * den x)) (p * d) (n * d) (c * q)
+    (by-size f x y p n c q d C Q N h (size-is y 0 q d q k apart)))

@@ -3,10 +3,10 @@ use mathlib.Core.Path.{_≡_, refl, sym, ap, _∙_}
 use Prim.Native.Nat.{ℕ, zero, suc, _+_, _*_, _^_, _<_}
 use native.Mathlib.Nat.{le-of-eq, le-dest, lt-of-le-of-lt, le-of-mul-le-mul-right, eq-of-mul-eq-mul-right, zero-mul}
 use native.Mathlib.Omega.{arith}
-use mathlib.Core.Bool.{Bool, true, false, cond}
+use mathlib.Core.Bool.{Bool, true, false, not, cond}
 use lib.Dec.{T, ltb}
 use lib.Pow.{pow-pos}
-use lib.Ieee.{Float, inf, Format, prec, emax, low, odd, units, round, neg, le}
+use lib.Ieee.{Float, nan, inf, fin, Format, prec, emax, low, odd, units, round, neg, le}
 use lib.Ieee.Fits.{round-is}
 use lib.Ieee.Exact.{HasValue, round-exact}
 use lib.Ieee.Order.{drop, kept, round-mono}
@@ -39,6 +39,22 @@ round-neg f a c =
     let q = kept (prec f) (a * 2 ^ low f) c in
     let k = drop (prec f) (a * 2 ^ low f) c in
     ap neg (round-is f false a c) ∙ neg-units f q k ∙ sym (round-is f true a c)
+
+neg-twice : (x : Float) → neg (neg x) ≡ x
+unfolding neg
+neg-twice nan = refl
+neg-twice (inf true) = refl
+neg-twice (inf false) = refl
+neg-twice (fin true m e) = refl
+neg-twice (fin false m e) = refl
+
+pub round-opposite : (f : Format) (s : Bool) (a c : ℕ) → neg (round f s a c) ≡ round f (not s) a c
+round-opposite f false a c = round-neg f a c
+round-opposite f true a c = ap neg (sym (round-neg f a c)) ∙ neg-twice (round f false a c)
+
+pub rounds-neg : (f : Format) (z : Float) (p n c : ℕ) → Rounds f z p n c → Rounds f (neg z) n p c
+rounds-neg f z p n c (over a e i) = under a e (ap neg i ∙ round-opposite f false a c)
+rounds-neg f z p n c (under a e i) = over a e (ap neg i ∙ round-opposite f true a c)
 
 odd-unsigned : (d q k l : ℕ) → T (unsigned (odd d false q k l))
 unfolding odd

@@ -1,5 +1,5 @@
--- A finite float is the signed fraction (top - bot) / den, where top or bot is 0; its size is num / den. `Is x p n c` says that x is finite and
--- equals (p - n) / c, whichever sign a zero has. The order of finite floats is the order of their fractions.
+-- A finite float is the signed fraction (top - bot) / den, where top or bot is 0; its size is num / den. `Is x p n c` says, for a c above 0,
+-- that x is finite and equals (p - n) / c, whichever sign a zero has. The order of finite floats is the order of their fractions.
 use mathlib.Core.Path.{_≡_, refl, sym, ap, _∙_, subst}
 use mathlib.Core.Logic.{_⊎_, inl, inr}
 use Prim.Native.Nat.{ℕ, _+_, _*_, _≤_, _<_, zero-le}
@@ -28,7 +28,8 @@ bot (inf s) = 0
 bot (fin false m e) = 0
 bot (fin true m e) = m * up e
 
--- x is (p - n) / c
+-- x is (p - n) / c, for a c above 0. With the denominator 0 it says nothing: every finite x is (p - p) / 0. So a law asks for
+-- 0 < c wherever x's value is concluded from it.
 abbrev pub Is : Float → ℕ → ℕ → ℕ → Type 0
 Is x p n c = T (finite x) × Equal (top x) (bot x) (den x) p n c
 
@@ -108,6 +109,13 @@ sign-is nan p n c h l = refl
 sign-is (inf s) p n c h l = absurd (h .0)
 sign-is (fin false m e) p n c h l = refl
 sign-is (fin true m e) p n c h l = let none : ⊥ = omega (arith, h .1, mul-lt-mul-of-pos-right l (down-pos e)) in absurd none
+
+-- and what is below has one
+pub sign-is-below : (x : Float) (p n c : ℕ) → Is x p n c → p < n → sign x ≡ true
+sign-is-below nan p n c h l = absurd (h .0)
+sign-is-below (inf s) p n c h l = absurd (h .0)
+sign-is-below (fin true m e) p n c h l = refl
+sign-is-below (fin false m e) p n c h l = let none : ⊥ = omega (arith, h .1, mul-lt-mul-of-pos-right l (down-pos e)) in absurd none
 
 -- ---- the library's `HasValue x s a c`: x is finite, has the sign s, and is a / c in size
 pub is-of-pos : (x : Float) (a c : ℕ) → HasValue x false a c → Is x a 0 c
