@@ -12,9 +12,9 @@ use lib.Ieee.{Float, nan, inf, fin, binary32, up, down, odd, units, fits, toBits
 use lib.Ieee.Fits.{down-pos}
 use Rattle.floats.specs.Value.{sign}
 use Rattle.floats.specs.Exact.{fits-parts}
-use Rattle.single.specs.Constants.{𝟐}
+use Rattle.single.specs.Constants.{𝟏, 𝟐}
 use Rattle.single.specs.Root.{nearestRoot, rootOfUnits, rootOf}
-use Rattle.single.specs.RootUnits.{dropped, part, Rooted, units-rooted}
+use Rattle.single.specs.RootUnits.{dropped, part, Rooted, units-rooted, rooted-unique}
 
 -- ---- the root of a positive float
 -- 2 ^ e in units, where it is a whole number of them
@@ -53,7 +53,7 @@ module _ (m : ℕ) (e : ℤ) (f : T (fits binary32 (fin false (suc m) e))) where
           lt-of-le-of-lt (le-of-eq (sym exact))
           (lt-of-lt-of-le (mul-lt-mul-of-pos-right (what-fits .2) (pow-pos 149)) (le-of-eq (mul-right-comm (2 ^ 128) (down e) (2 ^ 149))))
 
-  -- The root of a positive float x is p * 2 ^ k units, correctly rounded: p has 24 digits, and `NearestRoot n k p`, n being x's units times 2 ^ 149.
+  -- The root of a positive float x is correctly rounded, `Rooted n`, n being x's units times 2 ^ 149. `rooted-unique`: no other float is.
   pub root-is : Rooted (suc m * up e * 2 ^ 149 / down e * 2 ^ 149) (rootOf (fin false (suc m) e))
   unfolding rootOf
   root-is =
@@ -128,3 +128,26 @@ root-of-unit = refl
 pub root-of-largest : toBits binary32 (rootOf (ofBits binary32 0x7f7f_ffff)) ≡ 0x5f7f_ffff
 unfolding rootOf ofBits toBits
 root-of-largest = refl
+
+-- the float just below 1 is its own root; 1 is not, though it stands half of its own, wider, step away
+abbrev pub below-one : Float
+below-one = ofBits binary32 0x3f7f_ffff
+
+-- its units times 2 ^ 149, as in `root-is`
+abbrev pub below-one-units : ℕ
+below-one-units = 16777215 * up (negsuc 23) * 2 ^ 149 / down (negsuc 23) * 2 ^ 149
+
+pub root-of-below-one : rootOf below-one ≡ below-one
+unfolding rootOf ofBits
+root-of-below-one = refl
+
+pub below-one-rooted : Rooted below-one-units below-one
+unfolding ofBits fits
+below-one-rooted = rw root-of-below-one at (root-is 16777214 (negsuc 23) tt)
+
+pub one-not-rooted : Rooted below-one-units 𝟏 → ⊥
+unfolding ofBits fits
+one-not-rooted h =
+    let e : below-one ≡ 𝟏 = rooted-unique below-one-rooted h in
+    let z : _≡_ {A = ℕ} 0 1 = cc in
+    omega arith

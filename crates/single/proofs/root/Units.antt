@@ -8,14 +8,14 @@ use native.Mathlib.Nat.{mul-div-cancel, mul-pos, mul-le-mul-left, mul-le-mul-rig
 use native.Mathlib.Omega.{arith}
 use lib.Dec.{T, ltb, ltb→lt, not-T}
 use lib.Pow.{pow-pos, pow-add, pow-mono, shl-lt}
-use lib.Ieee.{Float, nan, inf, fin, binary32, up, down, size, odd, units, toBits, ofBits, nanBits, fits}
+use lib.Ieee.{Float, nan, inf, fin, binary32, up, down, size, units, toBits, ofBits, nanBits}
 use lib.Ieee.Digits.{size-le}
 use lib.Ieee.Exact.{HasValue, units-val}
-use lib.Ieee.Fits.{odd-fits, down-pos, cond-fits, inf-fits}
+use lib.Ieee.Fits.{down-pos}
 use lib.Ieee.Bits.{ofBits-toBits, nanBits-above}
 use Rattle.single.specs.Root.{nearestRoot, rootOfUnits}
 use Rattle.single.specs.NearestRoot.{NearestRoot, square, square-of, nearest-root-unique}
-use Rattle.single.specs.RootUnits.{even-power, size-above, dropped, units-nearest}
+use Rattle.single.specs.RootUnits.{even-power, size-above, dropped, units-nearest, units-fits}
 
 -- ---- a float of q * 2 ^ k units, q being of 24 digits, by its pattern
 module _ (q k : ℕ) (low : 2 ^ 23 ≤ q) (high : q < 2 ^ 24) where
@@ -41,16 +41,10 @@ module _ (q k : ℕ) (low : 2 ^ 23 ≤ q) (high : q < 2 ^ 24) where
       ap (λ (x : Bool). cond x 2147483648 0 + (size n - 24) * 8388608 + n / 2 ^ (size n - 24)) (h .0)
       ∙ bits-at n (ap (λ (x : ℕ). x / down e) (h .1) ∙ mul-div-cancel (q * 2 ^ k) (down-pos e))
 
-  units-fits : q * 2 ^ k < 2 ^ 277 → T (fits binary32 (units binary32 false q k))
-  unfolding units
-  units-fits h =
-      cond-fits binary32 (ltb (q * 2 ^ k) (2 ^ 277)) (odd 25 false q k 149) (inf false)
-      (odd-fits binary32 25 false q k (omega arith) (omega arith) h) (inf-fits binary32 false)
-
   units-bits : k ≤ 200 → units binary32 false q k ≡ ofBits binary32 (k * 8388608 + q)
   units-bits h =
       let under : q * 2 ^ k < 2 ^ 277 = lt-of-lt-of-le (shl-lt 24 k high) (pow-mono {i = 24 + k} {j = 277} (omega arith)) in
-      sym (ofBits-toBits binary32 (units binary32 false q k) (units-fits under))
+      sym (ofBits-toBits binary32 (units binary32 false q k) (units-fits q k high under))
       ∙ ap (ofBits binary32) (bits-of (units binary32 false q k) (units-val binary32 false q k under))
 
 -- ---- p is nearest to the root of m, and so of m * 2 ^ (2 * k). There is no tie: 4 * m is even, and the squares of 2 * p - 1 and 2 * p + 1 are odd.
