@@ -1,52 +1,23 @@
 -- The error of one rounding to single precision: at most 2 ^ k / 2 ^ 25 for an exact value below 2 ^ k.
-use mathlib.Core.Path.{_≡_, sym, ap, _∙_, subst}
-use Prim.Native.Nat.{ℕ, _+_, _-_, _*_, _/_, _%_, _^_, _≤_, _<_, compare, Ordering, Ordering·lt, Ordering·eq, Ordering·gt}
-use native.Mathlib.Nat.{le-trans, le-of-eq, lt-of-lt-of-le, lt-of-le-of-lt, add-mul, mul-le-mul, mul-le-mul-left, mul-le-mul-right}
-use native.Mathlib.Nat.{mul-right-comm, mul-lt-mul-of-pos-right, mul-pos, div-add-mod', mod-lt, div-lt-iff-lt-mul, div-div-eq-div-mul}
+use mathlib.Core.Path.{_≡_, sym, ap, _∙_}
+use Prim.Native.Nat.{ℕ, _+_, _-_, _*_, _/_, _^_, _≤_, _<_}
+use native.Mathlib.Nat.{le-trans, le-of-eq, lt-of-lt-of-le, lt-of-le-of-lt, mul-le-mul, mul-le-mul-left}
+use native.Mathlib.Nat.{mul-right-comm, mul-lt-mul-of-pos-right, mul-pos, div-lt-iff-lt-mul}
 use native.Mathlib.Omega.{arith}
-use mathlib.Core.Bool.{Bool, true, false, not}
-use lib.Dec.{T, isLe, isEq, eqb, leb→le, nleb→lt, eqb→eq, eqb-refl}
-use lib.Arith.{lt-of-le-ne}
+use mathlib.Core.Bool.{Bool, true, false}
+use lib.Dec.{T}
 use lib.Pow.{pow-add, pow-pos, pow-mono, pow-lt}
-use lib.Ieee.{Float, Format, binary32, prec, low, size, nearest, round}
+use lib.Ieee.{Float, Format, binary32, prec, low, size, round}
 use lib.Ieee.Digits.{size-le}
-use lib.Ieee.Fits.{round-is, nearest-le, kept-lt}
+use lib.Ieee.Fits.{round-is}
 use lib.Ieee.Exact.{HasValue, units-val}
-use lib.Ieee.Nearest.{closest}
 use lib.Ieee.Order.{drop, kept}
 use lib.Ieee.Scale.{grid, overflow, finite}
 use lib.Ieee.Positive.{den, den-pos}
 use Rattle.floats.specs.Signed.{Near, poly, le-up, up-le, near-flip}
 use Rattle.floats.specs.Value.{top, bot, Is, is-of-pos, is-of-neg, is→le, is→ge}
 use Rattle.floats.specs.Round.{Rounds, over, under}
-
--- ---- the nearest whole number is at most a half away
-abbrev Compared : Ordering → ℕ → ℕ → Type 0
-Compared Ordering·lt a b = a < b
-Compared Ordering·eq a b = a ≡ b
-Compared Ordering·gt a b = b < a
-
-compared : (a b : ℕ) → Compared (compare a b) a b
-compared a b = go (compare a b) (leb→le a b) (nleb→lt a b) (eqb→eq a b) (λ (e : a ≡ b). subst (λ (x : ℕ). T (eqb a x)) e (eqb-refl a))
-  where
-    go : (o : Ordering) → (T (isLe o) → a ≤ b) → (T (not (isLe o)) → b < a) → (T (isEq o) → a ≡ b) → (a ≡ b → T (isEq o)) → Compared o a b
-    go Ordering·lt h k e n = lt-of-le-ne (h tt) n
-    go Ordering·eq h k e n = e tt
-    go Ordering·gt h k e n = k tt
-
--- a is w * b + r
-near-whole : (o : Ordering) (a b w r : ℕ) → Compared o (r * 2) b → w * b + r ≡ a → r < b
-    → (nearest w o * b * 2 ≤ a * 2 + b) × (a * 2 ≤ nearest w o * b * 2 + b)
-near-whole Ordering·lt a b w r h e l = (omega arith, omega arith)
-near-whole Ordering·eq a b w r h e l =
-    let up : w % 2 ≤ 1 = omega arith in
-    let most : w % 2 * b ≤ 1 * b = mul-le-mul-right b up in
-    let sum : (w + w % 2) * b ≡ w * b + w % 2 * b = add-mul w (w % 2) b in
-    (omega arith, omega arith)
-near-whole Ordering·gt a b w r h e l = (omega arith, omega arith)
-
-closest-near : (a b : ℕ) → 0 < b → (closest a b * b * 2 ≤ a * 2 + b) × (a * 2 ≤ closest a b * b * 2 + b)
-closest-near a b B = near-whole (compare (a % b * 2) b) a b (a / b) (a % b) (compared (a % b * 2) b) (div-add-mod' a b) (mod-lt a B)
+use Rattle.floats.specs.Closest.{closest-near, kept-le}
 
 -- ---- in units of the format's smallest value: a / c below 2 ^ (prec + j) units rounds to `grid f a c` units, with an error of at most 2 ^ j / 2
 drop-le : (f : Format) (a c j : ℕ) → 0 < c → a * 2 ^ low f < 2 ^ (prec f + j) * c → drop (prec f) (a * 2 ^ low f) c ≤ j
@@ -54,11 +25,6 @@ drop-le f a c j C h = spare (size (a * 2 ^ low f / c)) (prec f) j (size-le (a * 
   where
     spare : (z p l : ℕ) → z ≤ p + l → z - p ≤ l
     spare z p l h = omega arith
-
-kept-le : (p n d : ℕ) → kept p n d ≤ 2 ^ p
-kept-le p n d =
-    let u = d * 2 ^ drop p n d in
-    le-trans (nearest-le (n / u) (compare (n % u * 2) u)) (subst (λ (x : ℕ). x < 2 ^ p) (div-div-eq-div-mul n d (2 ^ drop p n d)) (kept-lt p (n / d)))
 
 grid-le : (f : Format) (a c j : ℕ) → 0 < c → a * 2 ^ low f < 2 ^ (prec f + j) * c → grid f a c ≤ 2 ^ (prec f + j)
 grid-le f a c j C h =

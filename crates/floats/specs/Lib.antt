@@ -15,10 +15,12 @@ pub mod Round
 pub mod Exact
 pub mod Unique
 pub mod Ops
-pub mod Sign
 pub mod Mono
 pub mod Zero
+pub mod Sign
 pub mod Small
+pub mod Closest
+pub mod NearestFloat
 pub mod Error
 pub mod Frac
 pub mod Calc

@@ -40,7 +40,7 @@ round-neg f a c =
     let k = drop (prec f) (a * 2 ^ low f) c in
     ap neg (round-is f false a c) ∙ neg-units f q k ∙ sym (round-is f true a c)
 
-neg-twice : (x : Float) → neg (neg x) ≡ x
+pub neg-twice : (x : Float) → neg (neg x) ≡ x
 unfolding neg
 neg-twice nan = refl
 neg-twice (inf true) = refl

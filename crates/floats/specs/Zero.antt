@@ -16,7 +16,8 @@ use Rattle.floats.specs.Exact.{rounds-fits}
 use Rattle.floats.specs.Unique.{rounds-to, nought-fits}
 use Rattle.floats.specs.Ops.{unlike-swap, unlike-plus, mul-is, div-is, add-commutes, mul-commutes, add-rounds}
 
-round-nought : (f : Format) (s : Bool) (a c : ℕ) → 0 < c → a ≡ 0 → round f s a c ≡ nought s
+-- a fraction that is 0 rounds to the zero of its sign
+pub round-nought : (f : Format) (s : Bool) (a c : ℕ) → 0 < c → a ≡ 0 → round f s a c ≡ nought s
 round-nought f s a c C e = rounds-to f (nought s) a c tt (nought-fits f s) C (omega arith)
 
 none : (x : Float) → Is x 0 0 1 → num x ≡ 0
