@@ -30,7 +30,7 @@ grid-le : (f : Format) (a c j : ℕ) → 0 < c → a * 2 ^ low f < 2 ^ (prec f +
 grid-le f a c j C h =
     le-trans (mul-le-mul (kept-le (prec f) (a * 2 ^ low f) c) (pow-mono (drop-le f a c j C h))) (le-of-eq (sym (pow-add 2 (prec f) j)))
 
-grid-near : (f : Format) (a c j : ℕ) → 0 < c → a * 2 ^ low f < 2 ^ (prec f + j) * c
+pub grid-near : (f : Format) (a c j : ℕ) → 0 < c → a * 2 ^ low f < 2 ^ (prec f + j) * c
     → (grid f a c * c * 2 ≤ a * 2 ^ low f * 2 + c * 2 ^ j) × (a * 2 ^ low f * 2 ≤ grid f a c * c * 2 + c * 2 ^ j)
 grid-near f a c j C h =
     let n = a * 2 ^ low f in
@@ -41,7 +41,7 @@ grid-near f a c j C h =
         → (k * t * c * 2 ≤ n * 2 + c * w) × (n * 2 ≤ k * t * c * 2 + c * w)
     go k t n w l g = let m : c * t ≤ c * w = mul-le-mul-left c l in (omega (arith, g .0), omega (arith, g .1))
 
-round-at : (f : Format) (s : Bool) (a c : ℕ) → grid f a c < overflow f → HasValue (round f s a c) s (grid f a c) (2 ^ low f)
+pub round-at : (f : Format) (s : Bool) (a c : ℕ) → grid f a c < overflow f → HasValue (round f s a c) s (grid f a c) (2 ^ low f)
 round-at f s a c h = rw round-is (units-val f s (kept (prec f) (a * 2 ^ low f) c) (drop (prec f) (a * 2 ^ low f) c) h)
 
 -- ---- single precision
@@ -90,19 +90,19 @@ is-near z q m d p n c i k h g = (
   up-le i k p n c (top z) (bot z) (den z) q m d (den-pos z) (g .1) (is→le z q m d h),
 )
 
-less : (p n a b : ℕ) → p ≡ n + a → p < n + b → a < b
-less p n a b e h = omega arith
+pub part-less : (p n a b : ℕ) → p ≡ n + a → p < n + b → a < b
+part-less p n a b e h = omega arith
 
 -- below 256 the error is at most 2 ^ -17
 pub rounds-near : (z : Float) (p n c k : ℕ) → k ≤ 127 → 0 < c → Rounds binary32 z p n c → p < n + 2 ^ k * c → n < p + 2 ^ k * c
     → T (finite z) × Near (2 ^ k) (2 ^ 25) (top z) (bot z) (den z) p n c
 rounds-near z p n c k K C (over a e i) h g =
     let u = grid binary32 a c in
-    let l = less p n a (2 ^ k * c) e h in
+    let l = part-less p n a (2 ^ k * c) e h in
     let v : Is z u 0 (2 ^ 149) = rw i (is-of-pos (round binary32 false a c) u (2 ^ 149) (round-at binary32 false a c (no-overflow a c k K C l))) in
     near-is z u 0 (2 ^ 149) p n c (2 ^ k) (2 ^ 25) (pow-pos 149) v (grid-of a p n c k C l e)
 rounds-near z p n c k K C (under a e i) h g =
     let u = grid binary32 a c in
-    let l = less n p a (2 ^ k * c) e g in
+    let l = part-less n p a (2 ^ k * c) e g in
     let v : Is z 0 u (2 ^ 149) = rw i (is-of-neg (round binary32 true a c) u (2 ^ 149) (round-at binary32 true a c (no-overflow a c k K C l))) in
     near-is z 0 u (2 ^ 149) p n c (2 ^ k) (2 ^ 25) (pow-pos 149) v (near-flip (2 ^ k) (2 ^ 25) u 0 (2 ^ 149) n p c (grid-of a n p c k C l e))

@@ -22,6 +22,7 @@ pub mod Small
 pub mod Closest
 pub mod NearestFloat
 pub mod Error
+pub mod Overflow
 pub mod Frac
 pub mod Calc
 pub mod Approx
@@ -34,3 +35,4 @@ pub mod Position
 pub mod Segment
 pub mod Nearest
 pub mod Cubic
+pub mod Examples

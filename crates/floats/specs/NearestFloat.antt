@@ -270,9 +270,11 @@ nearest-neg {f} {z} {p} {n} {c} r = record {
   fitting = neg-fits f z (r .fitting);
   nearest = λ y t h. rw (distance-neg z p n c, den-neg z, ← distance-neg y n p c, ← den-neg y) (r .nearest (neg y) (finite-neg y t) (neg-fits f y h));
   even =
-      λ y t h d g. even-neg f z (r .number)
-      (r .even (neg y) (finite-neg y t) (neg-fits f y h) (λ s. d (sym (neg-twice y) ∙ ap neg s))
-      (rw (distance-neg y n p c, den-neg y, ← distance-neg z p n c, ← den-neg z) g));
+      λ y t h d g.
+      let other : neg y ≡ z → ⊥ = λ s. d (sym (neg-twice y) ∙ ap neg s) in
+      let as-far : AsFar z (neg y) n p c = rw (distance-neg y n p c, den-neg y, ← distance-neg z p n c, ← den-neg z) g in
+      let s = r .even (neg y) (finite-neg y t) (neg-fits f y h) other as-far in
+      even-neg f z (r .number) s;
 }
 
 -- ---- every operation gives the nearest float, where its result is finite

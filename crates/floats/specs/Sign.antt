@@ -2,7 +2,7 @@
 -- + for a sum or difference unless both terms have -; of a product and a quotient, - where one operand's sign is and the other's is not.
 -- Then results that have no sign bit, not even as a zero: a sum of two such, a difference that is not below zero, a square.
 use mathlib.Core.Path.{_≡_, refl, sym, ap, _∙_}
-use Prim.Native.Nat.{ℕ, _+_, _-_, _*_, _≤_, _<_}
+use Prim.Native.Nat.{ℕ, _+_, _-_, _*_, _<_}
 use native.Mathlib.Nat.{le-of-eq, eq-of-mul-eq-mul-right, mul-pos}
 use native.Mathlib.Omega.{arith}
 use mathlib.Core.Bool.{Bool, true, false, not, _&&_, cond}
