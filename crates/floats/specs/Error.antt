@@ -1,7 +1,8 @@
 -- The error of one rounding to single precision: at most 2 ^ k / 2 ^ 25 for an exact value below 2 ^ k.
 use mathlib.Core.Path.{_≡_, sym, ap, _∙_}
 use Prim.Native.Nat.{ℕ, _+_, _-_, _*_, _/_, _^_, _≤_, _<_}
-use native.Mathlib.Nat.{le-trans, le-of-eq, lt-of-lt-of-le, lt-of-le-of-lt, mul-le-mul, mul-le-mul-left}
+use native.Mathlib.Nat.{le-trans, le-of-eq, lt-of-lt-of-le, lt-of-le-of-lt, mul-le-mul}
+use native.Mathlib.Nat.{mul-le-mul-left}
 use native.Mathlib.Nat.{mul-right-comm, mul-lt-mul-of-pos-right, mul-pos, div-lt-iff-lt-mul}
 use native.Mathlib.Omega.{arith}
 use mathlib.Core.Bool.{Bool, true, false}
@@ -41,7 +42,8 @@ grid-near f a c j C h =
         → (k * t * c * 2 ≤ n * 2 + c * w) × (n * 2 ≤ k * t * c * 2 + c * w)
     go k t n w l g = let m : c * t ≤ c * w = mul-le-mul-left c l in (omega (arith, g .0), omega (arith, g .1))
 
-pub round-at : (f : Format) (s : Bool) (a c : ℕ) → grid f a c < overflow f → HasValue (round f s a c) s (grid f a c) (2 ^ low f)
+pub round-at : (f : Format) (s : Bool) (a c : ℕ) → grid f a c < overflow f
+    → HasValue (round f s a c) s (grid f a c) (2 ^ low f)
 round-at f s a c h = rw round-is (units-val f s (kept (prec f) (a * 2 ^ low f) c) (drop (prec f) (a * 2 ^ low f) c) h)
 
 -- ---- single precision

@@ -1,52 +1,61 @@
--- Rounding where a slip would show, computed: half-way cases, values below a half, the edge to the infinities, and the signs of zeros. Each
--- word is held from both sides: the float that is the nearest, and its neighbour that is not.
+-- Rounding where a slip would show, computed: half-way cases, values below a half, and the signs of
+-- zeros. Each word is held from both sides: the float that is the nearest, and one that is not.
 use mathlib.Core.Path.{_≡_, refl}
-use Prim.Native.Nat.{ℕ, _-_, _*_, _^_, _≤_}
+use Prim.Native.Nat.{ℕ, _^_, _≤_}
 use native.Mathlib.Omega.{arith}
 use mathlib.Core.Bool.{true, false}
 use lib.IntN.{pos, negsuc}
 use lib.Dec.{lit<}
-use lib.Ieee.{Float, inf, fin, binary32, round, add, sub, mul, div, fits, toBits}
+use lib.Ieee.{Float, fin, binary32, round, add, sub, mul, div, fits, toBits}
 use Rattle.floats.specs.Notation.{_⊕_, _⊖_, _⊗_, _⊘_}
 use Rattle.floats.specs.Value.{nought}
 use Rattle.floats.specs.Round.{over}
 use Rattle.floats.specs.NearestFloat.{NearestFloat, rounds-nearest}
-use Rattle.floats.specs.Overflow.{bound}
+
+differ : _≡_ {A = ℕ} 0 1 → ⊥
+differ e = omega arith
 
 -- ---- half-way between 16,777,216, whose significand is even, and 16,777,218
 pub half-way-down : NearestFloat binary32 (fin false 1 (pos 24)) 16777217 0 1
 unfolding round
-half-way-down = rounds-nearest binary32 (fin false 1 (pos 24)) 16777217 0 1 (lit< tt) (over 16777217 refl refl) tt
+half-way-down =
+    rounds-nearest binary32 (fin false 1 (pos 24)) 16777217 0 1 (lit< tt)
+    (over 16777217 refl refl) tt
 
 pub half-way-not-up : NearestFloat binary32 (fin false 8388609 (pos 1)) 16777217 0 1 → ⊥
 unfolding fits toBits
-half-way-not-up r = let odd : _≡_ {A = ℕ} 1 0 = r .even (fin false 1 (pos 24)) tt tt (λ e. tell (cc)) refl in omega arith
-  where
-    tell : _≡_ {A = ℕ} 0 1 → ⊥
-    tell e = omega arith
+half-way-not-up r =
+    let odd : _≡_ {A = ℕ} 1 0 = r .even (fin false 1 (pos 24)) tt tt (λ e. differ (cc)) refl in
+    omega arith
 
 -- ---- half-way between 16,777,218 and 16,777,220, whose significand is even
 pub half-way-up : NearestFloat binary32 (fin false 4194305 (pos 2)) 16777219 0 1
 unfolding round
-half-way-up = rounds-nearest binary32 (fin false 4194305 (pos 2)) 16777219 0 1 (lit< tt) (over 16777219 refl refl) tt
+half-way-up =
+    rounds-nearest binary32 (fin false 4194305 (pos 2)) 16777219 0 1 (lit< tt)
+    (over 16777219 refl refl) tt
 
 -- ---- 2 ^ -30, a float: 0 is not the nearest to it
 pub small-itself : NearestFloat binary32 (fin false 1 (negsuc 29)) 1 0 (2 ^ 30)
 unfolding round
-small-itself = rounds-nearest binary32 (fin false 1 (negsuc 29)) 1 0 (2 ^ 30) (lit< tt) (over 1 refl refl) tt
+small-itself =
+    rounds-nearest binary32 (fin false 1 (negsuc 29)) 1 0 (2 ^ 30) (lit< tt) (over 1 refl refl) tt
 
 pub small-not-zero : NearestFloat binary32 (nought false) 1 0 (2 ^ 30) → ⊥
 unfolding fits
 small-not-zero r = let none : 2 ^ 30 ≤ 0 = r .nearest (fin false 1 (negsuc 29)) tt tt in omega arith
 
--- ---- the edge: half a step above the largest float is infinite, all below it is the largest float
-pub largest-below-bound : round binary32 false (2 * bound - 1) 2 ≡ fin false (2 ^ 24 - 1) (pos 104)
+-- ---- half of the smallest float: 0 is the even one
+pub half-smallest : NearestFloat binary32 (nought false) 1 0 (2 ^ 150)
 unfolding round
-largest-below-bound = refl
+half-smallest =
+    rounds-nearest binary32 (nought false) 1 0 (2 ^ 150) (lit< tt) (over 1 refl refl) tt
 
-pub infinite-at-bound : round binary32 false bound 1 ≡ inf false
-unfolding round
-infinite-at-bound = refl
+pub half-smallest-not-up : NearestFloat binary32 (fin false 1 (negsuc 148)) 1 0 (2 ^ 150) → ⊥
+unfolding fits toBits
+half-smallest-not-up r =
+    let odd : _≡_ {A = ℕ} 1 0 = r .even (nought false) tt tt (λ e. differ (cc)) refl in
+    omega arith
 
 -- ---- zeros
 abbrev 𝟏 : Float

@@ -11,7 +11,8 @@ use lib.Ieee.Scale.{finite}
 use lib.Ieee.Positive.{num, den, den-pos, first-pos}
 use borrow.Author.Tests.{ne-eqb}
 use Rattle.floats.specs.Signed.{sum-same, product-same, quotient-same}
-use Rattle.floats.specs.Value.{top, bot, Is, is-neg, size-is, nonzero-is, sign, sign-is, sign-is-below}
+use Rattle.floats.specs.Value.{top, bot, Is, is-neg, size-is, nonzero-is, sign, sign-is}
+use Rattle.floats.specs.Value.{sign-is-below}
 use Rattle.floats.specs.Round.{Rounds, over, under, rounds-same, round-opposite, rounds-neg}
 
 -- ---- the sign of a product
@@ -184,7 +185,8 @@ scaled f (fin true m e) a c p = under (m * up e * a) (omega arith) refl
 
 -- x over the size of y, which is q / d
 by-size : (f : Format) (x y : Float) (p n c q d : ℕ) → 0 < c → 0 < q → 0 < num y → Is x p n c
-    → num y * d ≡ q * den y → Rounds f (round f (sign x) (num x * den y) (num y * den x)) (p * d) (n * d) (c * q)
+    → num y * d ≡ q * den y
+    → Rounds f (round f (sign x) (num x * den y) (num y * den x)) (p * d) (n * d) (c * q)
 by-size f x y p n c q d C Q N h e =
     let z = round f (sign x) (num x * den y) (num y * den x) in
     rounds-same f z (top x * den y) (bot x * den y) (num y * den x) (p * d) (n * d) (c * q)
@@ -201,7 +203,8 @@ div-rounds f x y p n c q d C D Q h k =
     (by-size f x y p n c q d C Q N h (size-is y q 0 d q k apart))
 
 -- and over -q / d it is (n - p) * d / (c * q)
-pub div-rounds-below : (f : Format) (x y : Float) (p n c q d : ℕ) → 0 < c → 0 < d → 0 < q → Is x p n c → Is y 0 q d
+pub div-rounds-below : (f : Format) (x y : Float) (p n c q d : ℕ) → 0 < c → 0 < d → 0 < q
+    → Is x p n c → Is y 0 q d
     → Rounds f (div f x y) (n * d) (p * d) (c * q)
 div-rounds-below f x y p n c q d C D Q h k =
     let apart = inr (sym (zero-add q)) in

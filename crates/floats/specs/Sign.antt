@@ -1,13 +1,16 @@
--- The sign of a result, as IEEE 754 has it, zeros and infinities included: that of the exact value where it is no zero, and where it is one,
--- + for a sum or difference unless both terms have -; of a product and a quotient, - where one operand's sign is and the other's is not.
--- Then results that have no sign bit, not even as a zero: a sum of two such, a difference that is not below zero, a square.
+-- The sign of a result, as IEEE 754 has it, zeros and infinities included: that of the exact value
+-- where it is no zero, and where it is one, + for a sum or difference unless both terms have -; of
+-- a product and a quotient, - where one operand's sign is and the other's is not. Then results that
+-- have no sign bit, not even as a zero: a sum of two such, a difference that is not below zero, a
+-- square.
 use mathlib.Core.Path.{_≡_, refl, sym, ap, _∙_}
 use Prim.Native.Nat.{ℕ, _+_, _-_, _*_, _<_}
 use native.Mathlib.Nat.{le-of-eq, eq-of-mul-eq-mul-right, mul-pos}
 use native.Mathlib.Omega.{arith}
 use mathlib.Core.Bool.{Bool, true, false, not, _&&_, cond}
 use lib.Dec.{T, eqb}
-use lib.Ieee.{Float, nan, inf, fin, Format, up, down, unlike, round, neg, sum, add, sub, mul, div, le, isNan}
+use lib.Ieee.{Float, nan, inf, fin, Format, up, down, unlike, round, neg, sum, add, sub, mul, div}
+use lib.Ieee.{le, isNan}
 use lib.Ieee.Fits.{down-pos}
 use lib.Ieee.Scale.{finite}
 use lib.Ieee.Positive.{num, den}
@@ -28,50 +31,68 @@ neg-sign (fin false m e) u = refl
 
 pub round-sign : (f : Format) (s : Bool) (a c : ℕ) → sign (round f s a c) ≡ s
 round-sign f false a c = unsigned-sign (round f false a c) (round-unsigned f a c)
-round-sign f true a c = ap sign (sym (round-neg f a c)) ∙ neg-sign (round f false a c) (round-unsigned f a c)
+round-sign f true a c =
+    ap sign (sym (round-neg f a c)) ∙ neg-sign (round f false a c) (round-unsigned f a c)
 
-pub rounds-sign-above : (f : Format) (z : Float) (p n c : ℕ) → Rounds f z p n c → n < p → sign z ≡ false
+pub rounds-sign-above : (f : Format) (z : Float) (p n c : ℕ) → Rounds f z p n c → n < p
+    → sign z ≡ false
 rounds-sign-above f z p n c (over a e i) h = ap sign i ∙ round-sign f false a c
 rounds-sign-above f z p n c (under a e i) h = let none : ⊥ = omega arith in absurd none
 
-pub rounds-sign-below : (f : Format) (z : Float) (p n c : ℕ) → Rounds f z p n c → p < n → sign z ≡ true
+pub rounds-sign-below : (f : Format) (z : Float) (p n c : ℕ) → Rounds f z p n c → p < n
+    → sign z ≡ true
 rounds-sign-below f z p n c (over a e i) h = let none : ⊥ = omega arith in absurd none
 rounds-sign-below f z p n c (under a e i) h = ap sign i ∙ round-sign f true a c
 
--- ---- a sum that is exactly zero: -0 where both terms have the sign -, which only zeros can, and +0 otherwise
+-- ---- a sum that is exactly zero: -0 where both terms have the sign -, as only zeros can; else +0
 -- |x| = X / D and |y| = Y / E are both |p - n| / c
-same-size : (X D Y E p n c : ℕ) → 0 < c → X * c + n * D ≡ p * D → Y * c + n * E ≡ p * E → X * E ≡ Y * D
+same-size : (X D Y E p n c : ℕ) → 0 < c → X * c + n * D ≡ p * D → Y * c + n * E ≡ p * E
+    → X * E ≡ Y * D
 same-size X D Y E p n c C h k =
-    eq-of-mul-eq-mul-right c C (X * E) (Y * D) (omega (arith, ap (λ (z : ℕ). z * E) h, ap (λ (z : ℕ). z * D) k))
+    eq-of-mul-eq-mul-right c C (X * E) (Y * D)
+    (omega (arith, ap (λ (z : ℕ). z * E) h, ap (λ (z : ℕ). z * D) k))
 
-both-zero : (X D Y E p n c : ℕ) → 0 < c → X * c + n * D ≡ p * D → Y * c + p * E ≡ n * E → X * E + Y * D ≡ 0
+both-zero : (X D Y E p n c : ℕ) → 0 < c → X * c + n * D ≡ p * D → Y * c + p * E ≡ n * E
+    → X * E + Y * D ≡ 0
 both-zero X D Y E p n c C h k =
-    eq-of-mul-eq-mul-right c C (X * E + Y * D) 0 (omega (arith, ap (λ (z : ℕ). z * E) h, ap (λ (z : ℕ). z * D) k))
+    eq-of-mul-eq-mul-right c C (X * E + Y * D) 0
+    (omega (arith, ap (λ (z : ℕ). z * E) h, ap (λ (z : ℕ). z * D) k))
 
-pub sum-zero : (f : Format) (x y : Float) (p n c : ℕ) → 0 < c → Is x p n c → Is y n p c → add f x y ≡ nought (sign x && sign y)
+pub sum-zero : (f : Format) (x y : Float) (p n c : ℕ) → 0 < c → Is x p n c → Is y n p c
+    → add f x y ≡ nought (sign x && sign y)
 unfolding add sum
 sum-zero f nan y p n c C h k = absurd (h .0)
 sum-zero f (inf s) y p n c C h k = absurd (h .0)
 sum-zero f (fin s m e) nan p n c C h k = absurd (k .0)
 sum-zero f (fin s m e) (inf t) p n c C h k = absurd (k .0)
 sum-zero f (fin false m e) (fin false l d) p n c C h k =
-    round-nought f false (m * up e * down d + l * up d * down e) (down e * down d) (mul-pos (down-pos e) (down-pos d))
-    (both-zero (m * up e) (down e) (l * up d) (down d) p n c C (omega (arith, h .1)) (omega (arith, k .1)))
+    round-nought f false (m * up e * down d + l * up d * down e) (down e * down d)
+    (mul-pos (down-pos e) (down-pos d))
+    (both-zero (m * up e) (down e) (l * up d) (down d) p n c C (omega (arith, h .1))
+    (omega (arith, k .1)))
 sum-zero f (fin true m e) (fin true l d) p n c C h k =
-    round-nought f true (m * up e * down d + l * up d * down e) (down e * down d) (mul-pos (down-pos e) (down-pos d))
-    (both-zero (m * up e) (down e) (l * up d) (down d) n p c C (omega (arith, h .1)) (omega (arith, k .1)))
+    round-nought f true (m * up e * down d + l * up d * down e) (down e * down d)
+    (mul-pos (down-pos e) (down-pos d))
+    (both-zero (m * up e) (down e) (l * up d) (down d) n p c C (omega (arith, h .1))
+    (omega (arith, k .1)))
 sum-zero f (fin false m e) (fin true l d) p n c C h k =
     let a = m * up e * down d in
     let b = l * up d * down e in
-    let i : a ≡ b = same-size (m * up e) (down e) (l * up d) (down d) p n c C (omega (arith, h .1)) (omega (arith, k .1)) in
+    let i : a ≡ b =
+    same-size (m * up e) (down e) (l * up d) (down d) p n c C (omega (arith, h .1))
+    (omega (arith, k .1)) in
     rw (le-ltb a b (le-of-eq (sym i)))
-    (round-nought f false (a - b) (down e * down d) (mul-pos (down-pos e) (down-pos d)) (omega arith))
+    (round-nought f false (a - b) (down e * down d) (mul-pos (down-pos e) (down-pos d))
+    (omega arith))
 sum-zero f (fin true m e) (fin false l d) p n c C h k =
     let a = m * up e * down d in
     let b = l * up d * down e in
-    let i : a ≡ b = same-size (m * up e) (down e) (l * up d) (down d) n p c C (omega (arith, h .1)) (omega (arith, k .1)) in
+    let i : a ≡ b =
+    same-size (m * up e) (down e) (l * up d) (down d) n p c C (omega (arith, h .1))
+    (omega (arith, k .1)) in
     rw (le-ltb a b (le-of-eq (sym i)), le-ltb b a (le-of-eq i))
-    (round-nought f false (a - b) (down e * down d) (mul-pos (down-pos e) (down-pos d)) (omega arith))
+    (round-nought f false (a - b) (down e * down d) (mul-pos (down-pos e) (down-pos d))
+    (omega arith))
 
 finite-sign-neg : (x : Float) → T (finite x) → sign (neg x) ≡ not (sign x)
 unfolding neg
@@ -80,18 +101,21 @@ finite-sign-neg (inf s) p = absurd p
 finite-sign-neg (fin s m e) p = refl
 
 -- a number minus its equal is +0, but for -0 - (+0), which is -0
-pub difference-zero : (f : Format) (x y : Float) (p n c : ℕ) → 0 < c → Is x p n c → Is y p n c → sub f x y ≡ nought (sign x && not (sign y))
+pub difference-zero : (f : Format) (x y : Float) (p n c : ℕ) → 0 < c → Is x p n c → Is y p n c
+    → sub f x y ≡ nought (sign x && not (sign y))
 difference-zero f x y p n c C h k =
     sub-is f x y ∙ sum-zero f x (neg y) p n c C h (is-neg y p n c k)
     ∙ ap (λ (s : Bool). nought (sign x && s)) (finite-sign-neg y (k .0))
 
 -- ---- the sign of a product and of a quotient, unless they are NaN
-or-nan : (b : Bool) (s : Bool) → T (not (isNan (cond b nan (inf s)))) → sign (cond b nan (inf s)) ≡ s
+or-nan : (b : Bool) (s : Bool) → T (not (isNan (cond b nan (inf s))))
+    → sign (cond b nan (inf s)) ≡ s
 unfolding isNan
 or-nan true s h = absurd h
 or-nan false s h = refl
 
-pub mul-sign : (f : Format) (x y : Float) → T (not (isNan (mul f x y))) → sign (mul f x y) ≡ unlike (sign x) (sign y)
+pub mul-sign : (f : Format) (x y : Float) → T (not (isNan (mul f x y)))
+    → sign (mul f x y) ≡ unlike (sign x) (sign y)
 unfolding mul isNan
 mul-sign f nan y h = absurd h
 mul-sign f (inf s) nan h = absurd h
@@ -99,9 +123,11 @@ mul-sign f (inf s) (inf t) h = refl
 mul-sign f (inf s) (fin t n d) h = or-nan (eqb n 0) (unlike s t) h
 mul-sign f (fin s m e) nan h = absurd h
 mul-sign f (fin s m e) (inf t) h = or-nan (eqb m 0) (unlike s t) h
-mul-sign f (fin s m e) (fin t n d) h = round-sign f (unlike s t) (m * up e * (n * up d)) (down e * down d)
+mul-sign f (fin s m e) (fin t n d) h =
+    round-sign f (unlike s t) (m * up e * (n * up d)) (down e * down d)
 
-pub div-sign : (f : Format) (x y : Float) → T (not (isNan (div f x y))) → sign (div f x y) ≡ unlike (sign x) (sign y)
+pub div-sign : (f : Format) (x y : Float) → T (not (isNan (div f x y)))
+    → sign (div f x y) ≡ unlike (sign x) (sign y)
 unfolding div isNan
 div-sign f nan y h = absurd h
 div-sign f (inf s) nan h = absurd h
@@ -114,12 +140,12 @@ div-sign f (fin s m e) (fin t n d) h = go (eqb n 0) h
     z : Float
     z = round f (unlike s t) (m * up e * down d) (n * up d * down e)
 
-    go : (b : Bool) → T (not (isNan (cond b (cond (eqb m 0) nan (inf (unlike s t))) z))) → sign (cond b (cond (eqb m 0) nan (inf (unlike s t))) z) ≡ unlike s t
+    go : (b : Bool) → T (not (isNan (cond b (cond (eqb m 0) nan (inf (unlike s t))) z)))
+        → sign (cond b (cond (eqb m 0) nan (inf (unlike s t))) z) ≡ unlike s t
     go true i = or-nan (eqb m 0) (unlike s t) i
     go false i = round-sign f (unlike s t) (m * up e * down d) (n * up d * down e)
 
 -- ---- results that have no sign bit
-
 pub add-unsigned : (f : Format) (x y : Float) → T (finite x) → T (finite y) → T (unsigned x) → T (unsigned y) → T (unsigned (add f x y))
 unfolding sum
 add-unsigned f x y p q u w =

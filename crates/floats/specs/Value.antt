@@ -1,5 +1,6 @@
--- A finite float is the signed fraction (top - bot) / den, where top or bot is 0; its size is num / den. `Is x p n c` says, for a c above 0,
--- that x is finite and equals (p - n) / c, whichever sign a zero has. The order of finite floats is the order of their fractions.
+-- A finite float is the signed fraction (top - bot) / den, where top or bot is 0; its size is num /
+-- den. `Is x p n c` says, for a c above 0, that x is finite and equals (p - n) / c, whichever sign
+-- a zero has. The order of finite floats is the order of their fractions.
 use mathlib.Core.Path.{_≡_, refl, sym, ap, _∙_, subst}
 use mathlib.Core.Logic.{_⊎_, inl, inr}
 use Prim.Native.Nat.{ℕ, _+_, _*_, _≤_, _<_, zero-le}
@@ -28,8 +29,8 @@ bot (inf s) = 0
 bot (fin false m e) = 0
 bot (fin true m e) = m * up e
 
--- x is (p - n) / c, for a c above 0. With the denominator 0 it says nothing: every finite x is (p - p) / 0. So a law asks for
--- 0 < c wherever x's value is concluded from it.
+-- x is (p - n) / c, for a c above 0. With the denominator 0 it says nothing: every finite x is (p -
+-- p) / 0. So a law asks for 0 < c wherever x's value is concluded from it.
 abbrev pub Is : Float → ℕ → ℕ → ℕ → Type 0
 Is x p n c = T (finite x) × Equal (top x) (bot x) (den x) p n c
 
@@ -44,12 +45,36 @@ is-same x p n c q m d C h e = (
       (omega (arith, ap (λ (z : ℕ). z * d) (h .1), ap (λ (z : ℕ). z * den x) e)),
 )
 
+-- ---- the sign changed
+pub top-neg : (x : Float) → top (neg x) ≡ bot x
+unfolding neg
+top-neg nan = refl
+top-neg (inf s) = refl
+top-neg (fin true m e) = refl
+top-neg (fin false m e) = refl
+
+pub bot-neg : (x : Float) → bot (neg x) ≡ top x
+unfolding neg
+bot-neg nan = refl
+bot-neg (inf s) = refl
+bot-neg (fin true m e) = refl
+bot-neg (fin false m e) = refl
+
+pub den-neg : (x : Float) → den (neg x) ≡ den x
+unfolding neg
+den-neg nan = refl
+den-neg (inf s) = refl
+den-neg (fin s m e) = refl
+
 pub is-neg : (x : Float) (p n c : ℕ) → Is x p n c → Is (neg x) n p c
 unfolding neg
 is-neg nan p n c h = absurd (h .0)
 is-neg (inf s) p n c h = absurd (h .0)
 is-neg (fin false m e) p n c h = (tt, omega (arith, h .1))
 is-neg (fin true m e) p n c h = (tt, omega (arith, h .1))
+
+pub finite-neg : (x : Float) → T (finite x) → T (finite (neg x))
+finite-neg x f = is-neg x (top x) (bot x) (den x) (own x f) .0
 
 -- ---- size
 -- |p - n| = a
@@ -115,7 +140,8 @@ pub sign-is-below : (x : Float) (p n c : ℕ) → Is x p n c → p < n → sign 
 sign-is-below nan p n c h l = absurd (h .0)
 sign-is-below (inf s) p n c h l = absurd (h .0)
 sign-is-below (fin true m e) p n c h l = refl
-sign-is-below (fin false m e) p n c h l = let none : ⊥ = omega (arith, h .1, mul-lt-mul-of-pos-right l (down-pos e)) in absurd none
+sign-is-below (fin false m e) p n c h l =
+    let none : ⊥ = omega (arith, h .1, mul-lt-mul-of-pos-right l (down-pos e)) in absurd none
 
 -- ---- the library's `HasValue x s a c`: x is finite, has the sign s, and is a / c in size
 pub is-of-pos : (x : Float) (a c : ℕ) → HasValue x false a c → Is x a 0 c

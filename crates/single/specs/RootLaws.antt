@@ -53,7 +53,8 @@ module _ (m : ℕ) (e : ℤ) (f : T (fits binary32 (fin false (suc m) e))) where
           lt-of-le-of-lt (le-of-eq (sym exact))
           (lt-of-lt-of-le (mul-lt-mul-of-pos-right (what-fits .2) (pow-pos 149)) (le-of-eq (mul-right-comm (2 ^ 128) (down e) (2 ^ 149))))
 
-  -- The root of a positive float x is correctly rounded, `Rooted n`, n being x's units times 2 ^ 149. `rooted-unique`: no other float is.
+  -- The root of a positive float x is correctly rounded, `Rooted n`, n being x's units times 2 ^
+  -- 149. `rooted-unique`: no other float is.
   pub root-is : Rooted (suc m * up e * 2 ^ 149 / down e * 2 ^ 149) (rootOf (fin false (suc m) e))
   unfolding rootOf
   root-is =
@@ -129,7 +130,8 @@ pub root-of-largest : toBits binary32 (rootOf (ofBits binary32 0x7f7f_ffff)) ≡
 unfolding rootOf ofBits toBits
 root-of-largest = refl
 
--- the float just below 1 is its own root; 1 is not, though it stands half of its own, wider, step away
+-- the float just below 1 is its own root; 1 is not, though it stands half of its own, wider, step
+-- away
 abbrev pub below-one : Float
 below-one = ofBits binary32 0x3f7f_ffff
 

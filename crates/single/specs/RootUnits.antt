@@ -2,8 +2,10 @@
 use mathlib.Core.Path.{_≡_, sym, ap, _∙_}
 use mathlib.Core.Bool.{false}
 use Prim.Native.Nat.{ℕ, suc, _+_, _-_, _*_, _/_, _^_, _≤_, _<_}
-use native.Mathlib.Nat.{le-trans, le-of-eq, le-of-lt, le-of-suc-le-suc, lt-of-le-of-lt, lt-of-lt-of-le, lt-of-not-le, not-le-of-lt, one-mul}
-use native.Mathlib.Nat.{le-antisymm, mul-assoc, mul-le-mul, mul-le-mul-left, mul-le-mul-right, mul-mul-mul-comm, pow-suc}
+use native.Mathlib.Nat.{le-trans, le-of-eq, le-of-lt, le-of-suc-le-suc, lt-of-le-of-lt}
+use native.Mathlib.Nat.{lt-of-lt-of-le, lt-of-not-le, one-mul}
+use native.Mathlib.Nat.{le-antisymm, mul-assoc, mul-le-mul, mul-le-mul-left, mul-le-mul-right}
+use native.Mathlib.Nat.{mul-mul-mul-comm, pow-suc}
 use native.Mathlib.Decide.{decLe}
 use native.Mathlib.Omega.{arith}
 use lib.Dec.{T, ltb}
@@ -13,8 +15,11 @@ use lib.Ieee.Digits.{size-lt, size-reaches, size-le, back}
 use lib.Ieee.Fits.{odd-fits, cond-fits, inf-fits}
 use lib.Ieee.Exact.{HasValue, units-val}
 use Rattle.floats.specs.Unique.{value-unique}
+use Rattle.floats.specs.Closest.{size-above}
 use Rattle.single.specs.Root.{nearestRoot, rootOfUnits}
-use Rattle.single.specs.NearestRoot.{NearestRoot, square, square-of, nearest-root-unique, square-mono, nearest-root-is, nearest-root-least, nearest-root-most}
+use Rattle.single.specs.NearestRoot.{NearestRoot, square, square-of, nearest-root-unique}
+use Rattle.single.specs.NearestRoot.{square-mono, nearest-root-is, nearest-root-least}
+use Rattle.single.specs.NearestRoot.{nearest-root-most}
 
 -- ---- powers of two and digits
 pub even-power : (c k : ℕ) → 2 ^ (c + (k + k)) ≡ 2 ^ c * (2 ^ k * 2 ^ k)
@@ -26,9 +31,6 @@ part t k h = sym (pow-add 2 (t - k) k) ∙ ap (λ (x : ℕ). 2 ^ x) (back t k h)
 
 part-square : (t k : ℕ) → k ≤ t → 2 ^ (t - k) * 2 ^ (t - k) * (2 ^ k * 2 ^ k) ≡ 2 ^ t * 2 ^ t
 part-square t k h = mul-mul-mul-comm (2 ^ (t - k)) (2 ^ (t - k)) (2 ^ k) (2 ^ k) ∙ ap (λ (x : ℕ). x * x) (part t k h)
-
-pub size-above : (n j : ℕ) → 2 ^ j ≤ n → j < size n
-size-above n j h = lt-of-not-le (λ (g : size n ≤ j). not-le-of-lt (size-lt n) (le-trans (pow-mono g) h))
 
 -- ---- the root of n units
 -- how many of its digits are dropped
@@ -90,9 +92,10 @@ module _ (n : ℕ) where
   root-between u t l h s = (p * 2 ^ k, value t h s, down-to u l, up-to t h)
 
 -- ---- the root of a number of 24 digits at most, followed by zeros
--- "The correctly rounded one of IEEE 754, stated over whole numbers by comparing squares": r is the float of p * 2 ^ k units, and p is
--- the root of n in steps of 2 ^ k, rounded to the nearest whole number and to the even one at a tie. The step is that of the floats
--- around the root, which has 24 digits before the point when it is counted in steps (`binade`), as p has.
+-- "The correctly rounded one of IEEE 754, stated over whole numbers by comparing squares": r is the
+-- float of p * 2 ^ k units, and p is the root of n in steps of 2 ^ k, rounded to the nearest whole
+-- number and to the even one at a tie. The step is that of the floats around the root, which has 24
+-- digits before the point when it is counted in steps (`binade`), as p has.
 pub record Rooted (n : ℕ) (r : Float) : Type 0 where
   pub k : ℕ
   pub p : ℕ
@@ -102,7 +105,8 @@ pub record Rooted (n : ℕ) (r : Float) : Type 0 where
   pub binade : (square k (2 ^ 23) ≤ n) × (n < square k (2 ^ 24))
   pub nearest : NearestRoot n k p
 
--- the binade leaves one k: without it the step could be twice as wide just below a power of four, and r one of two floats
+-- the binade leaves one k: without it the step could be twice as wide just below a power of four,
+-- and r one of two floats
 binade-most : (n i j : ℕ) → square i (2 ^ 23) ≤ n → n < square j (2 ^ 24) → i ≤ j
 binade-most n i j l h = le-of-suc-le-suc (lt-of-not-le wider)
   where
@@ -119,11 +123,13 @@ rooted-unique {n} {r} {s} a b =
     let most : b .k ≤ a .k = binade-most n (b .k) (a .k) (b .binade .0) (a .binade .1) in
     let least : a .k ≤ b .k = binade-most n (a .k) (b .k) (a .binade .0) (b .binade .1) in
     let i : b .k ≡ a .k = le-antisymm most least in
-    let q : a .p ≡ b .p = nearest-root-unique n (a .k) (a .p) (b .p) (a .nearest) (rw i at (b .nearest)) in
-    value-unique binary32 r s false (a .p * 2 ^ a .k) (2 ^ 149) (pow-pos 149) (a .fitting) (b .fitting) (a .value)
-    (rw (q, ← i) (b .value))
+    let q : a .p ≡ b .p =
+    nearest-root-unique n (a .k) (a .p) (b .p) (a .nearest) (rw i at (b .nearest)) in
+    value-unique binary32 r s false (a .p * 2 ^ a .k) (2 ^ 149) (pow-pos 149)
+    (a .fitting) (b .fitting) (a .value) (rw (q, ← i) (b .value))
 
-pub units-fits : (q k : ℕ) → q < 2 ^ 24 → q * 2 ^ k < 2 ^ 277 → T (fits binary32 (units binary32 false q k))
+pub units-fits : (q k : ℕ) → q < 2 ^ 24 → q * 2 ^ k < 2 ^ 277
+    → T (fits binary32 (units binary32 false q k))
 unfolding units
 units-fits q k l h =
     cond-fits binary32 (ltb (q * 2 ^ k) (2 ^ 277)) (odd 25 false q k 149) (inf false)
@@ -149,7 +155,8 @@ module _ (a j : ℕ) (least : 0 < a) (most : a < 2 ^ 24) (zeros : 46 ≤ j) wher
   above =
       let l : 2 ^ j ≤ n = le-trans (le-of-eq (sym (one-mul (2 ^ j)))) (mul-le-mul-right (2 ^ j) least) in
       let s : 46 < size n = size-above n 46 (le-trans (pow-mono zeros) l) in
-      le-trans (le-of-eq (sym (even-power 46 (k n)))) (size-reaches n (46 + (k n + k n)) (omega arith))
+      le-trans (le-of-eq (sym (even-power 46 (k n))))
+      (size-reaches n (46 + (k n + k n)) (omega arith))
 
   p-least : 2 ^ 23 ≤ p n
   p-least = nearest-root-least (units-nearest n) (2 ^ 23) above

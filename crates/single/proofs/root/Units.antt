@@ -13,9 +13,10 @@ use lib.Ieee.Digits.{size-le}
 use lib.Ieee.Exact.{HasValue, units-val}
 use lib.Ieee.Fits.{down-pos}
 use lib.Ieee.Bits.{ofBits-toBits, nanBits-above}
+use Rattle.floats.specs.Closest.{size-above}
 use Rattle.single.specs.Root.{nearestRoot, rootOfUnits}
 use Rattle.single.specs.NearestRoot.{NearestRoot, square, square-of, nearest-root-unique}
-use Rattle.single.specs.RootUnits.{even-power, size-above, dropped, units-nearest, units-fits}
+use Rattle.single.specs.RootUnits.{even-power, dropped, units-nearest, units-fits}
 
 -- ---- a float of q * 2 ^ k units, q being of 24 digits, by its pattern
 module _ (q k : ℕ) (low : 2 ^ 23 ≤ q) (high : q < 2 ^ 24) where

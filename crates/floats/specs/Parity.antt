@@ -1,0 +1,151 @@
+-- Whether a float's significand is even. A float of q * 2 ^ k smallest values, q having the
+-- format's digits, is even or odd as q is.
+use mathlib.Core.Path.{_≡_, sym, ap, _∙_}
+use Prim.Native.Nat.{ℕ, suc, _+_, _-_, _*_, _/_, _%_, _^_, _≤_, _<_}
+use native.Mathlib.Nat.{le-trans, le-of-eq, le-antisymm, lt-of-not-le, le-of-mul-le-mul-right}
+use native.Mathlib.Nat.{mul-assoc, mul-le-mul-right, mul-mod-left, mul-div-cancel, pow-suc}
+use native.Mathlib.Decide.{decLe}
+use native.Mathlib.Omega.{arith}
+use mathlib.Core.Bool.{Bool, true, false, not, cond}
+use lib.Dec.{T}
+use lib.Arith.{lt-of-le-ne}
+use lib.Pow.{pow-add, pow-pos, pow-lt, shl-lt}
+use lib.Ieee.{Float, nan, inf, fin, Format, binary32, binary64, prec, low, hid, up, down, size}
+use lib.Ieee.{neg, toBits}
+use lib.Ieee.Digits.{size-le, size-reaches, back}
+use lib.Ieee.Fits.{two, down-pos}
+use lib.Ieee.Exact.{HasValue}
+use lib.Ieee.Scale.{finite}
+use Rattle.floats.specs.Closest.{size-above}
+
+-- the significand's last digit is the last bit of the pattern
+abbrev pub Even : Format → Float → Type 0
+Even f x = toBits f x % 2 ≡ 0
+
+-- ---- a sign and k steps in front of the digits q change nothing
+abbrev pattern : Format → Bool → ℕ → ℕ → ℕ
+pattern f s k q = cond s (lib.Ieee.top f) 0 + k * hid f + q
+
+pattern-even : (f : Format) (s : Bool) (k q : ℕ) → q % 2 ≡ 0 → pattern f s k q % 2 ≡ 0
+pattern-even binary32 true k q h = omega arith
+pattern-even binary32 false k q h = omega arith
+pattern-even binary64 true k q h = omega arith
+pattern-even binary64 false k q h = omega arith
+
+even-pattern : (f : Format) (s : Bool) (k q : ℕ) → pattern f s k q % 2 ≡ 0 → q % 2 ≡ 0
+even-pattern binary32 true k q h = omega arith
+even-pattern binary32 false k q h = omega arith
+even-pattern binary64 true k q h = omega arith
+even-pattern binary64 false k q h = omega arith
+
+pub even-neg : (f : Format) (x : Float) → T (finite x) → Even f x → Even f (neg x)
+unfolding neg toBits
+even-neg f nan t h = absurd t
+even-neg f (inf s) t h = absurd t
+even-neg f (fin s m e) t h =
+    let n = m * up e * 2 ^ low f / down e in
+    let k = size n - prec f in
+    pattern-even f (not s) k (n / 2 ^ k) (even-pattern f s k (n / 2 ^ k) h)
+
+-- ---- the p leading digits of q * 2 ^ k
+double : (m n : ℕ) → m ≡ n * 2 → m % 2 ≡ 0
+double m n e = ap (λ (x : ℕ). x % 2) e ∙ mul-mod-left n 2
+
+power-double : (p : ℕ) → 0 < p → 2 ^ p ≡ 2 ^ (p - 1) * 2
+power-double p P =
+    let e : p ≡ suc (p - 1) = omega arith in ap (λ (x : ℕ). 2 ^ x) e ∙ pow-suc 2 (p - 1)
+
+module _ (p q k n : ℕ) (P : 2 ≤ p) (most : q ≤ 2 ^ p) (is : n ≡ q * 2 ^ k) where
+  abbrev dropped : ℕ
+  dropped = size n - p
+
+  quotient : (w : ℕ) → n ≡ w * 2 ^ dropped → n / 2 ^ dropped ≡ w
+  quotient w e = ap (λ (x : ℕ). x / 2 ^ dropped) e ∙ mul-div-cancel w (pow-pos dropped)
+
+  -- with fewer than k digits dropped they end in q's digits and zeros
+  fewer : dropped ≤ k → n / 2 ^ dropped ≡ q * 2 ^ (k - dropped)
+  fewer h =
+      quotient (q * 2 ^ (k - dropped))
+      (is ∙ ap (λ (x : ℕ). q * x) split ∙ sym (mul-assoc q (2 ^ (k - dropped)) (2 ^ dropped)))
+    where
+      split : 2 ^ k ≡ 2 ^ (k - dropped) * 2 ^ dropped
+      split = ap (λ (x : ℕ). 2 ^ x) (sym (back k dropped h)) ∙ pow-add 2 (k - dropped) dropped
+
+  -- with more, q is 2 ^ p
+  carried : k < dropped → n / 2 ^ dropped ≡ 2 ^ (p - 1)
+  carried l =
+      let large : 2 ^ p * 2 ^ k ≤ n =
+      le-trans (le-of-eq (sym (pow-add 2 p k))) (size-reaches n (p + k) (omega arith)) in
+      let least : 2 ^ p ≤ q = le-of-mul-le-mul-right (le-trans large (le-of-eq is)) (pow-pos k) in
+      let all : n ≡ 2 ^ (p + k) =
+      is ∙ ap (λ (x : ℕ). x * 2 ^ k) (le-antisymm most least) ∙ sym (pow-add 2 p k) in
+      let s : size n ≤ suc (p + k) =
+      size-le n (suc (p + k)) (rw all (pow-lt {i = p + k} (omega arith))) in
+      let j : p + k ≡ p - 1 + dropped = omega arith in
+      quotient (2 ^ (p - 1)) (all ∙ ap (λ (x : ℕ). 2 ^ x) j ∙ pow-add 2 (p - 1) dropped)
+
+  leading-even : q % 2 ≡ 0 → n / 2 ^ dropped % 2 ≡ 0
+  leading-even even = elim (decLe dropped k) [
+    | yes h ↦ double (n / 2 ^ dropped) (q / 2 * 2 ^ (k - dropped))
+        (fewer h ∙ twice (2 ^ (k - dropped)))
+    | no h ↦ double (n / 2 ^ dropped) (2 ^ (p - 1 - 1))
+        (carried (lt-of-not-le h) ∙ power-double (p - 1) (omega arith))
+  ]
+    where
+      twice : (t : ℕ) → q * t ≡ q / 2 * t * 2
+      twice t = let e : q ≡ q / 2 * 2 = omega arith in omega (arith, ap (λ (x : ℕ). x * t) e)
+
+  -- an odd q that has all p digits, or has none dropped, is what is left
+  leading-odd : (0 < k → 2 ^ (p - 1) ≤ q) → q % 2 ≡ 1 → n / 2 ^ dropped ≡ q
+  leading-odd least odd = quotient q (is ∙ ap (λ (x : ℕ). q * 2 ^ x) (sym same))
+    where
+      clash : q ≡ 2 ^ p → ⊥
+      clash e = let even = double q (2 ^ (p - 1)) (e ∙ power-double p (omega arith)) in omega arith
+
+      few : size n ≤ p + k
+      few = size-le n (p + k) (rw is (shl-lt p k (lt-of-le-ne most clash)))
+
+      many : 0 < k → p - 1 + k < size n
+      many K =
+          let l : 2 ^ (p - 1) * 2 ^ k ≤ n =
+          le-trans (mul-le-mul-right (2 ^ k) (least K)) (le-of-eq (sym is)) in
+          size-above n (p - 1 + k) (le-trans (le-of-eq (pow-add 2 (p - 1) k)) l)
+
+      same : dropped ≡ k
+      same =
+          elim (decLe 1 k) [
+            | yes K ↦ omega (arith, few, many K)
+            | no K ↦ omega
+                (arith, few, lt-of-not-le K)
+          ]
+
+-- ---- a float of q * 2 ^ k smallest values
+in-units : (n d q : ℕ) → 0 < d → n ≡ q * d → n / d ≡ q
+in-units n d q D e = ap (λ (x : ℕ). x / d) e ∙ mul-div-cancel q D
+
+module _ (f : Format) (s : Bool) (q k : ℕ) (most : q ≤ 2 ^ prec f) where
+  pub units-even : (z : Float) → HasValue z s (q * 2 ^ k) (2 ^ low f) → q % 2 ≡ 0 → Even f z
+  unfolding toBits
+  units-even nan h e = absurd h
+  units-even (inf t) h e = absurd h
+  units-even (fin t m i) h e =
+      let n = m * up i * 2 ^ low f / down i in
+      let is : n ≡ q * 2 ^ k =
+      in-units (m * up i * 2 ^ low f) (down i) (q * 2 ^ k) (down-pos i) (h .1) in
+      let d = size n - prec f in
+      pattern-even f t d (n / 2 ^ d) (leading-even (prec f) q k n (two f) most is e)
+
+  pub units-odd : (z : Float) → HasValue z s (q * 2 ^ k) (2 ^ low f)
+      → (0 < k → 2 ^ (prec f - 1) ≤ q)
+      → q % 2 ≡ 1 → Even f z → ⊥
+  unfolding toBits
+  units-odd nan h least odd e = absurd h
+  units-odd (inf t) h least odd e = absurd h
+  units-odd (fin t m i) h least odd e =
+      let n = m * up i * 2 ^ low f / down i in
+      let is : n ≡ q * 2 ^ k =
+      in-units (m * up i * 2 ^ low f) (down i) (q * 2 ^ k) (down-pos i) (h .1) in
+      let d = size n - prec f in
+      let last : n / 2 ^ d ≡ q = leading-odd (prec f) q k n (two f) most is least odd in
+      let even : n / 2 ^ d % 2 ≡ 0 = even-pattern f t d (n / 2 ^ d) e in
+      omega (arith, rw last at even)
