@@ -14,7 +14,7 @@ use Rattle.single.specs.Rules.{float}
 use Rattle.points.specs.declared.Point.{Point}
 use Rattle.points.specs.declared.Knot.{Knot}
 use Rattle.points.specs.declared.Knots.{Knots}
-use Rattle.points.specs.Points.{pt, nth}
+use Rattle.points.specs.Points.{pt, nth, kept}
 
 -- ---- the knots
 -- what stands behind p, followed by the points of l: these, and if the last does not stand at 255, one at 255 with the last y
@@ -73,14 +73,20 @@ pub record KnotsOf (ks : List Point) (r : Knots) : Type 0 where
   pub ys : r .ys ≡ yRow ks
   pub count : r .count ≡ length ks
 
--- ---- "the exact broken line" of l at v is n / d
+-- ---- the exact broken line
+-- the knots of a given list: those of its kept points
+abbrev pub givenKnots : List Point → List Point
+givenKnots l = knots (kept l)
+
+-- "The exact broken line of a list joins its knots in order of x": that of l at v is n / d
 pub record OnLine (l : List Point) (v n d : ℕ) : Type 0 where
   -- neighbouring knots i and i + 1 ..
   pub i : ℕ
-  pub inside : suc i < length (knots l)
+  pub inside : suc i < length (givenKnots l)
   -- .. with v between their x, ends included
-  pub left : xOf (knots l) i ≤ v
-  pub right : v ≤ xOf (knots l) (suc i)
-  pub width : d ≡ xOf (knots l) (suc i) - xOf (knots l) i
+  pub left : xOf (givenKnots l) i ≤ v
+  pub right : v ≤ xOf (givenKnots l) (suc i)
+  pub width : d ≡ xOf (givenKnots l) (suc i) - xOf (givenKnots l) i
   -- n = y0 * d + (y1 - y0) * (v - x0)
-  pub height : n + yOf (knots l) i * (v - xOf (knots l) i) ≡ yOf (knots l) i * d + yOf (knots l) (suc i) * (v - xOf (knots l) i)
+  pub height : n + yOf (givenKnots l) i * (v - xOf (givenKnots l) i)
+      ≡ yOf (givenKnots l) i * d + yOf (givenKnots l) (suc i) * (v - xOf (givenKnots l) i)

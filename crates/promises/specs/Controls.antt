@@ -13,7 +13,7 @@ use lib.Dec.{lit<, lit≤}
 use lib.ListN.{getD}
 use lib.Seq.{getD-take}
 use Rattle.points.specs.declared.Point.{Point}
-use Rattle.points.specs.Points.{pt, straightCurve}
+use Rattle.points.specs.Points.{pt, straightCurve, firstAt, keptBelow, kept}
 use Rattle.points.specs.Knots.{rest, knots, OnLine}
 use Rattle.points.specs.Order.{NeverFalls}
 use Rattle.hermite.specs.CatmullRom.{slope}
@@ -200,7 +200,7 @@ NearUnder P IsNear =
 
 -- the line of the steep list is 3,283 / 65 at 34, to which 51 is nearest, and not 50
 pub steep-line-at-34 : OnLine (steep .list) 34 3283 65
-unfolding knots rest
+unfolding kept keptBelow firstAt knots rest
 steep-line-at-34 = record { i = 1; inside = lit< tt; left = lit≤ tt; right = lit≤ tt; width = refl; height = refl }
 
 pub near-wants-linear : NearUnder (λ r. Unit {0}) Nearest → ⊥
@@ -219,7 +219,7 @@ abbrev ramp : Toning
 ramp = record { list = pt 0 0 ∷ pt 12 54 ∷ []; kind = Linear; bytes = ((lit< tt, lit< tt), ((lit< tt, lit< tt), tt)); tension = lit< tt }
 
 pub ramp-line-at-7 : OnLine (ramp .list) 7 378 12
-unfolding knots rest
+unfolding kept keptBelow firstAt knots rest
 ramp-line-at-7 = record { i = 0; inside = lit< tt; left = lit≤ tt; right = lit≤ tt; width = refl; height = refl }
 
 pub ramp-at-7 : entryOf Linear (ramp .list) 7 ≡ 31

@@ -18,7 +18,7 @@ use Rattle.points.specs.declared.Point.{Point}
 use Rattle.points.specs.Points.{kept}
 use Rattle.points.specs.Knots.{OnLine}
 use Rattle.points.specs.Order.{All, Bytes, NeverFalls}
-use Rattle.points.specs.Kept.{kept-rising, rising-is-kept}
+use Rattle.points.specs.Kept.{kept-rising}
 use Rattle.table_facts.specs.BrokenLine.{on-line, line-width, one-value}
 use Rattle.tables.specs.declared.CurveInterpolation.{CurveInterpolation}
 use Rattle.tables.specs.declared.CurveInterpolation.the-variants.{Linear}
@@ -234,16 +234,15 @@ module _ (c : Call) (ok : Accepted c) where
       let l = listThatTones (c .given) p in
       let entry : output c p ≡ entryOf Linear l (input c p) = toned-entry p t ∙ rw linear in
       rw entry
-      (whole-nearest (entryOf Linear l (input c p)) n d (entry-near l (list-bytes p) (input c p) (input-byte p (t .within)) n d (rw (list-kept p) o)))
+      (whole-nearest (entryOf Linear l (input c p)) n d (entry-near l (list-bytes p) (input c p) (input-byte p (t .within)) n d o))
 
   pub line : (p : Place) → TonedAt (c .given) p → HasLine (listThatTones (c .given) p) (input c p)
   line p t =
       let l = listThatTones (c .given) p in
-      let is-kept = rising-is-kept l (list-bytes p) (list-legal p .rising) in
       record {
-        there = on-line l is-kept (input c p) (input-byte p (t .within));
-        wide = line-width l is-kept (input c p);
-        one-height = one-value l is-kept (input c p);
+        there = on-line l (list-bytes p) (input c p) (input-byte p (t .within));
+        wide = line-width l (list-bytes p) (input c p);
+        one-height = one-value l (list-bytes p) (input c p);
       }
 
   pub through-point : (IsSpline (kindIn (c .given)) → ⊥) → (p : Place) → TonedAt (c .given) p

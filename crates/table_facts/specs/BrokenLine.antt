@@ -1,4 +1,4 @@
--- The exact broken line of a kept list: it is there at every byte, has one value there, also where two pieces meet,
+-- The exact broken line of a given list: it is there at every byte, has one value there, also where two pieces meet,
 -- and at a knot's x it is the knot's y.
 use mathlib.Core.Path.{_≡_, refl, sym, ap, _∙_}
 use mathlib.Core.List.{List}
@@ -8,8 +8,10 @@ use native.Mathlib.Decide.{ℕ-discrete, decLe, decLt}
 use native.Mathlib.Omega.{arith}
 use lib.ListN.{length}
 use Rattle.points.specs.declared.Point.{Point}
-use Rattle.points.specs.Knots.{knots, xOf, yOf, OnLine}
-use Rattle.points.specs.Order.{IsKept, rising-to}
+use Rattle.points.specs.Points.{kept}
+use Rattle.points.specs.Knots.{givenKnots, xOf, yOf, OnLine}
+use Rattle.points.specs.Order.{All, Bytes, rising-to}
+use Rattle.points.specs.Kept.{kept-is-kept}
 use Rattle.points.specs.Shape.{Shape, knots-shape}
 
 -- some neighbours among f 0, .., f (n + 1) have v between them
@@ -34,22 +36,22 @@ same-piece : (n m d e m0 m1 k : ℕ) → d ≡ e → n + m0 * k ≡ m0 * d + m1 
 same-piece n m d e m0 m1 k w f g = let same : n ≡ m = omega (arith, rw w at f) in rw (w, same)
 
 -- ---- the line
-module _ (l : List Point) (is-kept : IsKept l) where
+module _ (l : List Point) (bytes : All Bytes l) where
   abbrev ks : List Point
-  ks = knots l
+  ks = givenKnots l
 
-  shape : Shape (knots l)
-  shape = knots-shape l is-kept
+  shape : Shape ks
+  shape = knots-shape (kept l) (kept-is-kept l bytes)
 
-  rise : (i j : ℕ) → i < j → j < length (knots l) → xOf (knots l) i < xOf (knots l) j
-  rise = rising-to (knots l) (shape .rising)
+  rise : (i j : ℕ) → i < j → j < length ks → xOf ks i < xOf ks j
+  rise = rising-to ks (shape .rising)
 
   -- its width is above 0
   pub line-width : (v n d : ℕ) → OnLine l v n d → 0 < d
   line-width v n d o = omega (arith, rise (o .i) (suc (o .i)) (le-refl (suc (o .i))) (o .inside))
 
   -- it is there at every byte
-  piece : (v i : ℕ) → suc i < length (knots l) → xOf (knots l) i ≤ v → v ≤ xOf (knots l) (suc i) → (n d : ℕ) × OnLine l v n d
+  piece : (v i : ℕ) → suc i < length ks → xOf ks i ≤ v → v ≤ xOf ks (suc i) → (n d : ℕ) × OnLine l v n d
   piece v i h low high =
       let parts : (v - xOf ks i) + (xOf ks (suc i) - v) ≡ xOf ks (suc i) - xOf ks i = omega arith in (
         yOf ks i * (xOf ks (suc i) - v) + yOf ks (suc i) * (v - xOf ks i),
@@ -71,7 +73,8 @@ module _ (l : List Point) (is-kept : IsKept l) where
       piece v (r .0) (omega (arith, r .1, shape .two)) (r .2) (r .3)
 
   -- at a knot's x it is the knot's y
-  pub line-at-knot : (v n d : ℕ) → OnLine l v n d → (j : ℕ) → j < length (knots l) → xOf (knots l) j ≡ v → n ≡ yOf (knots l) j * d
+  pub line-at-knot : (v n d : ℕ) → OnLine l v n d → (j : ℕ) → j < length (givenKnots l) → xOf (givenKnots l) j ≡ v
+      → n ≡ yOf (givenKnots l) j * d
   line-at-knot v n d o j h e =
       let i = o .i in
       let not-before : j < i → ⊥ = λ less. omega (arith, rise j i less (omega arith)) in

@@ -5,30 +5,33 @@ use Prim.Native.Nat.{ℕ, suc, _+_, _-_, _*_, _≤_, _<_}
 use native.Mathlib.Nat.{le-refl, le-of-lt, mul-one, add-sub-of-le}
 use native.Mathlib.Numerals.{add-one}
 use native.Mathlib.Omega.{arith}
+use lib.Dec.{lit<}
 use lib.ListN.{length}
 use lib.Ieee.{Float}
 use Rattle.floats.specs.Value.{Is, is-of-le}
 use Rattle.points.specs.declared.Point.{Point}
-use Rattle.points.specs.Points.{kept}
-use Rattle.points.specs.Knots.{knots, xOf, yOf, xRow, OnLine, at}
+use Rattle.points.specs.Knots.{givenKnots, xOf, yOf, xRow, OnLine, at}
 use Rattle.points.specs.Order.{All, Bytes}
 use Rattle.hermite.specs.Rows.{fineHeight}
 use Rattle.hermite.specs.Segments.{segment}
 use Rattle.hermite.specs.SegmentLaws.{InRange, segment-holds}
 use Rattle.table_facts.specs.Given.{given-rows}
 
--- "the exact broken line" of l at the position p / c is n / (256 * d): as `OnLine`, which is at a byte, with the heights in 256ths
+-- "The exact broken line" of l at the position p / c is n / (256 * d): as `OnLine`, which is at a byte, with the heights in
+-- 256ths
 pub record LineAt (l : List Point) (p c n d : ℕ) : Type 0 where
+  -- a position is a fraction
+  pub divisor : 0 < c
   -- neighbouring knots i and i + 1 ..
   pub i : ℕ
-  pub inside : suc i < length (knots l)
+  pub inside : suc i < length (givenKnots l)
   -- .. with p / c between their x, ends included
-  pub left : xOf (knots l) i * c ≤ p
-  pub right : p ≤ xOf (knots l) (suc i) * c
-  pub width : d ≡ (xOf (knots l) (suc i) - xOf (knots l) i) * c
+  pub left : xOf (givenKnots l) i * c ≤ p
+  pub right : p ≤ xOf (givenKnots l) (suc i) * c
+  pub width : d ≡ (xOf (givenKnots l) (suc i) - xOf (givenKnots l) i) * c
   -- n = y0 * d + (y1 - y0) * (p - x0 * c), with y0 and y1 in 256ths
-  pub height : n + fineHeight (knots l) i * (p - xOf (knots l) i * c)
-      ≡ fineHeight (knots l) i * d + fineHeight (knots l) (suc i) * (p - xOf (knots l) i * c)
+  pub height : n + fineHeight (givenKnots l) i * (p - xOf (givenKnots l) i * c)
+      ≡ fineHeight (givenKnots l) i * d + fineHeight (givenKnots l) (suc i) * (p - xOf (givenKnots l) i * c)
 
 -- ---- at a byte it is what `OnLine` says
 in-256ths : (n y0 y1 d k : ℕ) → n + y0 * k ≡ y0 * d + y1 * k → 256 * n + 256 * y0 * k ≡ 256 * y0 * d + 256 * y1 * k
@@ -36,9 +39,10 @@ in-256ths n y0 y1 d k h = omega (arith, ap (λ (t : ℕ). 256 * t) h)
 
 pub at-byte : (l : List Point) (v n d : ℕ) → OnLine l v n d → LineAt l v 1 (256 * n) d
 at-byte l v n d o =
-    let ks = knots l in
+    let ks = givenKnots l in
     let i = o .i in
     record {
+      divisor = lit< tt;
       i = i;
       inside = o .inside;
       left = omega (arith, o .left);
@@ -52,9 +56,10 @@ at-byte l v n d o =
 between : (y0 y1 k g : ℕ) → (y0 * g + y1 * k) + y0 * k ≡ y0 * (k + g) + y1 * k
 between y0 y1 k g = omega arith
 
-pub line-at : (l : List Point) → All Bytes l → (x : Float) → InRange x → (p c : ℕ) → Is x p 0 c → (n d : ℕ) × LineAt (kept l) p c n d
-line-at l bytes x r p c e =
-    let ks = knots (kept l) in
+pub line-at : (l : List Point) → All Bytes l → (x : Float) → InRange x → (p c : ℕ) → 0 < c → Is x p 0 c
+    → (n d : ℕ) × LineAt l p c n d
+line-at l bytes x r p c C e =
+    let ks = givenKnots l in
     let rows = given-rows l bytes in
     let s = segment (xRow ks) (length ks) x in
     let held = segment-holds rows x (r .low) (r .high) in
@@ -70,6 +75,7 @@ line-at l bytes x r p c e =
       fineHeight ks s * g + fineHeight ks (suc s) * k,
       d,
       record {
+        divisor = C;
         i = s;
         inside = inside;
         left = omega (arith, low);
