@@ -1,5 +1,6 @@
--- Where the samples of a table stand: in order of x, from 0 up to 255, and of 256 samples each at its own number.
-use mathlib.Core.Path.{_≡_}
+-- Where the samples of a table stand: in order of x, from 0 up to 255; of 256 samples each at its own number, and of 4,096
+-- every 273rd at a multiple of 17.
+use mathlib.Core.Path.{_≡_, refl}
 use mathlib.Core.Bool.{false}
 use Prim.Native.Nat.{ℕ, _+_, _-_, _*_, _^_, _≤_, _<_}
 use native.Mathlib.Nat.{mul-le-mul}
@@ -10,6 +11,7 @@ use lib.Ieee.{fin, binary32, fits, lt, eq, le, mul, div, ofInt, ofBits}
 use lib.Ieee.Fits.{mul-fits, ofInt-fits}
 use lib.Ieee.Scale.{finite}
 use lib.Ieee.Positive.{den, den-pos}
+use Rattle.lists.specs.Tabulate.{tabulate, tabulate-agree}
 use Rattle.floats.specs.Notation.{_⊘_}
 use Rattle.floats.specs.Value.{Is, top, is-of-le}
 use Rattle.floats.specs.Order.{le-trans}
@@ -29,6 +31,14 @@ unfolding sampleAt step
 sample-byte v h =
     times-one binary32 (float v) (𝟐𝟓𝟓 ⊘ float 255) (float-is v (omega arith) .0) (ofInt-fits binary32 (pos v))
     (div-self 𝟐𝟓𝟓 (float 255) 255 1 (lit< tt) (lit< tt) 𝟐𝟓𝟓-is (float-is 255 (lit≤ tt)))
+
+-- ---- of 4,096 samples, sample 273 * j stands at 17 * j, from 0 up to 4,095 at 255
+fine-samples : tabulate 16 (λ j. sampleAt (step 4096) (273 * j)) ≡ tabulate 16 (λ j. float (17 * j))
+unfolding tabulate sampleAt step mul div ofInt ofBits
+fine-samples = refl
+
+pub sample-fine : (j : ℕ) → j < 16 → sampleAt (step 4096) (273 * j) ≡ float (17 * j)
+sample-fine j h = tabulate-agree (λ i. sampleAt (step 4096) (273 * i)) (λ i. float (17 * i)) fine-samples j h
 
 -- ---- of S samples
 module _ (S : ℕ) (two : 2 ≤ S) (most : S ≤ 2 ^ 24) where

@@ -1,7 +1,7 @@
 -- The curve of a given list is that of its kept points, which the laws of `hermite` speak of; and where the samples stand.
 use mathlib.Core.Path.{_≡_, refl}
 use mathlib.Core.List.{List}
-use Prim.Native.Nat.{ℕ, _<_}
+use Prim.Native.Nat.{ℕ, _*_, _<_}
 use native.Mathlib.Omega.{arith}
 use lib.ListN.{length}
 use lib.Ieee.{Float}
@@ -13,7 +13,7 @@ use Rattle.points.specs.Knots.{knots, xOf, xRow, yRow}
 use Rattle.points.specs.Order.{All, Bytes}
 use Rattle.points.specs.Kept.{kept-is-kept}
 use Rattle.hermite.specs.Segments.{step, sampleAt}
-use Rattle.hermite.specs.Samples.{sample-byte}
+use Rattle.hermite.specs.Samples.{sample-byte, sample-fine}
 use Rattle.hermite.specs.Rows.{Rows, fineHeight}
 use Rattle.table_facts.specs.ListLaws.{straightOf, knot-rows}
 use Rattle.tables.specs.declared.CurveInterpolation.the-variants.{Linear}
@@ -27,6 +27,10 @@ sampleX S v = sampleAt (step S) v
 -- of 256 samples, sample v stands at v
 pub sample-x-is : (v : ℕ) → v < 256 → Is (sampleX 256 v) v 0 1
 sample-x-is v h = rw (sample-byte v (omega arith)) (float-is v (omega arith))
+
+-- of 4,096, sample 273 * j stands at 17 * j
+pub fine-x-is : (j : ℕ) → j < 16 → Is (sampleX 4096 (273 * j)) (17 * j) 0 1
+fine-x-is j h = rw (sample-fine j h) (float-is (17 * j) (omega arith))
 
 -- Linear is drawn by straight pieces
 pub linear-height : (l : List Point) (x : Float) → unclampedAt Linear l x ≡ straightOf (kept l) x
