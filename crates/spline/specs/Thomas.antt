@@ -58,17 +58,6 @@ solution rows m = substituted (sweptRow rows) m
 unfoldable pub sweptIn : List Float → List Float → ℕ → Swept
 sweptIn aboves rights k = record { above = at aboves k; right = at rights k }
 
--- the rule of the rows whose parts stand in four
-unfoldable pub rowsOf : List Float → List Float → List Float → List Float → ℕ → Row
-rowsOf a b c d k = record { a = at a k; b = at b k; c = at c k; d = at d k }
-
--- r is the row k of those
-pub record RowHeld (below on above right : List Float) (k : ℕ) (r : Row) : Type 0 where
-  pub a : at below k ≡ r .a
-  pub b : at on k ≡ r .b
-  pub c : at above k ≡ r .c
-  pub d : at right k ≡ r .d
-
 -- a rule whose first value goes to place `start`
 unfoldable pub startingAt : ℕ → (ℕ → Float) → ℕ → Float
 startingAt start f w = f (w - start)

@@ -1,14 +1,12 @@
 // Cubic splines through the knots (de Boor 1978): second derivatives by the Thomas solve under three boundary rules, and the pieces drawn by them.
 ghost use mathlib.Core.Path.{_≡_};
 ghost use Prim.Native.Nat.{_+_, _≤_, _<_};
-ghost use lib.ListN.{length, replicate};
-ghost use Rattle.lists.specs.Tabulate.{filled};
+ghost use lib.ListN.{length};
 ghost use Rattle.lists.specs.Stored.{Stored};
-ghost use Rattle.single.specs.Constants.{𝟎};
 ghost use Rattle.spline.specs.Segments as S;
 ghost use Rattle.spline.specs.Segments.{segmentAt, firstCoefficient, thirdCoefficient, polynomialFrom, splinePiece, slopeOf};
 ghost use Rattle.spline.specs.Thomas as T;
-ghost use Rattle.spline.specs.Thomas.{sweptIn, substituted, solution, rowsOf, RowHeld, startingAt};
+ghost use Rattle.spline.specs.Thomas.{sweptIn, substituted, startingAt};
 ghost use Rattle.spline.specs.Second as M;
 ghost use Rattle.spline.specs.Second.{clampedFirst, clampedLast, notAKnotFirst, notAKnotLast, rowAt, rowCount};
 ghost use Rattle.spline.specs.Second.{unknown, naturalAt, endsRecovered, notAKnotAt, secondAt};
@@ -132,19 +130,6 @@ fn sweep(k: usize, p: Swept, r: Row) -> Swept
     scaled(r.b - r.a * p.above, r.c, r.d - r.a * p.right)
 }
 
-// The row k that four rows of floats hold.
-fn row_of(a: &[f32; 66], b: &[f32; 66], c: &[f32; 66], d: &[f32; 66], k: usize) -> Row
-    requires { ⌜ k < 66 ⌝ }
-    ensures { λ r. ⌜ RowHeld (now (a .entry)) (now (b .entry)) (now (c .entry)) (now (d .entry)) k r ⌝ }
-{
-    Row {
-        a: a[k],
-        b: b[k],
-        c: c[k],
-        d: d[k],
-    }
-}
-
 // Back substitution over m swept rows, from the last one on: the unknowns, to a row from place start on.
 fn substitute(aboves: &[f32; 66], rights: &[f32; 66], m: usize, start: usize, row: &mut [f32; 66])
     requires { ⌜ start + m ≤ 66 ⌝ }
@@ -158,35 +143,6 @@ fn substitute(aboves: &[f32; 66], rights: &[f32; 66], m: usize, start: usize, ro
         next = rights[k] - aboves[k] * next;
         row[start + k] = next;
     }
-}
-
-// The Thomas solve of m rows: the forward sweep, then back substitution.
-pub fn thomas_solve(
-    a: &[f32; 66],
-    b: &[f32; 66],
-    c: &[f32; 66],
-    d: &[f32; 66],
-    m: usize,
-) -> [f32; 66]
-    requires { ⌜ m ≤ 66 ⌝ }
-    ensures { λ r. ⌜ r ≡ filled m (solution (rowsOf (now (a .entry)) (now (b .entry)) (now (c .entry)) (now (d .entry))) m) (replicate 66 𝟎) ⌝ }
-{
-    let mut aboves = [0.0; 66];
-    let mut rights = [0.0; 66];
-    let mut p = Swept {
-        above: 0.0,
-        right: 0.0,
-    };
-    let mut k: usize = 0;
-    while k < m {
-        p = sweep(k, p, row_of(a, b, c, d, k));
-        aboves[k] = p.above;
-        rights[k] = p.right;
-        k += 1;
-    }
-    let mut x = [0.0; 66];
-    substitute(&aboves, &rights, m, 0, &mut x);
-    x
 }
 
 // The row of an inner knot between the segments p and q.
@@ -294,8 +250,9 @@ fn row_at(xs: &[f32; 66], ys: &[f32; 66], n: usize, boundary: SplineBoundary, k:
     }
 }
 
-// The unknowns of the system of m rows, to a row from place start on: the Thomas solve, each row of the system being made just before it is swept.
-fn unknowns(
+// The Thomas solve: the unknowns of the system of m rows, to a row from place start on. Each row of the system is made just
+// before it is swept.
+fn thomas_solve(
     xs: &[f32; 66],
     ys: &[f32; 66],
     n: usize,
@@ -328,7 +285,7 @@ fn natural(xs: &[f32; 66], ys: &[f32; 66], n: usize, row: &mut [f32; 66])
     requires { ⌜ (2 ≤ n) × (n ≤ 66) ⌝ }
     ensures { λ _. ⌜ Stored (naturalAt (now (xs .entry)) (now (ys .entry)) n) 0 n (now (row .entry)) (now (row .exit)) ⌝ }
 {
-    unknowns(xs, ys, n, SplineBoundary::Natural, n - 2, 1, row);
+    thomas_solve(xs, ys, n, SplineBoundary::Natural, n - 2, 1, row);
     row[0] = 0.0;
     row[n - 1] = 0.0;
 }
@@ -353,7 +310,7 @@ fn ends_recovered(xs: &[f32; 66], ys: &[f32; 66], n: usize, row: &mut [f32; 66])
     requires { ⌜ (4 ≤ n) × (n ≤ 66) × (length (now row) ≡ 66) ⌝ }
     ensures { λ _. ⌜ Stored (endsRecovered (now (xs .entry)) (now (ys .entry)) n) 0 n (now (row .entry)) (now (row .exit)) ⌝ }
 {
-    unknowns(xs, ys, n, SplineBoundary::NotAKnot, n - 2, 1, row);
+    thomas_solve(xs, ys, n, SplineBoundary::NotAKnot, n - 2, 1, row);
     let first = recovered(segment_at(xs, ys, 0), segment_at(xs, ys, 1), row[1], row[2]);
     let last = recovered(
         segment_at(xs, ys, n - 2),
@@ -399,7 +356,7 @@ pub fn second_derivatives(
     match boundary {
         SplineBoundary::Natural => natural(xs, ys, n, row),
         SplineBoundary::Clamped { s0, s1 } => {
-            unknowns(xs, ys, n, SplineBoundary::Clamped { s0, s1 }, n, 0, row)
+            thomas_solve(xs, ys, n, SplineBoundary::Clamped { s0, s1 }, n, 0, row)
         }
         SplineBoundary::NotAKnot => not_a_knot(xs, ys, n, row),
     }

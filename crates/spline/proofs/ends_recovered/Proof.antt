@@ -17,8 +17,8 @@ returns c =
     let u = s .before .before in
     let a = u .before .before .args in
     let f = unknown (a .xs .now) (a .ys .now) (a .n) NotAKnot in
-    let inside = inner-value f (u .unknowns .ensures) (omega arith) in
-    stored-as (framed-row f (u .unknowns .ensures) (b .recovered .result) (c .recovered2 .result) (omega arith)) (λ w low high. rw (
+    let inside = inner-value f (u .thomas-solve .ensures) (omega arith) in
+    stored-as (framed-row f (u .thomas-solve .ensures) (b .recovered .result) (c .recovered2 .result) (omega arith)) (λ w low high. rw (
       b .recovered .ensures,
       s .before .segment-at .ensures,
       s .segment-at2 .ensures,

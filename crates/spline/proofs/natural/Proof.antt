@@ -10,7 +10,7 @@ returns : tie.Need-returns
 unfolding naturalAt
 returns c =
     let a = c .before .before .args in
-    framed-row (unknown (a .xs .now) (a .ys .now) (a .n) Natural) (c .unknowns .ensures) _ _ (omega arith)
+    framed-row (unknown (a .xs .now) (a .ys .now) (a .n) Natural) (c .thomas-solve .ensures) _ _ (omega arith)
 
 pub natural-spec : {M : Type 1} → statement M
 natural-spec = tie.close (tie.spec (omega arith) (omega arith) (omega arith) (omega arith) (omega arith) (omega arith) returns)

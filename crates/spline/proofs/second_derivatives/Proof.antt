@@ -11,7 +11,7 @@ returns c = rw (c .before .before .enum-told .given .1) (c .natural .ensures)
 
 returns-2 : tie.Need-returns-2
 unfolding secondAt
-returns-2 c = rw (c .before .before .before .boundary .given .1) (from-front _ (c .unknowns .ensures) (omega arith))
+returns-2 c = rw (c .before .before .before .boundary .given .1) (from-front _ (c .thomas-solve .ensures) (omega arith))
 
 returns-3 : tie.Need-returns-3
 unfolding secondAt
