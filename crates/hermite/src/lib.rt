@@ -1,19 +1,9 @@
-// The walk through the segments of a curve, its straight and cubic pieces, and in `tangents` those of CatmullRom and Cardinal.
+// The straight and cubic pieces of a curve, and in `tangents` the tangents of CatmullRom and Cardinal.
 ghost use mathlib.Core.Path.{_≡_};
-ghost use Prim.Native.Nat.{_≤_};
-ghost use Rattle.hermite.specs.Segments as S;
 ghost use Rattle.hermite.specs.Pieces as P;
 use points::Knot;
 
 pub mod tangents;
-
-// The distance of two samples, of which there are from 2 to 4,096.
-pub fn step(samples: usize) -> f32
-    requires { ⌜ (2 ≤ samples) × (samples ≤ 4096) ⌝ }
-    ensures { λ r. ⌜ r ≡ S.step samples ⌝ }
-{
-    255.0 / single::count_to_float(samples - 1)
-}
 
 // The part of the segment from a to b that lies left of x.
 pub fn part(a: Knot, b: Knot, x: f32) -> f32

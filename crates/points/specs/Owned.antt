@@ -5,7 +5,10 @@
 use mathlib.Core.Path.{_≡_, sym, _∙_}
 use mathlib.Core.List.{List, [], _∷_, map}
 use Prim.Native.Nat.{ℕ, min}
-use lib.ListN.{length, length-map, length-take}
+use native.Mathlib.Decide.{decLe}
+use native.Mathlib.Omega.{arith}
+use lib.ListN.{length, take, length-map, length-take}
+use lib.Seq.{take-all}
 use mir.Val.{Val}
 use denote.Array.{each}
 use denote.RattleType.{RattleType}
@@ -27,6 +30,13 @@ length-told X Y f l n e = sym (length-map l f) ∙ e
 -- so the list has as many points as are claimed, and no more than 64
 pub list-length : (c : Curve) → length (c .points) ≡ 64 → length (listOf c) ≡ min (c .count) 64
 list-length c long = rw (length-take, long)
+
+-- and a claim cut to 64 leaves the list as it is
+pub held-list : (l : List Point) (n : ℕ) → length l ≡ 64 → take (min n 64) l ≡ take n l
+held-list l n long = elim (decLe n 64) [
+  | yes few ↦ let same : min n 64 ≡ n = omega arith in rw same
+  | no many ↦ let most : min n 64 ≡ 64 = omega arith in rw most (take-all 64 l (omega arith) ∙ sym (take-all n l (omega arith)))
+]
 
 pub bytes-told : (l : List Point) (us : List Val)
     → shadow (each (twoBytes .Denot) (twoBytes .own) (map (λ p. (p .x, (p .y, tt))) l) us) → All Bytes l

@@ -46,6 +46,14 @@ fn piece_at(xs: &[f32; 66], ys: &[f32; 66], ms: &[f32; 66], i: usize) -> Piece
     }
 }
 
+// The distance of two samples, of which there are from 2 to 4,096.
+fn step_of(samples: usize) -> f32
+    requires { ⌜ (2 ≤ samples) × (samples ≤ 4096) ⌝ }
+    ensures { λ r. ⌜ r ≡ S.step samples ⌝ }
+{
+    255.0 / single::count_to_float(samples - 1)
+}
+
 // The x of sample v.
 fn position(step: f32, v: usize) -> f32
     requires { ⌜ v ≤ 8192 ⌝ }
@@ -170,7 +178,7 @@ pub fn fill(
     ensures { λ _. ⌜ now (samples .exit) ≡ tabulate (length (now (samples .entry)))
         (sampled (heightAt form (now (xs .entry)) (now (ys .entry)) (now (ms .entry)) n) (length (now (samples .entry)))) ⌝ }
 {
-    let step = hermite::step(samples.len());
+    let step = step_of(samples.len());
     let from = begin(form, xs, ys, ms, n, step, samples);
     rest(form, xs, ys, ms, n, step, from, samples);
 }

@@ -71,7 +71,15 @@ pub record BuiltTable (curve : Curve) (kind : CurveInterpolation) (old : List Fl
   pub answer : r ≡ firstRefusal (tableChecks curve (length old))
   pub table : new ≡ cond (isDone r) (fineTable kind (listOf curve) (length old)) old
 
--- the answer, and the table: "A table handed back with it is all 0"
+-- the byte table of a given list, beside an answer: "A table handed back with [a refusal] is all 0"
+abbrev pub tableBeside : Answer → Curve → CurveInterpolation → List ℕ
+tableBeside answer curve kind = cond (isDone answer) (byteTable kind (listOf curve)) (replicate 256 0)
+
+-- the table alone, of any list: all 0 for one that is refused
+abbrev pub tableOf : Curve → CurveInterpolation → List ℕ
+tableOf curve kind = tableBeside (firstRefusal (listChecks curve)) curve kind
+
+-- the answer, and the table
 pub record BuiltLut (curve : Curve) (kind : CurveInterpolation) (r : Lut) : Type 0 where
   pub answer : r .answer ≡ firstRefusal (listChecks curve)
-  pub table : r .table ≡ cond (isDone (r .answer)) (byteTable kind (listOf curve)) (replicate 256 0)
+  pub table : r .table ≡ tableBeside (r .answer) curve kind

@@ -7,7 +7,7 @@ ghost use Rattle.answers.specs.Checks.{firstRefusal};
 ghost use Rattle.single.specs.Constants.{𝟎};
 ghost use Rattle.points.specs.Points.{listOf};
 ghost use Rattle.tables.specs.Kinds.{kindNumber, kindOf, formOf, numbersRow};
-ghost use Rattle.tables.specs.Tables.{fineTable, byteTable, bytesOf, isTableLength, lengthCheck, BuiltTable, BuiltLut};
+ghost use Rattle.tables.specs.Tables.{fineTable, bytesOf, tableOf, isTableLength, lengthCheck, BuiltTable, BuiltLut};
 use answers::Answer;
 use answers::first_of;
 use hermite::tangents;
@@ -140,8 +140,7 @@ fn numbers(kind: CurveInterpolation, xs: &[f32; 66], ys: &[f32; 66], n: usize, r
 }
 
 // The samples of a given list.
-pub fn sample_curve(curve: Curve, kind: CurveInterpolation, samples: &mut [f32])
-    requires { ⌜ curve .count ≤ 64 ⌝ }
+fn sample_curve(curve: Curve, kind: CurveInterpolation, samples: &mut [f32])
     requires { ⌜ (2 ≤ length (now samples)) × (length (now samples) ≤ 4096) ⌝ }
     ensures { λ _. ⌜ now (samples .exit) ≡ fineTable kind (listOf curve) (length (now (samples .entry))) ⌝ }
 {
@@ -168,11 +167,14 @@ fn to_bytes(samples: &[f32; 256]) -> [u8; 256]
     bytes
 }
 
-// The byte table of a given list.
+// The byte table of a given list, by value; all 0 for a list that is refused.
 pub fn byte_table(curve: Curve, kind: CurveInterpolation) -> [u8; 256]
-    requires { ⌜ curve .count ≤ 64 ⌝ }
-    ensures { λ r. ⌜ r ≡ byteTable kind (listOf curve) ⌝ }
+    ensures { λ r. ⌜ r ≡ tableOf curve kind ⌝ }
 {
+    let answer = curve.check_given();
+    if !answer.is_done() {
+        return [0; 256];
+    }
     let mut samples = [0.0; 256];
     sample_curve(curve, kind, &mut samples);
     to_bytes(&samples)
@@ -211,15 +213,8 @@ pub fn build_table(curve: Curve, kind: CurveInterpolation, samples: &mut [f32]) 
 pub fn build_lut(curve: Curve, kind: CurveInterpolation) -> Lut
     ensures { λ r. ⌜ BuiltLut curve kind r ⌝ }
 {
-    let answer = curve.check_given();
-    if !answer.is_done() {
-        return Lut {
-            answer,
-            table: [0; 256],
-        };
-    }
     Lut {
-        answer,
+        answer: curve.check_given(),
         table: byte_table(curve, kind),
     }
 }

@@ -1,17 +1,16 @@
 -- `own_table`: built where present.
+use native.Mathlib.Omega.{arith}
 use mathlib.Core.Path.{sym, _∙_}
 use mathlib.Core.Bool.{true≢false}
+use Rattle.tables.specs.TableLaws.{table-of-few}
 use Rattle.pictures.proofs.own_table.Statement.{statement}
 use Rattle.pictures.proofs.own_table.Tie as tie
 
-byte-table-requires : tie.Need-byte-table-requires
-byte-table-requires c κs = c .before .pre (c .if1 .taken)
-
 returns : tie.Need-returns
-returns c present = c .byte-table .ensures
+returns c present = c .byte-table .ensures ∙ table-of-few _ _ (c .before .before .pre present)
 
 returns-2 : tie.Need-returns-2
 returns-2 c present = absurd (true≢false (sym present ∙ c .if1 .left))
 
 pub own-table-spec : {M : Type 1} → statement M
-own-table-spec = tie.close (tie.spec byte-table-requires returns returns-2)
+own-table-spec = tie.close (tie.spec (omega arith) returns returns-2)

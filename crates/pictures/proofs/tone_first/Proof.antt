@@ -1,5 +1,7 @@
 -- `tone_first`: the kernel is given the table of each channel.
 use native.Mathlib.Omega.{arith}
+use mathlib.Core.Path.{_∙_}
+use Rattle.tables.specs.TableLaws.{table-of-few}
 use Rattle.sets.specs.Sets.{viewOf}
 use Rattle.sets.specs.Legal.{Passed, passed-set, passed-count}
 use Rattle.formats.specs.FormatLaws.{tight}
@@ -10,9 +12,6 @@ use Rattle.pictures.proofs.tone_first.Tie as tie
 -- the set's lists have passed
 passed : (c : tie.After-by-colour) → Passed (c .before .before .before .args .set)
 passed c = passed-set _ (c .before .before .before .pre .0 .0)
-
-byte-table-requires : tie.Need-byte-table-requires
-byte-table-requires c κs = passed-count _ (passed (c .before .before .before) .master)
 
 own-table-requires : tie.Need-own-table-requires
 own-table-requires c κs = let by = c .before .before .before .before in used-count (by .by-colour .result) _ (passed by .red)
@@ -43,7 +42,7 @@ returns c =
     let by = master .before .before .before .before in
     let start = by .before .before .before in
     let set = start .args .set in
-    let built = master .byte-table .ensures in
+    let built = master .byte-table .ensures ∙ table-of-few _ _ (passed-count _ (passed by .master)) in
     tight-rows-by (start .args .format) (viewOf set) _ _ _ _ _ (start .pre .0 .1) (by .by-colour .ensures) (k .bytes-a-pixel .ensures)
     (chosen-is _ (set .red) _ built (by .by-colour .result) (own-red .own-table .ensures) (red .chosen-table .ensures))
     (chosen-is _ (set .green) _ built (by .by-colour .result) (own-green .own-table2 .ensures) (green .chosen-table2 .ensures))
@@ -54,8 +53,7 @@ pub tone-first-spec : {M : Type 1} → statement M
 tone-first-spec =
     tie.close
     (tie.spec
-    (omega arith)
-    byte-table-requires
+    (omega arith) (omega arith)
     own-table-requires
     own-table-requires-2
     own-table-requires-3

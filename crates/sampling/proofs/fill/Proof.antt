@@ -9,7 +9,7 @@ rest-requires c κs =
     let b = c .before .before .before in
     let call = b .before .before .before .before in
     let state = b .begin .ensures in
-    ((call .pre .0 .1, omega (arith, state .long), rw (state .long) (b .before .before .step .ensures)), rw (state .long) state)
+    ((call .pre .0 .1, omega (arith, state .long), rw (state .long) (b .before .before .step-of .ensures)), rw (state .long) state)
 
 returns : tie.Need-returns
 returns c =

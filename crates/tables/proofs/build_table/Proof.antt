@@ -10,7 +10,6 @@ use borrow.Author.Tests.{ne-eqb, eqb-true, not-false}
 use Rattle.answers.specs.Numbers.{done-is}
 use Rattle.answers.specs.Checks.{firstRefusal, first-then, done-append, all-passed}
 use Rattle.points.specs.Points.{listChecks}
-use Rattle.points.specs.CheckLaws.{given-few}
 use Rattle.tables.specs.Tables.{isTableLength, lengthCheck, tableChecks}
 use Rattle.tables.proofs.build_table.Statement.{statement}
 use Rattle.tables.proofs.build_table.Tie as tie
@@ -35,7 +34,7 @@ sample-curve-requires c κs =
     let A = k .before .before .before .before .before .args in
     let room = lengthCheck (length (A .samples .now)) ∷ [] in
     let passed = done-append (listChecks (A .curve)) room (sym (answered (k .before)) ∙ done-is _ (sym (k .is-done .ensures) ∙ c .before .if1 .taken)) in
-    (given-few (A .curve) (passed .0), two-to-4096 _ (not-false _ (all-passed room (passed .1) .0)))
+    two-to-4096 _ (not-false _ (all-passed room (passed .1) .0))
 
 returns : tie.Need-returns
 returns c =

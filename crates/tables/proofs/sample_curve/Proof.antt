@@ -4,7 +4,7 @@ use mathlib.Core.List.{List}
 use Prim.Native.Nat.{ℕ, _≤_}
 use native.Mathlib.Omega.{arith}
 use borrow.Author.Needs.{needs}
-use lib.ListN.{length, length-take}
+use lib.ListN.{length}
 use lib.Ieee.{Float}
 use Rattle.lists.specs.Tabulate.{tabulate}
 use Rattle.points.specs.declared.Curve.{Curve}
@@ -12,7 +12,7 @@ use Rattle.points.specs.declared.Knots.{Knots}
 use Rattle.points.specs.Points.{listOf, kept, SortedList}
 use Rattle.points.specs.Knots.{knots, KnotsOf}
 use Rattle.points.specs.Order.{All, Bytes, all-take}
-use Rattle.points.specs.Owned.{bytes-told}
+use Rattle.points.specs.Owned.{length-told, list-length, bytes-told}
 use Rattle.points.specs.Kept.{kept-is-kept, kept-length}
 use Rattle.points.specs.Shape.{knots-shape, knots-length}
 use Rattle.tables.specs.declared.CurveInterpolation.{CurveInterpolation}
@@ -23,17 +23,17 @@ use Rattle.tables.specs.Tables.{unclampedAt, sampleOf, fineTable}
 use Rattle.tables.proofs.sample_curve.Statement.{statement}
 use Rattle.tables.proofs.sample_curve.Tie as tie
 
--- ---- what sorting and the knots give, for a list of at most 64 points
-module _ (given sorted : Curve) {k : Knots} (few : given .count ≤ 64) (s : SortedList (listOf given) sorted) (r : KnotsOf (knots (listOf sorted)) k) where
+-- ---- what sorting and the knots give
+module _ (given sorted : Curve) {k : Knots} (s : SortedList (listOf given) sorted) (r : KnotsOf (knots (listOf sorted)) k) where
   rows : KnotsOf (knots (kept (listOf given))) k
   rows = rw (s .list) at r
 
-  count : All Bytes (listOf given) → (2 ≤ k .count) × (k .count ≤ 66)
-  count bytes =
+  count : All Bytes (listOf given) → length (given .points) ≡ 64 → (2 ≤ k .count) × (k .count ≤ 66)
+  count bytes long =
       let l = listOf given in
-      let short : length l ≤ 64 = simp length-take (omega arith) in
+      let most = list-length given long in
       rw (rows .count)
-      (omega (arith, knots-shape (kept l) (kept-is-kept l bytes) .two), omega (arith, knots-length (kept l), kept-length l))
+      (omega (arith, knots-shape (kept l) (kept-is-kept l bytes) .two), omega (arith, knots-length (kept l), kept-length l, most))
 
   table : (kind : CurveInterpolation) (S : ℕ) {form : Form} {ms new : List Float} → form ≡ formOf kind → ms ≡ numbersRow kind (k .xs) (k .ys) (k .count)
       → new ≡ tabulate S (sampled (heightAt form (k .xs) (k .ys) ms (k .count)) S) → new ≡ fineTable kind (listOf given) S
@@ -45,15 +45,20 @@ numbers-requires c κs =
     let k = c .before .before .before .before .before in
     let n = k .before in
     let given = n .before .before in
-    let few = count (given .args .curve) (n .sorted .result) (given .pre .0) (n .sorted .ensures) (k .knots .ensures) (search (needs, all-take, bytes-told)) in
+    let few =
+    count (given .args .curve) (n .sorted .result) (n .sorted .ensures) (k .knots .ensures) (search (needs, all-take, bytes-told))
+    (search (needs, length-told)) in
     (few .0, few .1, refl)
 
 fill-requires : tie.Need-fill-requires
 fill-requires c κs =
     let k = c .before .before .before .before .before .before .before .before .before .before .before in
     let n = k .before in
-    let given = n .before .before in
-    (count (given .args .curve) (n .sorted .result) (given .pre .0) (n .sorted .ensures) (k .knots .ensures) (search (needs, all-take, bytes-told)), given .pre .1)
+    let given = n .before .before in (
+      count (given .args .curve) (n .sorted .result) (n .sorted .ensures) (k .knots .ensures) (search (needs, all-take, bytes-told))
+          (search (needs, length-told)),
+      given .pre,
+    )
 
 returns : tie.Need-returns
 returns c =
@@ -61,7 +66,8 @@ returns c =
     let m = f .before .before .before .before .before in
     let k = m .before .before .before .before .before .before .before in
     let n = k .before in
-    table (n .before .before .args .curve) (n .sorted .result) (n .before .before .pre .0) (n .sorted .ensures) (k .knots .ensures) _ _ (m .form-of .ensures) (m .before .numbers .ensures) (f .fill .ensures)
+    table (n .before .before .args .curve) (n .sorted .result) (n .sorted .ensures) (k .knots .ensures) _ _ (m .form-of .ensures)
+    (m .before .numbers .ensures) (f .fill .ensures)
 
 pub sample-curve-spec : {M : Type 1} → statement M
 sample-curve-spec =

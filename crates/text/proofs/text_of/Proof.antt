@@ -26,6 +26,7 @@ use Rattle.answers.specs.declared.Answer.the-variants.{
 use Rattle.answers.specs.Numbers.{numberOf, isDone}
 use Rattle.points.specs.Points.{listOf}
 use Rattle.tables.specs.Tables.{byteTable}
+use Rattle.tables.specs.TableLaws.{table-of-few}
 use Rattle.sets.specs.Legal.{passed-set, passed-count}
 use Rattle.records.specs.declared.RecordRead.{RecordRead}
 use Rattle.records.specs.Format.{readRecord}
@@ -62,19 +63,16 @@ module _ (s : List ℕ) (r : RecordRead) (h : HandedBack (readRecord s) r) where
   unfolding printed
   refused-text e = rw (← h .answer, e)
 
-byte-table-requires : tie.Need-byte-table-requires
-byte-table-requires c κs =
-    let r = c .before .before .before .before .read-record in
-    passed-count (r .result .set .master) (passed-set (r .result .set) (r .ensures .legal) .master)
-
 returns : tie.Need-returns
 returns c =
     let t = c .table-text .ensures in
     let b = c .before .before in
     let test = b .before .before .before in
     let done = test .before in
-    let read = done .before in (
-      t .0 ∙ ap tableText (b .byte-table .ensures)
+    let read = done .before in
+    let r = read .read-record in
+    let few = passed-count (r .result .set .master) (passed-set (r .result .set) (r .ensures .legal) .master) in (
+      t .0 ∙ ap tableText (b .byte-table .ensures ∙ table-of-few _ _ few)
           ∙ read-text (read .before .before .args .bytes .now) (read .read-record .result) (read .read-record .ensures) (sym (done .is-done .ensures) ∙ test .if1 .taken),
       t .1,
     )
@@ -97,9 +95,7 @@ pub text-of-spec : {M : Type 1} → statement M
 text-of-spec =
     tie.close
     (tie.spec
-    (omega arith) (omega arith)
-    byte-table-requires
-    (omega arith)
+    (omega arith) (omega arith) (omega arith) (omega arith)
     returns
     (omega arith)
     refusal-text-requires

@@ -8,6 +8,7 @@ use Rattle.answers.specs.declared.Answer.the-variants.{Done}
 use Rattle.answers.specs.Numbers.{numberOf, told-refused, told-done}
 use Rattle.answers.specs.Checks.{firstRefusal, roomCheck, first-then, done-append, has-room}
 use Rattle.tables.specs.Tables.{byteTable}
+use Rattle.tables.specs.TableLaws.{table-of-few}
 use Rattle.sets.specs.Sets.{View}
 use Rattle.sets.specs.Legal.{passed-set, passed-count}
 use Rattle.records.specs.Checks.{recordChecks}
@@ -40,10 +41,6 @@ returns c =
       table = rw (c .number .ensures, told-refused (k .before .first-of .result) (k .is-done .ensures) (c .before .if1 .taken));
     }
 
-byte-table-requires : tie.Need-byte-table-requires
-byte-table-requires c κs =
-    passed-count _ (passed-set _ (c .before .before .before .before .before .read-record .ensures .legal) .master)
-
 copy-bytes-requires : tie.Need-copy-bytes-requires
 copy-bytes-requires c κs =
     let long : length (c .before .before .byte-table .result) ≡ 256 = search needs in
@@ -55,12 +52,13 @@ returns-2 c =
     let b = t .before .before .before in
     let k = b .before .before in
     let read = k .before .before .before .before .read-record .ensures in
+    let few = table-of-few _ _ (passed-count _ (passed-set _ (read .legal) .master)) in
     let long : length (b .byte-table .result) ≡ 256 = search needs in
     record {
       number = c .number2 .ensures ∙ ap numberOf (answered (k .before .before));
       table =
           rw (c .number2 .ensures, told-done (k .before .before .first-of .result) (k .before .is-done .ensures) (k .if1 .left))
-          (rw (long, b .byte-table .ensures ∙ ap (λ (set : View). byteTable (set .kind) (set .master)) (read .set)) at (t .copy-bytes .ensures));
+          (rw (long, b .byte-table .ensures ∙ few ∙ ap (λ (set : View). byteTable (set .kind) (set .master)) (read .set)) at (t .copy-bytes .ensures));
     }
 
 pub tone-record-table-spec : {M : Type 1} → statement M
@@ -69,8 +67,7 @@ tone-record-table-spec =
     (tie.spec
     (omega arith) (omega arith) (omega arith) (omega arith) (omega arith)
     returns
-    byte-table-requires
-    (omega arith)
+    (omega arith) (omega arith)
     copy-bytes-requires
     (omega arith) (omega arith)
     returns-2)

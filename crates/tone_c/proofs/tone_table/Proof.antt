@@ -8,6 +8,7 @@ use mir.Facts.{toZ-ofZ}
 use Rattle.answers.specs.declared.Answer.the-variants.{Done}
 use Rattle.answers.specs.Numbers.{numberOf, told-refused, told-done}
 use Rattle.answers.specs.Checks.{firstRefusal, roomCheck, first-then, done-append, has-room}
+use Rattle.tables.specs.TableLaws.{table-of-few}
 use Rattle.tone_c.specs.Boundary.{givenChecks, toneTableChecks}
 use Rattle.tone_c.proofs.Passed.{given-points}
 use Rattle.tone_c.proofs.tone_table.Statement.{statement}
@@ -55,12 +56,13 @@ returns-2 c =
     let s = k .before .before .before .before .before .before .before in
     let start = toZ-ofZ (s .fits .start-slope) in
     let end = toZ-ofZ (s .fits .end-slope) in
+    let few = table-of-few _ _ (b .before .before .curve-of .ensures .1) in
     let long : length (b .byte-table .result) ≡ 256 = search needs in
     record {
       number = c .number2 .ensures ∙ ap numberOf (answered (k .before .before));
       table =
           rw (c .number2 .ensures, told-done (k .before .before .first-of .result) (k .before .is-done .ensures) (k .if1 .left))
-          (rw (long, b .byte-table .ensures, b .before .kind-of .ensures, b .before .before .curve-of .ensures .0, start, end)
+          (rw (long, b .byte-table .ensures ∙ few, b .before .kind-of .ensures, b .before .before .curve-of .ensures .0, start, end)
           at (t .copy-bytes .ensures));
     }
 
