@@ -23,6 +23,11 @@ pub enum Answer {
 }
 
 impl Answer {
+    // The lengths that 14 allows a float table: either where it is built, the second where it is looked up in.
+    pub const TABLE_LENGTH: usize = 256;
+
+    pub const FINE_TABLE_LENGTH: usize = 4096;
+
     // The paper's number; 0 for done.
     pub fn number(self) -> u8
         ensures { λ r. ⌜ r ≡ numberOf self ⌝ }

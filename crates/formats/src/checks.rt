@@ -10,20 +10,16 @@ use answers::Answer;
 use answers::first_of;
 use answers::room_for;
 
-const LARGEST_SIDE: usize = 4096;
-
-const LARGEST_STEP: usize = 32768;
-
 fn too_large(w: usize, h: usize) -> bool
     ensures { λ r. ⌜ r ≡ tooLarge w h ⌝ }
 {
-    (LARGEST_SIDE < w) | (LARGEST_SIDE < h)
+    (PixelFormat::LARGEST_SIDE < w) | (PixelFormat::LARGEST_SIDE < h)
 }
 
 fn wrong_step(row: usize, step: usize) -> bool
     ensures { λ r. ⌜ r ≡ wrongStep row step ⌝ }
 {
-    (step < row) | (LARGEST_STEP < step)
+    (step < row) | (PixelFormat::LARGEST_STEP < step)
 }
 
 // How many bytes a plane must have.

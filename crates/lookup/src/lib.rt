@@ -86,7 +86,7 @@ fn replace(table: &[f32], indices: &[u16; 64], at: usize, n: usize, values: &mut
 pub fn lookup(table: &[f32], values: &mut [f32]) -> Answer
     ensures { λ r. ⌜ L.LookupCall (now (table .entry)) (now (values .entry)) r (now (values .exit)) ⌝ }
 {
-    if table.len() != 4096 {
+    if table.len() != Answer::FINE_TABLE_LENGTH {
         return Answer::TableLength;
     }
     let end = values.len();

@@ -184,7 +184,7 @@ pub fn byte_table(curve: Curve, kind: CurveInterpolation) -> [u8; 256]
 fn is_table_length(count: usize) -> bool
     ensures { λ r. ⌜ r ≡ isTableLength count ⌝ }
 {
-    count == 256 || count == 4096
+    count == Answer::TABLE_LENGTH || count == Answer::FINE_TABLE_LENGTH
 }
 
 // 14, of a fine table of so many samples.
