@@ -19,7 +19,7 @@ use Rattle.sets.specs.Sets.{masterOnly, withKind}
 use Rattle.records.specs.Format.{readRecord}
 use Rattle.formats.specs.declared.PixelFormat.the-variants.{Gray8}
 use Rattle.formats.specs.Checks.{lutAnswer}
-use Rattle.pictures.specs.Runs.{Run, answer}
+use Rattle.pictures.specs.Runs.{answer}
 use Rattle.sets.specs.Examples.{line}
 use Rattle.pictures.specs.Examples.{run, answered, lutAnswered}
 use Rattle.examples.specs.Computed as Computed
@@ -93,14 +93,11 @@ pub P12-passes : numberOf (lutAnswer Gray8 4 1 4 4) ≡ 0
 unfolding lutAnswered
 P12-passes = refl
 
--- .. and in the set call, by the straight curve
-abbrev oneRow : ℕ → Run
-oneRow step = run line Gray8 4 1 1 step 4 4 0
-
-pub P12-set : numberOf (answer (oneRow 3)) ≡ 11
+-- .. and in the set call, by the straight curve: width 4, one row, one plane, the step, 4 bytes, and room for 4
+pub P12-set : numberOf (answer (run line Gray8 4 1 1 3 4 4 0)) ≡ 11
 unfolding answered
 P12-set = refl
 
-pub P12-set-passes : numberOf (answer (oneRow 4)) ≡ 0
+pub P12-set-passes : numberOf (answer (run line Gray8 4 1 1 4 4 4 0)) ≡ 0
 unfolding answered
 P12-set-passes = refl

@@ -1,8 +1,8 @@
 -- Sets where a slip in the order of the checks would show: each line mends the first fault of the line before it, and has later ones still.
-use Prim.Native.Nat.{ℕ}
+use Prim.Native.Nat.{ℕ, _-_}
 use mathlib.Core.Path.{_≡_, refl}
 use mathlib.Core.List.{List, [], _∷_, _++_}
-use lib.ListN.{replicate}
+use lib.ListN.{length, replicate}
 use Rattle.answers.specs.declared.Answer.the-variants.{Done, PointCount, PointsNotRising}
 use Rattle.points.specs.declared.Point.{Point}
 use Rattle.points.specs.declared.Curve.{Curve}
@@ -11,9 +11,9 @@ use Rattle.tables.specs.declared.CurveInterpolation.the-variants.{Linear}
 use Rattle.sets.specs.declared.Curves.{Curves}
 use Rattle.sets.specs.Sets.{presentChannel, curveAnswer, setAnswer}
 
--- a list as it is stored, zeros behind it
+-- a list as a `Curve` stores it: 64 points, zeros behind the list
 abbrev pub stored : List Point → ℕ → Curve
-stored l n = record { points = l ++ replicate 64 (pt 0 0); count = n }
+stored l n = record { points = l ++ replicate (64 - length l) (pt 0 0); count = n }
 
 abbrev pub line : Curve
 line = stored straightCurve 2
