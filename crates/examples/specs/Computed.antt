@@ -6,14 +6,26 @@ use lib.Ieee.{add, sub, neg, mul, div, lt, ofInt, ofBits}
 use Rattle.lists.specs.Tabulate.{tabulate, filled}
 use Rattle.floats.specs.Value.{absolute}
 use Rattle.single.specs.Rules.{clamped, byteOf, guardedQuotient}
+use Rattle.single.specs.Root.{rootOf}
 use Rattle.points.specs.declared.Point.{Point}
 use Rattle.points.specs.Points.{risesFrom, firstAt, keptBelow, kept}
 use Rattle.points.specs.Knots.{rest, knots, xAt, yAt, xRow, yRow}
 use Rattle.hermite.specs.Segments.{step, sampleAt, seek, segment}
 use Rattle.hermite.specs.Pieces as Piece
-use Rattle.hermite.specs.CatmullRom.{looseness, looseSlope, cardinalAt}
+use Rattle.hermite.specs.CatmullRom.{slope, catmullRomAt, looseness, looseSlope, cardinalAt}
+use Rattle.monotone.specs.Monotone.{secantAt, meanAt, boxed, circled, adjusted, reached, monotoneAt}
+use Rattle.chords.specs.Alpha.{chord, spacing, threeTerms, alphaTangent, alphaAt}
 use Rattle.spline.specs.Segments.{between, segmentAt, firstCoefficient, splinePiece, slopeOf}
-use Rattle.spline.specs.Second.{rowAt, unknown, framed, naturalAt, secondAt}
+use Rattle.spline.specs.Second.{
+  recovered,
+  framed,
+  rowAt,
+  unknown,
+  naturalAt,
+  endsRecovered,
+  notAKnotAt,
+  secondAt,
+}
 use Rattle.spline.specs.Thomas.{scaled, sweep, swept, sweptRow, backward, substituted, solution}
 use Rattle.sampling.specs.Pieces.{pieceHeight, heightAt, sampled}
 use Rattle.tables.specs.declared.CurveInterpolation.{CurveInterpolation}
@@ -22,10 +34,13 @@ use Rattle.records.specs.Format.{Read, pairs, readPoints, readList, readKind, r
 
 -- an entry of a byte table
 unfoldable pub entry : CurveInterpolation → List Point → ℕ → ℕ
-unfolding entryOf sampleOf sampled unclampedAt heightAt pieceHeight kept keptBelow firstAt knots rest xRow yRow xAt yAt filled tabulate step sampleAt seek
-    segment Piece.part Piece.straight Piece.hermite looseness looseSlope cardinalAt between segmentAt firstCoefficient splinePiece slopeOf secondAt naturalAt
-    framed unknown rowAt solution substituted backward sweptRow swept sweep scaled guardedQuotient absolute clamped byteOf add sub neg mul div lt ofInt
-    ofBits
+unfolding entryOf sampleOf sampled unclampedAt heightAt pieceHeight kept keptBelow firstAt knots
+    rest xRow yRow xAt yAt filled tabulate step sampleAt seek segment Piece.part Piece.straight
+    Piece.hermite slope catmullRomAt looseness looseSlope cardinalAt secantAt meanAt boxed circled
+    adjusted reached monotoneAt chord spacing threeTerms alphaTangent alphaAt between segmentAt
+    firstCoefficient splinePiece slopeOf secondAt naturalAt notAKnotAt endsRecovered recovered
+    framed unknown rowAt solution substituted backward sweptRow swept sweep scaled guardedQuotient
+    absolute rootOf clamped byteOf add sub neg mul div lt ofInt ofBits
 entry = entryOf
 
 -- what a reader makes of a record

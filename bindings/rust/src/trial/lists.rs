@@ -4,7 +4,7 @@ use crate::model::record::rises;
 use crate::{Kind, KindNumbers};
 
 /// A table to build: x, y pairs and a kind, with a tension and slopes that other kinds must not read.
-#[derive(Clone, Debug)]
+#[derive(Clone, Debug, PartialEq, Eq)]
 pub struct Question {
     pub points: Vec<u8>,
     pub numbers: KindNumbers,

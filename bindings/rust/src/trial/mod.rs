@@ -3,12 +3,14 @@ use std::env;
 
 mod lent;
 mod lists;
+mod page;
 mod pictures;
 mod random;
 mod records;
 
 pub use lent::{Element, Lent};
 pub use lists::{any_list, distinct, kind, rising_list, Question};
+pub use page::{page_questions, statements, Statement};
 pub use pictures::{damaged, shape, Contents};
 pub use random::Random;
 pub use records::{any_record, any_set, legal_record};
