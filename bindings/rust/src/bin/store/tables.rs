@@ -1,11 +1,12 @@
-//! Tables and lookups.
+//! Tables and lookups: random lists of every kind, then the lists of the page `Kinds.antt` of
+//! `examples`, on which a slip in a kind's formula shows.
 //!
 //! A question is a line of 135 bytes in hexadecimal: the kind's number, the tension, the start slope and the end slope (two bytes each, low byte
 //! first), the count of points, and 64 x, y pairs, zeros past the count. The answer is a line: the 256 entries of the byte table in hexadecimal, and
 //! FNV-1a digests (64 bits, over the bit patterns, low byte first) of the table of 256 samples, of that of 4,096 samples, and of 256 lookups in the latter.
 use super::{hex, Sample};
 use tone::original::{curves, lookup};
-use tone::trial::{any_list, kind, Question, Random};
+use tone::trial::{any_list, kind, page_questions, Question, Random};
 
 const SEED: u64 = 3;
 const LISTS_A_KIND: usize = 36;
@@ -13,12 +14,13 @@ const LISTS_A_KIND: usize = 36;
 pub fn sample() -> Sample {
     let mut random = Random::new(SEED);
     let mut sample = Sample::default();
+    let mut add = |question: Question| sample.add(&bytes_of(&question), &answer(&question));
     for _ in 0..LISTS_A_KIND {
         for number in 0..10 {
-            let question = Question { numbers: kind(number, &mut random), points: any_list(&mut random) };
-            sample.add(&bytes_of(&question), &answer(&question));
+            add(Question { numbers: kind(number, &mut random), points: any_list(&mut random) });
         }
     }
+    page_questions().into_iter().for_each(add);
     sample
 }
 
