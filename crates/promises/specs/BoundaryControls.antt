@@ -1,7 +1,7 @@
 -- Controls of the third demand at the C boundary. The bytes that it speaks of are those of the
--- call's own slices. And two calls share a set that two different records hold: one leaves the
--- default kind out, one names it.
-use Prim.Native.Nat.{ℕ, _+_, _*_}
+-- call's own slices. Two calls share a set that two different records hold: one leaves the default
+-- kind out, one names it. And what the clauses ask of a call is met by one.
+use Prim.Native.Nat.{ℕ, _+_, _*_, _<_}
 use native.Mathlib.Omega.{arith}
 use mathlib.Core.Path.{_≡_, refl, ap}
 use mathlib.Core.Bool.{false}
@@ -10,13 +10,15 @@ use lib.Dec.{lit<}
 use lib.ListN.{getD, replicate}
 use Rattle.answers.specs.declared.Answer.the-variants.{Done}
 use Rattle.answers.specs.Numbers.{numberOf}
-use Rattle.answers.specs.Checks.{Check, firstRefusal}
+use Rattle.answers.specs.Checks.{firstRefusal}
 use Rattle.points.specs.declared.Curve.{Curve}
 use Rattle.points.specs.Points.{pt}
-use Rattle.tables.specs.declared.CurveInterpolation.the-variants.{MonotoneCubic}
+use Rattle.tables.specs.declared.CurveInterpolation.{CurveInterpolation}
+use Rattle.tables.specs.declared.CurveInterpolation.the-variants.{Linear, MonotoneCubic}
 use Rattle.sets.specs.declared.Channel.{Channel}
 use Rattle.sets.specs.Sets.{View, setAnswer}
 use Rattle.sets.specs.SameLaws.{Full}
+use Rattle.sets.specs.Carried.{carriedOf}
 use Rattle.rows.specs.Rows.{needed}
 use Rattle.formats.specs.Formats.{formatOf, bytesAPixel}
 use Rattle.formats.specs.declared.PixelFormat.the-variants.{Gray8}
@@ -28,8 +30,16 @@ use Rattle.pictures.specs.Examples.{answered}
 use Rattle.examples.specs.Computed as Computed
 use Rattle.tone_c.specs.Boundary.{tonePictureChecks, lengthsOf, TonePicture}
 use Rattle.promises.specs.Words.{Call, Place}
-use Rattle.promises.specs.BoundaryDemand3.{AcceptedCall, Share, input, output}
-use Rattle.promises.specs.Pixels.{ranOn, byte-at}
+use Rattle.promises.specs.BoundaryDemand3.{
+  AcceptedCall,
+  Share,
+  input,
+  output,
+  TonedAt,
+  IsLinear,
+  NoListFalls,
+}
+use Rattle.promises.specs.Pixels.{ranOn, byte-at, here}
 
 -- ---- a place's byte in y, and in the first output
 pub plain-bytes : (c : AcceptedCall) (p : Place)
@@ -38,98 +48,119 @@ pub plain-bytes : (c : AcceptedCall) (p : Place)
     × (output c p ≡ getD (c .newY) (p .row * (c .width * n) + (p .column * n + p .channel)) 0)
 plain-bytes c p = (refl, refl)
 
--- ---- what a reader hands back: the master (0,0) alone, of the default kind, in lists of 64 places
+-- ---- what a reader hands back: the master (0,0) alone, of a kind, in lists of 64 places
 abbrev sixtyFour : ℕ → Curve
 sixtyFour n = record { points = replicate 64 (pt 0 0); count = n }
 
 abbrev none : Channel
 none = record { present = false; curve = sixtyFour 0 }
 
-abbrev handed : RecordRead
-handed = record {
-  answer = Done;
-  set = record {
-    master = sixtyFour 1;
-    red = none;
-    green = none;
-    blue = none;
-    interpolation = MonotoneCubic;
-  };
-}
+module _ (kind : CurveInterpolation) (tension : carriedOf kind .tension < 256) where
+  abbrev handed : RecordRead
+  handed = record {
+    answer = Done;
+    set = record {
+      master = sixtyFour 1;
+      red = none;
+      green = none;
+      blue = none;
+      interpolation = kind;
+    };
+  }
 
--- a grey pixel of 5, and its run
-abbrev pixel : Run
-pixel = given (handed .set) (formatOf 0) 1 1 1 (5 ∷ []) 1 [] 0 [] 0 (0 ∷ []) [] []
+  -- a grey pixel of 5, and its run
+  abbrev pixel : Run
+  pixel = given (handed .set) (formatOf 0) 1 1 1 (5 ∷ []) 1 [] 0 [] 0 (0 ∷ []) [] []
 
-pixel-lent : Lent pixel
-pixel-lent = record {
-  plane = byte-at (5 ∷ []) (lit< tt, tt);
-  points = record { master = ((lit< tt, lit< tt), tt); red = tt; green = tt; blue = tt };
-  tension = lit< tt;
-}
+  pixel-lent : Lent pixel
+  pixel-lent = record {
+    plane = byte-at (5 ∷ []) (lit< tt, tt);
+    points = record { master = ((lit< tt, lit< tt), tt); red = tt; green = tt; blue = tt };
+    tension = tension;
+  }
 
-abbrev ran : Call
-ran = ranOn pixel pixel-lent
+  abbrev ran : Call
+  ran = ranOn pixel pixel-lent
 
--- the same pixel by the C call, with a record that is read as this set
-abbrev pictureChecks : List ℕ → List Check
-pictureChecks stored = tonePictureChecks stored 0 1 1 1 1 (lengthsOf (5 ∷ []) [] [] (0 ∷ []) [] [])
+  -- the same pixel by the C call, with a record that is read as this set
+  abbrev IsToned : List ℕ → Type 0
+  IsToned stored =
+      TonePicture stored 0 1 1 1 (5 ∷ []) 1 [] [] (0 ∷ []) [] [] 0 (ran .out) (ran .cb) (ran .cr)
 
-module _
-    (stored : List ℕ)
-    (read : HandedBack (readRecord stored) handed)
-    (accepted : 0 ≡ numberOf (firstRefusal (pictureChecks stored)))
-  where
-    toned : TonePicture stored 0 1 1 1 (5 ∷ []) 1 [] [] (0 ∷ []) [] [] 0 (ran .out) (ran .cb) (ran .cr)
-    unfolding answered formatOf first chroma
-    toned = record {
-      number = accepted;
-      first =
-          ap (λ (v : View). tightRows Gray8 1 1 1 (tablesOf Gray8 v) (5 ∷ []) (0 ∷ [])) (read .set);
-      cb = refl;
-      cr = refl;
-      run = λ zero. record {
-        handed = handed;
-        toned = ran .answered;
-        read = read;
-        call = ran .contract;
-        done = refl;
-      };
-    }
+  toned : (stored : List ℕ) → HandedBack (readRecord stored) handed
+      → 0 ≡ numberOf (firstRefusal (tonePictureChecks stored 0 1 1 1 1
+      (lengthsOf (5 ∷ []) [] [] (0 ∷ []) [] [])))
+      → IsToned stored
+  unfolding answered formatOf first chroma
+  toned stored read accepted = record {
+    number = accepted;
+    first =
+        ap (λ (v : View). tightRows Gray8 1 1 1 (tablesOf Gray8 v) (5 ∷ []) (0 ∷ [])) (read .set);
+    cb = refl;
+    cr = refl;
+    run = λ zero. record {
+      handed = handed;
+      toned = ran .answered;
+      read = read;
+      call = ran .contract;
+      done = refl;
+    };
+  }
 
-    abbrev called : AcceptedCall
-    called = record {
-      stored = stored;
-      format = 0;
-      width = 1;
-      height = 1;
-      planes = 1;
-      y = 5 ∷ [];
-      step = 1;
-      u = [];
-      v = [];
-      oldY = 0 ∷ [];
-      oldU = [];
-      oldV = [];
-      newY = ran .out;
-      newU = ran .cb;
-      newV = ran .cr;
-      contract = toned;
-    }
+  abbrev called : (stored : List ℕ) → IsToned stored → AcceptedCall
+  called stored contract = record {
+    stored = stored;
+    format = 0;
+    width = 1;
+    height = 1;
+    planes = 1;
+    y = 5 ∷ [];
+    step = 1;
+    u = [];
+    v = [];
+    oldY = 0 ∷ [];
+    oldU = [];
+    oldV = [];
+    newY = ran .out;
+    newU = ran .cb;
+    newV = ran .cr;
+    contract = contract;
+  }
 
--- the kind left out, and named
-abbrev short : List ℕ
-short = 0x01 ∷ 1 ∷ 0 ∷ 0 ∷ []
-
-abbrev long : List ℕ
-long = 0x11 ∷ 1 ∷ 0 ∷ 0 ∷ 2 ∷ []
-
+-- ---- the default kind left out, and named
 pub two-records-one-set : (a b : AcceptedCall) × Share a b × (a .stored ≡ b .stored → ⊥)
 unfolding Computed.read setAnswer formatOf needed
 two-records-one-set =
-    let full : Full (handed .set) = record { master = refl; red = refl; green = refl; blue = refl } in (
-      called short (record { answer = refl; set = refl; legal = refl; full = full }) refl,
-      called long (record { answer = refl; set = refl; legal = refl; full = full }) refl,
+    let byte : carriedOf MonotoneCubic .tension < 256 = lit< tt in
+    let short : List ℕ = 0x01 ∷ 1 ∷ 0 ∷ 0 ∷ [] in
+    let long : List ℕ = 0x11 ∷ 1 ∷ 0 ∷ 0 ∷ 2 ∷ [] in
+    let full : Full (handed MonotoneCubic byte .set) =
+    record { master = refl; red = refl; green = refl; blue = refl } in (
+      called MonotoneCubic byte short
+          (toned MonotoneCubic byte short
+          (record { answer = refl; set = refl; legal = refl; full = full }) refl),
+      called MonotoneCubic byte long
+          (toned MonotoneCubic byte long
+          (record { answer = refl; set = refl; legal = refl; full = full }) refl),
       record { set = refl; format = refl; width = refl; height = refl },
       λ e. omega (arith, ap (λ (l : List ℕ). getD l 0 0) e),
+    )
+
+-- ---- what the clauses ask is met: a Linear set, of which no list falls, tones a byte
+pub premises-met : (a : AcceptedCall) × IsLinear a × NoListFalls a × TonedAt a here
+unfolding Computed.read setAnswer formatOf needed
+premises-met =
+    let byte : carriedOf Linear .tension < 256 = lit< tt in
+    let stored : List ℕ = 0x11 ∷ 1 ∷ 0 ∷ 0 ∷ 0 ∷ [] in
+    let full : Full (handed Linear byte .set) =
+    record { master = refl; red = refl; green = refl; blue = refl } in (
+      called Linear byte stored
+          (toned Linear byte stored
+          (record { answer = refl; set = refl; legal = refl; full = full }) refl),
+      refl,
+      record { master = tt; red = tt; green = tt; blue = tt },
+      record {
+        within = record { row = lit< tt; column = lit< tt; channel = lit< tt };
+        not-alpha = λ e. omega (arith, e);
+      },
     )
