@@ -1,8 +1,13 @@
 -- The facts about records, said of the definitions that the contracts of `records` and `writing` cite.
--- ReadLegal: what is read passes the check of a set. Longest: the first 523 bytes tell all. RoundTrip: what was written reads back; NotLonger: and is no longer
--- than a record it was read from. Runs says both of runs of the reader and the writer.
+-- ReadLegal: what is read passes the check of a set. Longest: the first 523 bytes tell all. RoundTrip:
+-- what was written reads back. Spelling: what the bytes of an accepted record are; from it Canonical:
+-- such a record is what the writer makes of its set, unless it names the default kind; and NotLonger.
+-- Room: 522 bytes always suffice. Runs says all this of runs of the reader and the writer.
 pub mod ReadLegal
 pub mod Longest
 pub mod RoundTrip
+pub mod Spelling
+pub mod Canonical
 pub mod NotLonger
+pub mod Room
 pub mod Runs

@@ -68,7 +68,7 @@ pub record AllBytes (s : List ℕ) : Type 0 where
 bytes-drop : (n : ℕ) (s : List ℕ) → AllBytes s → AllBytes (drop n s)
 bytes-drop n s b = record { byte = λ i. rw (getD-drop n s i 0) (b .byte (n + i)) }
 
-bytes-rest : (a : ℕ) (s : List ℕ) → AllBytes (a ∷ s) → AllBytes s
+pub bytes-rest : (a : ℕ) (s : List ℕ) → AllBytes (a ∷ s) → AllBytes s
 bytes-rest a s b = record { byte = λ i. b .byte (suc i) }
 
 -- the value found has P, and bytes follow it
@@ -82,9 +82,10 @@ finds-then P Q (good v s) f h k = k v s (h .0) (h .1)
 finds-then P Q (refused a) f h k = tt
 
 -- of two readings, whichever it is
-finds-either : {A : Type 0} (P : A → Type 0) (b : Bool) (p q : Parse A) → (b ≡ true → Finds P p) → (b ≡ false → Finds P q) → Finds P (cond b p q)
-finds-either P true p q f g = f refl
-finds-either P false p q f g = g refl
+pub either : {A : Type 0} (F : Parse A → Type 0) (b : Bool) (p q : Parse A) → (b ≡ true → F p)
+    → (b ≡ false → F q) → F (cond b p q)
+either F true p q f g = f refl
+either F false p q f g = g refl
 
 -- ---- lists
 pub pairs-length : (n : ℕ) (s : List ℕ) → length (pairs n s) ≡ n
@@ -110,7 +111,9 @@ unfolding risesFrom
 empty-legal = record { few = lit≤ tt; rising = refl }
 
 field-legal : (present : Bool) (least : ℕ) (s : List ℕ) → AllBytes s → Finds LegalList (readField present least s)
-field-legal present least s b = finds-either LegalList present _ _ (λ there. list-legal least s b) (λ absent. (empty-legal, b))
+field-legal present least s b =
+    either (Finds LegalList) present _ _ (λ there. list-legal least s b)
+    (λ absent. (empty-legal, b))
 
 -- ---- the kind
 carries-nothing : (k : ℕ) → carriedOf (kindOf k 0 (pos 0) (pos 0)) ≡ nothing
@@ -154,8 +157,9 @@ slopes-legal s b =
 carried-legal : (k : ℕ) (s : List ℕ) → AllBytes s → Finds LegalKind (readCarried k s)
 unfolding readCarried
 carried-legal k s b =
-    finds-either LegalKind (eqb k 7) _ _ (λ cardinal. tension-legal s b)
-    (λ other. finds-either LegalKind (eqb k 8) _ _ (λ clamped. slopes-legal s b) (λ plain. (plain-legal k, b)))
+    either (Finds LegalKind) (eqb k 7) _ _ (λ cardinal. tension-legal s b)
+    (λ other. either (Finds LegalKind) (eqb k 8) _ _ (λ clamped. slopes-legal s b)
+    (λ plain. (plain-legal k, b)))
 
 -- any number is followed by bytes
 abbrev AnyNumber : ℕ → Type 0

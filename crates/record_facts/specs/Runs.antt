@@ -1,24 +1,30 @@
--- The round trip on any runs of the two calls, from their contracts alone.
+-- What holds of any runs of the reader and the writer, from their contracts alone: the round trip,
+-- the same bytes for the same set, and room for every record.
 use Prim.Native.Nat.{ℕ, _≤_}
 use native.Mathlib.Omega.{arith}
-use mathlib.Core.Path.{_≡_, refl, sym, _∙_}
+use mathlib.Core.Path.{_≡_, refl, sym, ap, _∙_}
 use mathlib.Core.List.{List, [], _∷_}
-use lib.ListN.{length, take}
+use mathlib.Core.Bool.{false}
+use lib.ListN.{length, take, drop}
+use lib.Seq.{take-append-seam}
 use borrow.Author.Tests.{le-ltb}
-use Rattle.answers.specs.declared.Answer.the-variants.{Done}
+use Rattle.answers.specs.declared.Answer.the-variants.{Done, OutputTooSmall}
 use Rattle.answers.specs.Checks.{firstRefusal, roomCheck, first-goes-on}
 use Rattle.sets.specs.declared.Curves.{Curves}
-use Rattle.sets.specs.Sets.{curveChecks, setChecks, setAnswer}
+use Rattle.sets.specs.Sets.{viewOf, curveChecks, setChecks, setAnswer}
 use Rattle.sets.specs.Same.{Same}
 use Rattle.sets.specs.SameLaws.{view-same}
 use Rattle.records.specs.declared.RecordRead.{RecordRead}
-use Rattle.records.specs.Format.{readRecord}
+use Rattle.records.specs.Format.{longest, readRecord}
 use Rattle.records.specs.Views.{HandedBack}
 use Rattle.writing.specs.declared.Written.{Written}
-use Rattle.writing.specs.Encode.{encode}
-use Rattle.writing.specs.Cases.{write-answer, done-case}
+use Rattle.writing.specs.Encode.{Write, encode}
+use Rattle.writing.specs.Cases.{write-answer, write-done, done-case}
 use Rattle.writing.specs.Contracts.{Wrote}
+use Rattle.record_facts.specs.ReadLegal.{AllBytes}
+use Rattle.record_facts.specs.Canonical.{namesDefault, same-written, accepted-is}
 use Rattle.record_facts.specs.NotLonger.{not-longer}
+use Rattle.record_facts.specs.Room.{longest-suffices, never-thirteen}
 use Rattle.record_facts.specs.RoundTrip.{written-back}
 
 module _ {set : Curves} {before after : List ℕ} {w : Written} {r : RecordRead} where
@@ -44,3 +50,36 @@ pub accepted-fits : (s : List ℕ) {before after : List ℕ} {r : RecordRead} {w
 accepted-fits s {before} handed accepted wrote room =
     let short = not-longer s (sym (handed .answer) ∙ accepted) in
     accepted-not-refused s handed wrote ∙ rw (le-ltb (length before) (length (encode (readRecord s .set))) (omega arith))
+
+-- same sets, written into buffers that held the same, give the same answer, length and bytes
+pub same-runs : {a b : Curves} {before after-a after-b : List ℕ} {w x : Written} → Same a b
+    → Wrote a before w after-a → Wrote b before x after-b
+    → (w .answer ≡ x .answer) × (w .length ≡ x .length) × (after-a ≡ after-b)
+same-runs {a} {b} {before} same left right =
+    let e = same-written a b before same in (
+      left .answer ∙ ap (λ (r : Write). r .answer) e ∙ sym (right .answer),
+      left .length ∙ ap (λ (r : Write). r .length) e ∙ sym (right .length),
+      left .buffer ∙ ap (λ (r : Write). r .buffer) e ∙ sym (right .buffer),
+    )
+
+-- a record that was accepted and does not name the default kind comes back byte for byte
+pub returned : (s : List ℕ) {before after : List ℕ} {r : RecordRead} {w : Written} → AllBytes s
+    → HandedBack (readRecord s) r → r .answer ≡ Done
+    → namesDefault s ≡ false → Wrote (r .set) before w after → w .answer ≡ Done
+    → (w .length ≡ length s) × (take (w .length) after ≡ s)
+returned s {before} {r = r} {w} bytes handed accepted unnamed wrote done =
+    let d = done-case (r .set) before (sym (wrote .answer) ∙ done) in
+    let made : encode (viewOf (r .set)) ≡ s =
+    rw (handed .set) (accepted-is s bytes (sym (handed .answer) ∙ accepted) unnamed) in
+    let e = write-done (r .set) before (d .0) (d .1) in
+    let long : w .length ≡ length s = wrote .length ∙ rw (e, made) in
+    (long, rw (long, wrote .buffer, e, made) (take-append-seam s (drop (length s) before)))
+
+-- into a buffer of 522 bytes or more every set is written that passes the check of its lists, and
+-- none is refused with 13
+pub always-fits : {set : Curves} {before after : List ℕ} {w : Written} → Wrote set before w after
+    → longest ≤ length before
+    → (w .answer ≡ setAnswer set) × (w .answer ≡ OutputTooSmall → ⊥)
+always-fits {set} {before} wrote room =
+    let same = wrote .answer in
+    (same ∙ longest-suffices set before room, λ e. never-thirteen set before room (sym same ∙ e))
