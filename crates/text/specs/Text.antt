@@ -1,14 +1,16 @@
 -- What the program `tonetable` prints, as document 01's section "Stored record" has it: "16 lines of 16 two-digit upper-case hexadecimal entries, one
 -- space between, from entry 0; or one line, `refused ` and the number". Definitions only.
-use Prim.Native.Nat.{ℕ, zero, suc, _+_, _-_, _/_, _%_}
+use Prim.Native.Nat.{ℕ, zero, suc, _+_, _/_, _%_, _≤_}
+use mathlib.Core.Path.{_≡_}
 use mathlib.Core.Bool.{cond}
 use mathlib.Core.List.{List, [], _∷_, _++_}
 use lib.Dec.{ltb, eqb}
+use lib.ListN as ListN
 use lib.ListN.{take, getD}
 use Rattle.lists.specs.Tabulate.{tabulate}
 use Rattle.answers.specs.Numbers.{numberOf, isDone}
 use Rattle.tables.specs.Tables.{byteTable}
-use Rattle.records.specs.Format.{readRecord}
+use Rattle.records.specs.Format.{longest, readRecord}
 use Rattle.text.specs.declared.Text.{Text}
 
 abbrev pub space : ℕ
@@ -42,9 +44,9 @@ characterAt table k = character (k / 3) (getD table (k / 3) 0) (k % 3)
 abbrev pub tableText : List ℕ → List ℕ
 tableText table = tabulate 768 (characterAt table)
 
--- a number below 20
+-- a number below 100
 abbrev pub numberText : ℕ → List ℕ
-numberText n = cond (ltb n 10) (decimal n ∷ []) (decimal 1 ∷ decimal (n - 10) ∷ [])
+numberText n = cond (ltb n 10) (decimal n ∷ []) (decimal (n / 10) ∷ decimal (n % 10) ∷ [])
 
 -- `refused ` and the number
 abbrev pub refusalText : ℕ → List ℕ
@@ -59,3 +61,14 @@ printed s =
 -- the characters of a text
 abbrev pub textOf : Text → List ℕ
 textOf t = take (t .length) (t .bytes)
+
+-- how many bytes of an input are read: one more than the longest record has, so that a byte behind
+-- a record shows
+abbrev pub inputBytes : ℕ
+inputBytes = longest + 1
+
+-- the text of an input that was read to the first n bytes of an array
+pub record InputText (input : List ℕ) (n : ℕ) (r : Text) : Type 0 where
+  pub room : ListN.length input ≡ inputBytes
+  pub text : textOf r ≡ printed (take n input)
+  pub length : r .length ≤ 768

@@ -1,8 +1,13 @@
 // What the program `tonetable` prints for the bytes of a record.
 ghost use mathlib.Core.Path.{_≡_};
 ghost use Prim.Native.Nat.{_<_, _≤_, _/_, _%_};
-ghost use Rattle.text.specs.Text.{hexadecimal, behind, tableText, refusalText, printed, textOf};
+ghost use Rattle.text.specs.Text.{hexadecimal, behind, tableText, refusalText, printed};
+ghost use Rattle.text.specs.Text.{textOf, InputText};
 use tables::byte_table;
+
+// How many bytes of an input are read: one more than the longest record has, so that a byte behind
+// a record shows.
+pub const INPUT: usize = 523;
 
 // A text: the first length bytes.
 pub struct Text {
@@ -55,9 +60,9 @@ fn table_text(table: &[u8; 256]) -> Text
     Text { bytes, length: 768 }
 }
 
-// A refusal with its number, which is below 20.
+// A refusal with its number, which is below 100.
 fn refusal_text(number: u8) -> Text
-    requires { ⌜ number < 20 ⌝ }
+    requires { ⌜ number < 100 ⌝ }
     ensures { λ r. ⌜ (textOf r ≡ refusalText number) × (r .length ≤ 768) ⌝ }
 {
     let mut bytes = [0; 768];
@@ -74,8 +79,8 @@ fn refusal_text(number: u8) -> Text
         bytes[9] = b'\n';
         return Text { bytes, length: 10 };
     }
-    bytes[8] = b'1';
-    bytes[9] = 48 + (number - 10);
+    bytes[8] = 48 + number / 10;
+    bytes[9] = 48 + number % 10;
     bytes[10] = b'\n';
     Text { bytes, length: 11 }
 }
@@ -94,4 +99,14 @@ pub fn text_of(bytes: &[u8]) -> Text
         return table_text(&table);
     }
     refusal_text(answer.number())
+}
+
+// The same for an input that was read to the first n bytes of an array.
+pub fn text_of_input(input: [u8; INPUT], n: usize) -> Text
+    ensures { λ r. ⌜ InputText input n r ⌝ }
+{
+    if n < INPUT {
+        return text_of(&input[..n]);
+    }
+    text_of(&input)
 }

@@ -36,7 +36,7 @@ use Rattle.text.proofs.text_of.Statement.{statement}
 use Rattle.text.proofs.text_of.Tie as tie
 
 -- two digits hold every number
-two-digits : (a : Answer) → numberOf a < 20
+two-digits : (a : Answer) → numberOf a < 100
 two-digits Done = lit< tt
 two-digits ReservedBit = lit< tt
 two-digits RecordTruncated = lit< tt
