@@ -14,7 +14,7 @@ use Rattle.answers.specs.Checks.{first-append}
 use Rattle.single.specs.RuleLaws.{by-test}
 use Rattle.tables.specs.Kinds.{kindNumber}
 use Rattle.sets.specs.declared.Curves.{Curves}
-use Rattle.sets.specs.Sets.{View, viewOf, default, setChecks, setAnswer}
+use Rattle.sets.specs.Sets.{View, viewOf, default, curveChecks, setChecks, setAnswer}
 use Rattle.sets.specs.Same.{Same}
 use Rattle.sets.specs.SameLaws.{same-view, checked-same}
 use Rattle.records.specs.Format.{
@@ -57,8 +57,8 @@ unfolding writeRecord setAnswer
 same-written a b buffer e =
     rw (
       same-bytes a b e,
-      first-append (setChecks a) _,
-      first-append (setChecks b) _,
+      first-append (setChecks curveChecks a) _,
+      first-append (setChecks curveChecks b) _,
       checked-same a b e,
     )
 

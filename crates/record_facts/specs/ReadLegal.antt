@@ -96,7 +96,7 @@ pairs-length (suc n) s = rw (pairs-length n (drop pointBytes s))
 points-legal : (least n : ℕ) (s : List ℕ) → AllBytes s → Finds LegalList (readPoints least n s)
 unfolding readPoints
 points-legal least n s b =
-    checked-has (Finds LegalList) (λ a. tt) (pointChecks least n s) _
+    checked-has (Finds LegalList) (λ a refusal. tt) (pointChecks least n s) _
     (λ passed.
     let few = ltb-false limit n (passed .0) in
     (record { few = omega (arith, pairs-length n s); rising = not-false _ (passed .1 .1 .1 .0) }, bytes-drop (n * pointBytes) s b))
@@ -144,7 +144,7 @@ tension-legal (q ∷ s) b = (record { tension = b .byte 0; start = lit< tt; end 
 slopes-legal : (s : List ℕ) → AllBytes s → Finds LegalKind (readSlopes s)
 unfolding readSlopes
 slopes-legal s b =
-    checked-has (Finds LegalKind) (λ a. tt) (RecordTruncated when ltb (length s) 4 ∷ []) _
+    checked-has (Finds LegalKind) (λ a refusal. tt) (RecordTruncated when ltb (length s) 4 ∷ []) _
     (λ whole. (
       record {
         tension = lit< tt;
@@ -170,14 +170,14 @@ unfolding readNumber
 number-bytes unnamed false s b = (tt, b)
 number-bytes unnamed true [] b = tt
 number-bytes unnamed true (k ∷ s) b =
-    checked-has (Finds AnyNumber) (λ a. tt) (kindCheck k ∷ []) (good k s) (λ known. (tt, bytes-rest k s b))
+    checked-has (Finds AnyNumber) (λ a refusal. tt) (kindCheck k ∷ []) (good k s) (λ known. (tt, bytes-rest k s b))
 
 kind-legal : (unnamed : CurveInterpolation) (m : ℕ) (s : List ℕ) → AllBytes s → Finds LegalKind (readKind unnamed m s)
 unfolding readKind
 kind-legal unnamed m s b =
     finds-then AnyNumber LegalKind (readNumber unnamed (bit 16 m) s) (readAgreed m) (number-bytes unnamed (bit 16 m) s b)
     (λ k t any c.
-    checked-has (Finds LegalKind) (λ a. tt) (bitsCheck m k ∷ []) (readCarried k t) (λ agrees. carried-legal k t c))
+    checked-has (Finds LegalKind) (λ a refusal. tt) (bitsCheck m k ∷ []) (readCarried k t) (λ agrees. carried-legal k t c))
 
 -- ---- the set
 master-legal : (m : ℕ) (v : View) (s : List ℕ) → LegalSet v → AllBytes s → Finds LegalSet (masterStep m v s)

@@ -23,6 +23,7 @@ use Rattle.sets.specs.declared.Channel.{Channel}
 use Rattle.sets.specs.Sets.{
   viewOf,
   presentChannel,
+  curveChecks,
   setChecks,
   curveAnswer,
   channelAnswer,
@@ -70,7 +71,7 @@ module _ (s : Curves) (buffer : List ℕ) (enough : longest ≤ length buffer) w
   pub longest-suffices : writeRecord s buffer .answer ≡ setAnswer s
   unfolding setAnswer room
   longest-suffices =
-      write-answer s buffer ∙ first-append (setChecks s) room
+      write-answer s buffer ∙ first-append (setChecks curveChecks s) room
       ∙ by-test (isDone (setAnswer s))
       (λ t.
       let passed = done-is (setAnswer s) t in

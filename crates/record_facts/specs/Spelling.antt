@@ -11,12 +11,12 @@ use lib.Dec.{ltb, eqb}
 use lib.IntN.{pos}
 use lib.ListN.{length, getD, drop, length-append}
 use lib.Seq.{getD-append-add}
-use borrow.Author.Tests.{ltb-false, le-ltb, eqb-true, eqb-false}
+use borrow.Author.Tests.{ltb-false, le-ltb, eqb-true, eqb-false, not-false}
 use Rattle.answers.specs.declared.Answer.the-variants.{Done, ReservedBit}
 use Rattle.answers.specs.Numbers.{isDone}
 use Rattle.single.specs.RuleLaws.{by-test}
 use Rattle.points.specs.declared.Point.{Point}
-use Rattle.points.specs.Points.{pt, limit, rises}
+use Rattle.points.specs.Points.{pt}
 use Rattle.tables.specs.declared.CurveInterpolation.{CurveInterpolation}
 use Rattle.tables.specs.declared.CurveInterpolation.the-variants.{
   Linear,
@@ -41,8 +41,8 @@ use Rattle.records.specs.Format.{
   bit,
   carriedBits,
   kindBits,
-  pointBytes,
   pairs,
+  pointChecks,
   readPoints,
   readList,
   readField,
@@ -51,6 +51,7 @@ use Rattle.records.specs.Format.{
   readTension,
   readSlopes,
   readCarried,
+  bitsCheck,
   readAgreed,
   readKind,
   masterStep,
@@ -62,6 +63,7 @@ use Rattle.records.specs.Format.{
   result,
   readRecord,
 }
+use Rattle.records.specs.CheckLaws.{checked-has}
 use Rattle.writing.specs.Encode.{
   pairBytes,
   fieldBytes,
@@ -136,17 +138,12 @@ PairsOf least n l c = (length l ≡ n) × (least ≤ n) × (c ≡ pairBytes l)
 points-spelled : (least n : ℕ) (s : List ℕ) → Spelled (PairsOf least n) s (readPoints least n s)
 unfolding readPoints
 points-spelled least n s =
-    let F = Spelled (PairsOf least n) s in
-    either F (ltb limit n) _ _ (λ many. refl)
-    (λ few. either F (ltb n least) _ _ (λ less. refl)
-    (λ enough. either F (ltb (length s) (n * pointBytes)) _ _ (λ short. refl)
-    (λ long. either F (rises (pairs n s)) _ _
-    (λ rising. record {
+    checked-has (Spelled (PairsOf least n) s) (λ a refusal. refusal) (pointChecks least n s) _
+    (λ passed. record {
       bytes = pairBytes (pairs n s);
-      spelled = (pairs-length n s, ltb-false n least enough, refl);
-      whole = pairs-spelled n s (ltb-false (length s) (n * 2) long);
+      spelled = (pairs-length n s, ltb-false n least (passed .1 .0), refl);
+      whole = pairs-spelled n s (ltb-false (length s) (n * 2) (passed .1 .1 .0));
     })
-    (λ falls. refl))))
 
 -- a list that is there
 abbrev ListOf : ℕ → List Point → List ℕ → Type 0
@@ -309,10 +306,9 @@ module _ (named : Bool) (m k : ℕ) (known : ltb 9 k ≡ false)
       → Spelled (KindOf named m) (cond named (k ∷ []) [] ++ s) (readAgreed m k s)
   agreed-spelled s =
       let c = cond named (k ∷ []) [] in
-      either (Spelled (KindOf named m) (c ++ s)) (eqb (carriedBits m) (kindBits k)) _ _
+      checked-has (Spelled (KindOf named m) (c ++ s)) (λ a refusal. refusal) (bitsCheck m k ∷ []) (readCarried k s)
       (λ agrees. spelled-behind (CarriedOf k) (KindOf named m) c (c ++ s) s (readCarried k s) refl
-      (kind-of (eqb-true (carriedBits m) (kindBits k) agrees)) (carried-spelled k s known))
-      (λ disagrees. refl)
+      (kind-of (eqb-true (carriedBits m) (kindBits k) (not-false _ (agrees .0)))) (carried-spelled k s known))
 
 kind-spelled : (named : Bool) (m : ℕ) (s : List ℕ)
     → Spelled (KindOf named m) s (readNumber default named s ▷ readAgreed m)

@@ -90,12 +90,12 @@ module _ {A : Type 0} (p : Parse A) where
       rw (q .0) (checked-goes-on cs ds (rw (q .0) at done))
 
 -- what every refusal has, and the reading once its checks have passed
-pub checked-has : {A : Type 0} (P : Parse A → Type 0) → ((a : Answer) → P (refused a)) → (cs : List Check) (p : Parse A)
-    → (AllPassed cs → P p) → P (checked cs p)
-checked-has P none [] p holds = holds tt
-checked-has P none (c ∷ cs) p holds =
-    by-test (refuses c) (λ t. rw t (none (c .answer)))
-    (λ t. rw t (checked-has P none cs p (λ passed. holds (t, passed))))
+pub checked-has : {A : Type 0} (P : Parse A → Type 0) → ((a : Answer) → isDone a ≡ false → P (refused a))
+    → (cs : List Check) (p : Parse A) → (AllPassed cs → P p) → P (checked cs p)
+checked-has P refusals [] p holds = holds tt
+checked-has P refusals (c ∷ cs) p holds =
+    by-test (refuses c) (λ t. rw t (refusals (c .answer) (refusal c t)))
+    (λ t. rw t (checked-has P refusals cs p (λ passed. holds (t, passed))))
 
 -- ---- the reader against the flat list
 abbrev answerOf : {A : Type 0} → Parse A → Answer
