@@ -1,9 +1,13 @@
--- Calls where a slip would show, computed from the definitions: what is toned and what stays, and the order of the refusals.
-use mathlib.Core.Path.{_≡_, refl}
-use mathlib.Core.Bool.{false}
+-- Calls where a slip would show, computed from the definitions: what is toned and what stays in
+-- each of the twelve formats, and the order of the refusals. Each value is document 01's: the
+-- sentence is quoted above it.
+use mathlib.Core.Path.{_≡_, refl, _∙_, ap}
+use mathlib.Core.Bool.{false, cond}
 use mathlib.Core.List.{List, [], _∷_}
 use Prim.Native.Nat.{ℕ, _+_}
-use lib.ListN.{replicate}
+use native.Mathlib.Omega.{arith}
+use lib.ListN.{length, getD, replicate}
+use lib.Ieee.{add, sub, neg, mul, div, lt, ofInt, ofBits}
 use Rattle.answers.specs.declared.Answer.{Answer}
 use Rattle.answers.specs.declared.Answer.the-variants.{
   Done,
@@ -16,21 +20,33 @@ use Rattle.answers.specs.declared.Answer.the-variants.{
   PlaneTooShort,
   OutputTooSmall,
 }
+use Rattle.answers.specs.Numbers.{isDone}
 use Rattle.lists.specs.Each.{each}
-use Rattle.lists.specs.Tabulate.{tabulate}
+use Rattle.lists.specs.Tabulate.{tabulate, filled}
+use Rattle.floats.specs.Value.{absolute}
+use Rattle.single.specs.Rules.{clamped, byteOf, guardedQuotient}
 use Rattle.points.specs.declared.Curve.{Curve}
-use Rattle.points.specs.Points.{risesFrom}
+use Rattle.points.specs.declared.Point.{Point}
+use Rattle.points.specs.Points.{pt, risesFrom, firstAt, keptBelow, kept}
+use Rattle.points.specs.Knots.{rest, knots, xAt, yAt, xRow, yRow}
+use Rattle.hermite.specs.Segments.{step, sampleAt, seek, segment}
+use Rattle.hermite.specs.Pieces.{part, straight}
+use Rattle.sampling.specs.Pieces.{pieceHeight, heightAt, sampled}
 use Rattle.tables.specs.declared.CurveInterpolation.the-variants.{Linear}
+use Rattle.tables.specs.Tables.{unclampedAt, sampleOf, entryOf}
 use Rattle.sets.specs.declared.Curves.{Curves}
 use Rattle.sets.specs.declared.Channel.{Channel}
+use Rattle.sets.specs.Sets.{presentChannel}
 use Rattle.sets.specs.Examples.{stored, line, many, falling}
 use Rattle.rows.specs.Bytes.{toned, rowByte}
-use Rattle.rows.specs.Rows.{inRow, planeByte, needed}
+use Rattle.rows.specs.Rows.{inRow, planeByte, tightByte, needed}
 use Rattle.formats.specs.declared.PixelFormat.{PixelFormat}
-use Rattle.formats.specs.declared.PixelFormat.the-variants.{Gray8, Rgba, Cmyk, Yuv420P}
+use Rattle.formats.specs.declared.PixelFormat.the-variants.{Gray8, Cmyk, Yuv420P}
 use Rattle.formats.specs.Checks.{lutAnswer}
-use Rattle.pictures.specs.OneTable.{tonedWithin}
-use Rattle.pictures.specs.Runs.{Run, given, answer, chroma}
+use Rattle.formats.specs.Examples.{yuv, others}
+use Rattle.pictures.specs.declared.Toned.{Toned}
+use Rattle.pictures.specs.OneTable.{LutCall, tonedWithin}
+use Rattle.pictures.specs.Runs.{Run, SetCall, given, rowBytes, answer, first, chroma, stepOf}
 
 -- the set of this master alone
 abbrev absent : Channel
@@ -63,32 +79,77 @@ pub no-columns : lutAnswer Gray8 0 2 3 0 ≡ Done
 unfolding lutAnswered
 no-columns = refl
 
--- ---- the one-table call, with a table that adds 10: alpha stays, and Cmyk has four inks
+-- ---- the one-table call on each format, with a table that adds 10: 2 columns and 2 rows, each
+-- with its padding
 abbrev more : List ℕ
 more = tabulate 256 (λ x. x + 10)
 
-pub alpha-stays : tonedWithin Rgba 1 1 4 more (1 ∷ 2 ∷ 3 ∷ 4 ∷ []) ≡ 11 ∷ 12 ∷ 13 ∷ 4 ∷ []
-unfolding each tabulate planeByte inRow rowByte toned
-alpha-stays = refl
+-- the bytes from 1 to 18, but for the first two
+abbrev firstRow : ℕ → ℕ → List ℕ
+firstRow a b =
+    a ∷ b ∷ 3 ∷ 4 ∷ 5 ∷ 6 ∷ 7 ∷ 8 ∷ 9 ∷ 10 ∷ 11 ∷ 12 ∷ 13 ∷ 14 ∷ 15 ∷ 16 ∷ 17 ∷ 18 ∷ []
 
-pub four-inks : tonedWithin Cmyk 1 1 4 more (1 ∷ 2 ∷ 3 ∷ 4 ∷ []) ≡ 11 ∷ 12 ∷ 13 ∷ 14 ∷ []
-unfolding each tabulate planeByte inRow rowByte toned
-four-inks = refl
+abbrev plane : List ℕ
+plane = firstRow 1 2
+
+-- what the contract of the call says of it afterwards, by the row step
+abbrev left : ℕ → PixelFormat → List ℕ
+left step f =
+    cond (isDone (lutAnswer f 2 2 step (length plane))) (tonedWithin f 2 2 step more plane) plane
+
+pub left-is : (step : ℕ) (f : PixelFormat) (a : Answer) (after : List ℕ)
+    → LutCall f 2 2 step more plane a after → after ≡ left step f
+left-is step f a after c =
+    c .plane-is ∙ ap (λ b. cond (isDone b) (tonedWithin f 2 2 step more plane) plane) (c .answer-is)
+
+-- "The one-table call tones all 12 formats within the plane: alpha of Ya8 and Rgba, chroma and
+-- padding unchanged; Cmyk tones all four inks"
+abbrev greyLeft : List ℕ
+greyLeft =
+    11 ∷ 12 ∷ 3 ∷ 4 ∷ 5 ∷ 6 ∷ 7 ∷ 8 ∷ 9 ∷ 20 ∷ 21 ∷ 12 ∷ 13 ∷ 14 ∷ 15 ∷ 16 ∷ 17 ∷ 18 ∷ []
+
+abbrev greyAlphaLeft : List ℕ
+greyAlphaLeft =
+    11 ∷ 2 ∷ 13 ∷ 4 ∷ 5 ∷ 6 ∷ 7 ∷ 8 ∷ 9 ∷ 20 ∷ 11 ∷ 22 ∷ 13 ∷ 14 ∷ 15 ∷ 16 ∷ 17 ∷ 18 ∷ []
+
+abbrev coloursLeft : List ℕ
+coloursLeft =
+    11 ∷ 12 ∷ 13 ∷ 14 ∷ 15 ∷ 16 ∷ 7 ∷ 8 ∷ 9 ∷ 20 ∷ 21 ∷ 22 ∷ 23 ∷ 24 ∷ 25 ∷ 16 ∷ 17 ∷ 18 ∷ []
+
+abbrev coloursAlphaLeft : List ℕ
+coloursAlphaLeft =
+    11 ∷ 12 ∷ 13 ∷ 4 ∷ 15 ∷ 16 ∷ 17 ∷ 8 ∷ 9 ∷ 20 ∷ 21 ∷ 22 ∷ 13 ∷ 24 ∷ 25 ∷ 26 ∷ 17 ∷ 18 ∷ []
+
+abbrev inksLeft : List ℕ
+inksLeft =
+    11 ∷ 12 ∷ 13 ∷ 14 ∷ 15 ∷ 16 ∷ 17 ∷ 18 ∷ 9 ∷ 20 ∷ 21 ∷ 22 ∷ 23 ∷ 24 ∷ 25 ∷ 26 ∷ 27 ∷ 18 ∷ []
+
+pub toned-within :
+    (others (left 9)
+    ≡ greyLeft ∷ greyAlphaLeft ∷ coloursLeft ∷ coloursAlphaLeft ∷ inksLeft ∷ inksLeft ∷ [])
+    × (yuv (left 9) ≡ replicate 6 greyLeft)
+unfolding lutAnswered each tabulate planeByte inRow rowByte toned
+toned-within = (refl, refl)
+
+-- "lent memory is unchanged": a step of 1 is below the row bytes of each format
+pub refused-plane : (others (left 1) ≡ replicate 6 plane) × (yuv (left 1) ≡ replicate 6 plane)
+unfolding lutAnswered
+refused-plane = (refl, refl)
 
 -- ---- the order of the refusals: each line mends the first fault of the line before it, and has all the later ones still
-pub refused-3 : answer (run many Cmyk 5000 2 2 3 7 7 2) ≡ PointCount
+pub refused-3 : answer (run many Cmyk 4097 2 2 3 7 7 2) ≡ PointCount
 unfolding answered
 refused-3 = refl
 
-pub refused-4 : answer (run falling Cmyk 5000 2 2 3 7 7 2) ≡ PointsNotRising
+pub refused-4 : answer (run falling Cmyk 4097 2 2 3 7 7 2) ≡ PointsNotRising
 unfolding answered
 refused-4 = refl
 
-pub refused-8 : answer (run line Cmyk 5000 2 2 3 7 7 2) ≡ UnsupportedFormat
+pub refused-8 : answer (run line Cmyk 4097 2 2 3 7 7 2) ≡ UnsupportedFormat
 unfolding answered
 refused-8 = refl
 
-pub refused-9 : answer (run line Yuv420P 5000 2 2 3 7 7 2) ≡ PictureTooLarge
+pub refused-9 : answer (run line Yuv420P 4097 2 2 3 7 7 2) ≡ PictureTooLarge
 unfolding answered
 refused-9 = refl
 
@@ -116,10 +177,109 @@ pub accepted : answer (run line Yuv420P 4 2 3 4 8 8 3) ≡ Done
 unfolding answered
 accepted = refl
 
--- ---- chroma goes over, and the byte after it stays
-abbrev roomy : Run
-roomy = run line Yuv420P 4 2 3 4 8 8 4
+-- ---- the set call on each format: its master falls from 255 to 0, so that v gives 255 − v, red is
+-- P2's (128,200), "all 200", blue is (128,100), and there is no green; 2 columns and 2 rows of step
+-- 9; the outputs are all 99, and each has a byte more than is written
+-- what an entry opens under Linear
+unfoldable entry : List Point → ℕ → ℕ
+unfolding entryOf sampleOf sampled unclampedAt heightAt pieceHeight kept keptBelow firstAt knots
+    rest xRow yRow xAt yAt filled tabulate step sampleAt seek segment part straight guardedQuotient
+    absolute clamped byteOf add sub neg mul div lt ofInt ofBits
+entry = entryOf Linear
 
-pub chroma-copied : chroma roomy (roomy .cr) (roomy .outCr) ≡ 4 ∷ 5 ∷ 6 ∷ 0 ∷ []
-unfolding answered chroma
-chroma-copied = refl
+abbrev redAndBlue : Curves
+redAndBlue = record {
+  master = stored (pt 0 255 ∷ pt 255 0 ∷ []) 2;
+  red = presentChannel (stored (pt 128 200 ∷ []) 1);
+  green = absent;
+  blue = presentChannel (stored (pt 128 100 ∷ []) 1);
+  interpolation = Linear;
+}
+
+abbrev picture : PixelFormat → Run
+picture f =
+    given redAndBlue f 2 2 3 plane 9 (1 ∷ 2 ∷ 3 ∷ []) 7 (4 ∷ 5 ∷ []) 8
+    (replicate 17 99) (replicate 4 99) (replicate 3 99)
+
+-- what the contract of the call says of the outputs afterwards, and of the steps handed back
+abbrev written : Run → List (List ℕ)
+written r =
+    first r ∷ chroma r (r .cb) (r .outCb) ∷ chroma r (r .cr) (r .outCr)
+    ∷ (cond (isDone (answer r)) (rowBytes r) 0 ∷ stepOf r (r .cb) ∷ stepOf r (r .cr) ∷ []) ∷ []
+
+pub written-is : (r : Run) (t : Toned) (out cb cr : List ℕ) → SetCall r t out cb cr
+    → out ∷ cb ∷ cr ∷ (t .step ∷ t .«cb_step» ∷ t .«cr_step» ∷ []) ∷ [] ≡ written r
+written-is r t out cb cr c =
+    rw (c .out-is, c .cb-is, c .cr-is, c .step-is, c .cb-step-is, c .cr-step-is)
+
+-- a refusal: "lent memory is unchanged"
+abbrev unchanged : List (List ℕ)
+unchanged = replicate 17 99 ∷ replicate 4 99 ∷ replicate 3 99 ∷ (0 ∷ 0 ∷ 0 ∷ []) ∷ []
+
+-- "Gray8 and luma by the master", "tight rows", "Output bytes past that are unchanged"
+abbrev byMaster : List ℕ
+byMaster = 254 ∷ 253 ∷ 245 ∷ 244 ∷ replicate 13 99
+
+abbrev greyWritten : List (List ℕ)
+greyWritten = byMaster ∷ replicate 4 99 ∷ replicate 3 99 ∷ (2 ∷ 0 ∷ 0 ∷ []) ∷ []
+
+-- "for YUV each chroma plane is copied whole, its step handed back"
+abbrev yuvWritten : List (List ℕ)
+yuvWritten = byMaster ∷ (1 ∷ 2 ∷ 3 ∷ 99 ∷ []) ∷ (4 ∷ 5 ∷ 99 ∷ []) ∷ (2 ∷ 7 ∷ 8 ∷ []) ∷ []
+
+-- "Rgb24 and Rgba by colour, alpha copied"; "Missing colours use the master, not the straight
+-- curve"
+abbrev coloursWritten : List (List ℕ)
+coloursWritten =
+    (200 ∷ 253 ∷ 100 ∷ 200 ∷ 250 ∷ 100 ∷ 200 ∷ 244 ∷ 100 ∷ 200 ∷ 241 ∷ 100 ∷ replicate 5 99)
+    ∷ replicate 4 99 ∷ replicate 3 99 ∷ (6 ∷ 0 ∷ 0 ∷ []) ∷ []
+
+abbrev coloursAlphaWritten : List (List ℕ)
+coloursAlphaWritten =
+    (200 ∷ 253 ∷ 100 ∷ 4 ∷ 200 ∷ 249 ∷ 100 ∷ 8
+    ∷ 200 ∷ 244 ∷ 100 ∷ 13 ∷ 200 ∷ 240 ∷ 100 ∷ 17 ∷ 99 ∷ [])
+    ∷ replicate 4 99 ∷ replicate 3 99 ∷ (8 ∷ 0 ∷ 0 ∷ []) ∷ []
+
+pub toned-by-set :
+    (others (λ f. written (picture f))
+    ≡ greyWritten ∷ unchanged ∷ coloursWritten ∷ coloursAlphaWritten ∷ unchanged ∷ unchanged ∷ [])
+    × (yuv (λ f. written (picture f)) ≡ replicate 6 yuvWritten)
+unfolding answered entry first chroma tightByte rowByte toned
+toned-by-set = (refl, refl)
+
+-- ---- "These must not pass": none of these can stand beside the contract of a call
+-- "a picture call that tones its first row and copies the rest": byte 0 of the second row is copied
+pub first-row-within : (a : Answer) → LutCall Gray8 2 2 9 more plane a (firstRow 11 12) → ⊥
+unfolding lutAnswered each tabulate planeByte inRow rowByte toned
+first-row-within a c =
+    let left = left-is 9 Gray8 a (firstRow 11 12) c in
+    let copied : _≡_ {A = ℕ} 10 20 = ap (λ (l : List ℕ). getD l 9 0) left in
+    omega (arith, copied)
+
+pub first-row-by-set : (t : Toned) (cb cr : List ℕ)
+    → SetCall (picture Gray8) t (254 ∷ 253 ∷ 10 ∷ 11 ∷ replicate 13 99) cb cr → ⊥
+unfolding answered entry first tightByte rowByte toned
+first-row-by-set t cb cr c =
+    let copied : _≡_ {A = ℕ} 10 245 = ap (λ (l : List ℕ). getD l 2 0) (c .out-is) in
+    omega (arith, copied)
+
+-- "one that copies the whole picture"
+pub copied-within : (a : Answer) → LutCall Gray8 2 2 9 more plane a plane → ⊥
+unfolding lutAnswered each tabulate planeByte inRow rowByte toned
+copied-within a c =
+    let copied : _≡_ {A = ℕ} 1 11 = ap (λ (l : List ℕ). getD l 0 0) (left-is 9 Gray8 a plane c) in
+    omega (arith, copied)
+
+pub copied-by-set : (t : Toned) (cb cr : List ℕ)
+    → SetCall (picture Gray8) t (1 ∷ 2 ∷ 10 ∷ 11 ∷ replicate 13 99) cb cr → ⊥
+unfolding answered entry first tightByte rowByte toned
+copied-by-set t cb cr c =
+    let copied : _≡_ {A = ℕ} 1 254 = ap (λ (l : List ℕ). getD l 0 0) (c .out-is) in
+    omega (arith, copied)
+
+-- "a call that answers 13 on sufficient space, or some number always"
+pub not-always-refused : (a : Answer) (after : List ℕ) (t : Toned) (out cb cr : List ℕ)
+    → LutCall Gray8 2 2 9 more plane a after → SetCall (picture Gray8) t out cb cr
+    → (a ≡ Done) × (t .answer ≡ Done)
+unfolding answered lutAnswered
+not-always-refused a after t out cb cr c d = (c .answer-is, d .answer-is)

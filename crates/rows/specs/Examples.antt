@@ -1,4 +1,4 @@
--- Planes where a slip would show, computed: two rows of step 5 whose last has no padding, with tables that add 10, 20 and 30.
+-- Planes where a slip would show, computed: two rows of step 5, with tables that add 10, 20 and 30.
 use mathlib.Core.Path.{_≡_, refl}
 use mathlib.Core.List.{List, [], _∷_}
 use Prim.Native.Nat.{ℕ, _+_}
@@ -10,10 +10,11 @@ use Rattle.rows.specs.Rows.{inRow, planeByte, tightByte}
 abbrev more : ℕ → List ℕ
 more n = tabulate 256 (λ x. x + n)
 
--- grey and alpha, two pixels a row: alpha and the byte between the rows stay
+-- grey and alpha, two pixels a row: alpha, the byte between the rows and what lies after them stay
 pub grey-alpha :
-    each (planeByte 4 2 5 (rowByte 2 1 (same (more 10)))) (1 ∷ 2 ∷ 3 ∷ 4 ∷ 5 ∷ 6 ∷ 7 ∷ 8 ∷ 9 ∷ [])
-    ≡ 11 ∷ 2 ∷ 13 ∷ 4 ∷ 5 ∷ 16 ∷ 7 ∷ 18 ∷ 9 ∷ []
+    each (planeByte 4 2 5 (rowByte 2 1 (same (more 10))))
+    (1 ∷ 2 ∷ 3 ∷ 4 ∷ 5 ∷ 6 ∷ 7 ∷ 8 ∷ 9 ∷ 10 ∷ 11 ∷ 12 ∷ [])
+    ≡ 11 ∷ 2 ∷ 13 ∷ 4 ∷ 5 ∷ 16 ∷ 7 ∷ 18 ∷ 9 ∷ 10 ∷ 11 ∷ 12 ∷ []
 unfolding each tabulate planeByte inRow rowByte toned
 grey-alpha = refl
 

@@ -1,0 +1,65 @@
+-- The kinds' numbers and forms, and the answers of a table build, computed where a slip would show.
+-- Each value is document 01's: the sentence is quoted above it.
+use mathlib.Core.Path.{_≡_, refl}
+use mathlib.Core.List.{List, [], _∷_}
+use Prim.Native.Nat.{ℕ}
+use lib.IntN.{ℤ}
+use Rattle.answers.specs.Numbers.{numberOf}
+use Rattle.answers.specs.Checks.{firstRefusal}
+use Rattle.points.specs.declared.Curve.{Curve}
+use Rattle.points.specs.Points.{straightCurve}
+use Rattle.sampling.specs.declared.Form.the-variants.{Straight, Cubic, Spline}
+use Rattle.tables.specs.declared.CurveInterpolation.{CurveInterpolation}
+use Rattle.tables.specs.declared.CurveInterpolation.the-variants.{
+  Linear,
+  CatmullRom,
+  MonotoneCubic,
+  MonotoneCubicBox,
+  NaturalCubic,
+  CentripetalCatmullRom,
+  ChordalCatmullRom,
+  Cardinal,
+  ClampedCubic,
+  NotAKnotCubic,
+}
+use Rattle.tables.specs.Kinds.{kindNumber, kindOf, formOf}
+use Rattle.tables.specs.Tables.{tableChecks}
+
+-- ---- the kinds
+-- a rule of each number from 0 to 9
+abbrev tenNumbers : {A : Type 0} → (ℕ → A) → List A
+tenNumbers rule =
+    rule 0 ∷ rule 1 ∷ rule 2 ∷ rule 3 ∷ rule 4 ∷ rule 5 ∷ rule 6 ∷ rule 7 ∷ rule 8 ∷ rule 9 ∷ []
+
+-- "Kinds, numbered 0 to 9: Linear, CatmullRom, MonotoneCubic, MonotoneCubicBox, NaturalCubic,
+-- CentripetalCatmullRom, ChordalCatmullRom, Cardinal, ClampedCubic, NotAKnotCubic"; "Cardinal
+-- carries a tension", "ClampedCubic carries two slopes"
+pub kinds : (q : ℕ) (start end : ℤ)
+    → tenNumbers (λ k. kindOf k q start end)
+    ≡ Linear ∷ CatmullRom ∷ MonotoneCubic ∷ MonotoneCubicBox ∷ NaturalCubic ∷ CentripetalCatmullRom
+    ∷ ChordalCatmullRom ∷ Cardinal q ∷ ClampedCubic start end ∷ NotAKnotCubic ∷ []
+kinds q start end = refl
+
+pub numbers : (q : ℕ) (start end : ℤ)
+    → tenNumbers (λ k. kindNumber (kindOf k q start end)) ≡ tenNumbers (λ k. k)
+numbers q start end = refl
+
+-- "Linear", "Hermite kinds (1, 2, 3, 5, 6, 7)", "Splines (4, 8, 9; ..)"
+pub forms : (q : ℕ) (start end : ℤ)
+    → tenNumbers (λ k. formOf (kindOf k q start end))
+    ≡ Straight ∷ Cubic ∷ Cubic ∷ Cubic ∷ Spline ∷ Cubic ∷ Cubic ∷ Cubic ∷ Spline ∷ Spline ∷ []
+forms q start end = refl
+
+-- ---- the fine table of a list of so many points, into a slice of so many samples
+abbrev build : ℕ → ℕ → ℕ
+build count S =
+    numberOf (firstRefusal (tableChecks (record { points = straightCurve; count = count }) S))
+
+-- "Checks run in this order": 3, "A count of points is above 64", before 14, "A float table's
+-- length isn't 256 or 4,096 (build)"
+pub build-order : (build 65 255 ≡ 3) × (build 65 256 ≡ 3) × (build 64 255 ≡ 14) × (build 64 256 ≡ 0)
+build-order = (refl, refl, refl, refl)
+
+pub lengths : (build 2 257 ≡ 14) × (build 2 4095 ≡ 14) × (build 2 4096 ≡ 0) × (build 2 4097 ≡ 14)
+    × (build 2 0 ≡ 14)
+lengths = (refl, refl, refl, refl, refl)
