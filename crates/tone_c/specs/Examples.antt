@@ -102,6 +102,17 @@ pub picture-order : (pictureAnswered longer 12 4097 0 0 0 ≡ TrailingBytes) × 
 unfolding formatOf needed
 picture-order = (refl, refl, refl, refl, refl, refl, refl, refl)
 
+-- chroma of 2 and of 3 bytes: each output is measured by its own plane
+abbrev roomAnswered : ℕ → ℕ → ℕ → Answer
+roomAnswered roomY roomU roomV =
+    firstRefusal (tonePictureChecks empty 6 4 1 3 4 (lengthsOf (replicate 4 5) (replicate 2 6)
+    (replicate 3 7) (replicate roomY 0) (replicate roomU 0) (replicate roomV 0)))
+
+pub picture-rooms : (roomAnswered 4 2 3 ≡ Done) × (roomAnswered 3 4 4 ≡ OutputTooSmall)
+    × (roomAnswered 4 1 4 ≡ OutputTooSmall) × (roomAnswered 4 4 2 ≡ OutputTooSmall)
+unfolding formatOf needed
+picture-rooms = (refl, refl, refl, refl)
+
 -- ---- records
 pub record-table-order : (firstRefusal (toneRecordTableChecks longer 255) ≡ TrailingBytes) × (firstRefusal (toneRecordTableChecks empty 255) ≡ OutputTooSmall)
     × (firstRefusal (toneRecordTableChecks empty 256) ≡ Done)
