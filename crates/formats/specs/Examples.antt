@@ -3,10 +3,11 @@
 -- its sections "Pictures" and "When a call says no": the sentence is quoted above it.
 use mathlib.Core.Path.{_≡_, refl}
 use mathlib.Core.Bool.{Bool, true, false}
-use mathlib.Core.List.{List, [], _∷_}
+use mathlib.Core.List.{List, [], _∷_, _++_}
 use Prim.Native.Nat.{ℕ}
 use lib.ListN.{replicate}
 use Rattle.answers.specs.Numbers.{numberOf}
+use Rattle.lists.specs.Tabulate.{tabulate}
 use Rattle.rows.specs.Rows.{needed}
 use Rattle.formats.specs.declared.PixelFormat.{PixelFormat}
 use Rattle.formats.specs.declared.PixelFormat.the-variants.{
@@ -24,7 +25,7 @@ use Rattle.formats.specs.declared.PixelFormat.the-variants.{
   YuvJ444P,
 }
 use Rattle.formats.specs.declared.Lengths.{Lengths}
-use Rattle.formats.specs.Formats.{bytesAPixel, keptOf, planesRead, byColour}
+use Rattle.formats.specs.Formats.{formatOf, bytesAPixel, keptOf, planesRead, byColour}
 use Rattle.formats.specs.Checks.{lutAnswer, pictureAnswer}
 
 -- ---- the formats
@@ -37,6 +38,11 @@ yuv rule =
 abbrev pub others : {A : Type 0} → (PixelFormat → A) → List A
 others rule =
     rule Gray8 ∷ rule Ya8 ∷ rule Rgb24 ∷ rule Rgba ∷ rule Cmyk ∷ rule CmykInverted ∷ []
+
+-- the numbers from 0 to 11 at the C boundary, as `bindings/c/tone.h` has them
+pub numbered : tabulate 12 formatOf ≡ others (λ f. f) ++ yuv (λ f. f)
+unfolding tabulate formatOf
+numbered = refl
 
 -- "width times 1 (Gray8, luma), 2 (Ya8), 3 (Rgb24), 4 (Rgba, Cmyk, CmykInverted)"
 pub bytes-a-pixel : (others bytesAPixel ≡ 1 ∷ 2 ∷ 3 ∷ 4 ∷ 4 ∷ 4 ∷ [])
@@ -123,13 +129,13 @@ step-without-rows = ((refl, refl), (refl, refl), (refl, refl), (refl, refl))
 
 -- 12: "The first plane has fewer bytes than needed", "(height − 1) × step + row": 2 × 7 + 6;
 -- "0 if width or height is 0"
-pub plane-limit : Both Rgb24 2 3 7 20 0 × Both Rgb24 2 3 7 19 12
+pub plane-limit : Both Rgb24 2 3 7 20 0 × Both Rgb24 2 3 7 19 12 × Both Rgb24 2 3 7 0 12
 unfolding lutAnswer pictureAnswer needed
-plane-limit = ((refl, refl), (refl, refl))
+plane-limit = ((refl, refl), (refl, refl), (refl, refl))
 
-pub plane-without-pixels : Both Rgb24 0 3 7 0 0 × Both Rgb24 2 0 7 0 0
+pub plane-without-pixels : Both Rgb24 0 3 7 0 0 × Both Rgb24 0 3 7 5 0 × Both Rgb24 2 0 7 0 0
 unfolding lutAnswer pictureAnswer needed
-plane-without-pixels = ((refl, refl), (refl, refl))
+plane-without-pixels = ((refl, refl), (refl, refl), (refl, refl))
 
 -- 13: "An output holds less than what would be written": tight rows of 3 × 6 bytes, and for YUV
 -- each chroma plane whole, here of 4 and 5 bytes
