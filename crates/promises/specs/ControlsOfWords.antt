@@ -11,7 +11,7 @@ use mathlib.Core.Bool.{true, false, _||_, false≢true}
 use mathlib.Core.List.{List, [], _∷_}
 use lib.Dec.{eqb, lit<, lit≤}
 use lib.IntN.{ℤ}
-use lib.ListN.{length, getD, replicate}
+use lib.ListN.{length, getD}
 use Rattle.answers.specs.declared.Answer.the-variants.{ReservedBit, RecordTruncated}
 use Rattle.answers.specs.Checks.{_when_}
 use Rattle.points.specs.declared.Point.{Point}
@@ -138,22 +138,27 @@ no-copies = (
 )
 
 -- ---- a plane toned by one table
--- two rows of two pixels with a byte of padding between, every byte 0, by a table of 9 at 0: not a
--- copy, toned alpha, changed padding, a byte too many. The first two are told by the last place of
--- the plane
-pub no-exact-planes : (ExactPlane Rgb24 2 2 7 (9 ∷ []) (replicate 13 0) (replicate 13 0) → ⊥)
-    × (ExactPlane Ya8 2 2 5 (9 ∷ []) (replicate 9 0) (replicate 9 9) → ⊥)
-    × (ExactPlane Gray8 2 2 3 (9 ∷ []) (replicate 5 0) (9 ∷ 9 ∷ 7 ∷ 9 ∷ 9 ∷ []) → ⊥)
-    × (ExactPlane Gray8 2 2 3 (9 ∷ []) (replicate 5 0) (replicate 6 9) → ⊥)
+-- n bytes from v on: of these planes no two bytes are the same, nor of the table 100, 101, ..
+abbrev counting : ℕ → ℕ → List ℕ
+counting v zero = []
+counting v (suc n) = v ∷ counting (suc v) n
+
+-- not exact: a copy, told by the last pixel's red; toned alpha, by the last row's first; changed
+-- padding, between the last two rows; a byte too many
+pub no-exact-planes :
+    (ExactPlane Rgb24 3 2 10 (counting 100 19) (counting 0 19) (counting 0 19) → ⊥)
+    × (ExactPlane Ya8 2 3 5 (counting 100 14) (counting 0 14) (counting 100 14) → ⊥)
+    × (ExactPlane Gray8 2 3 4 (counting 100 10) (counting 0 10) (counting 100 10) → ⊥)
+    × (ExactPlane Gray8 2 3 4 (counting 100 10) (counting 0 10) (counting 100 11) → ⊥)
 unfolding inRow
 no-exact-planes = (
   λ e.
-      let other : _≡_ {A = ℕ} 2 3 → ⊥ = λ h. omega (arith, h) in
-      let z : _≡_ {A = ℕ} 0 9 = e .toned 1 1 2 (lit< tt) (lit< tt) (lit< tt) other in
+      let red : _≡_ {A = ℕ} 0 3 → ⊥ = λ h. omega (arith, h) in
+      let z : _≡_ {A = ℕ} 16 116 = e .toned 1 2 0 (lit< tt) (lit< tt) (lit< tt) red in
       omega (arith, z),
   λ e.
-      let z : _≡_ {A = ℕ} 9 0 = e .alpha 1 1 1 (lit< tt) (lit< tt) (lit< tt) refl in
+      let z : _≡_ {A = ℕ} 111 11 = e .alpha 2 0 1 (lit< tt) (lit< tt) (lit< tt) refl in
       omega (arith, z),
-  λ e. let z : _≡_ {A = ℕ} 7 0 = e .padding 2 refl in omega (arith, z),
-  λ e. let z : _≡_ {A = ℕ} 6 5 = e .long in omega (arith, z),
+  λ e. let z : _≡_ {A = ℕ} 107 7 = e .padding 7 refl in omega (arith, z),
+  λ e. let z : _≡_ {A = ℕ} 11 10 = e .long in omega (arith, z),
 )
