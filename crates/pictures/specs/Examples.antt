@@ -178,8 +178,8 @@ unfolding answered
 accepted = refl
 
 -- ---- the set call on each format: its master falls from 255 to 0, so that v gives 255 − v, red is
--- P2's (128,200), "all 200", blue is (128,100), and there is no green; 2 columns and 2 rows of step
--- 9; the outputs are all 99, and each has a byte more than is written
+-- P2's (128,200), "all 200", blue is (128,100), and there is no green; 2 columns and 2 rows; the
+-- outputs are all 99, and each holds more than is written
 -- what an entry opens under Linear
 unfoldable entry : List Point → ℕ → ℕ
 unfolding entryOf sampleOf sampled unclampedAt heightAt pieceHeight kept keptBelow firstAt knots
@@ -196,9 +196,9 @@ redAndBlue = record {
   interpolation = Linear;
 }
 
-abbrev picture : PixelFormat → Run
-picture f =
-    given redAndBlue f 2 2 3 plane 9 (1 ∷ 2 ∷ 3 ∷ []) 7 (4 ∷ 5 ∷ []) 8
+abbrev picture : ℕ → PixelFormat → Run
+picture step f =
+    given redAndBlue f 2 2 3 plane step (1 ∷ 2 ∷ 3 ∷ []) 7 (4 ∷ 5 ∷ []) 8
     (replicate 17 99) (replicate 4 99) (replicate 3 99)
 
 -- what the contract of the call says of the outputs afterwards, and of the steps handed back
@@ -241,11 +241,17 @@ coloursAlphaWritten =
     ∷ replicate 4 99 ∷ replicate 3 99 ∷ (8 ∷ 0 ∷ 0 ∷ []) ∷ []
 
 pub toned-by-set :
-    (others (λ f. written (picture f))
+    (others (λ f. written (picture 9 f))
     ≡ greyWritten ∷ unchanged ∷ coloursWritten ∷ coloursAlphaWritten ∷ unchanged ∷ unchanged ∷ [])
-    × (yuv (λ f. written (picture f)) ≡ replicate 6 yuvWritten)
+    × (yuv (λ f. written (picture 9 f)) ≡ replicate 6 yuvWritten)
 unfolding answered entry first chroma tightByte rowByte toned
 toned-by-set = (refl, refl)
+
+-- a step of 1 is below the row bytes of each format that is not refused before
+pub refused-by-set : (others (λ f. written (picture 1 f)) ≡ replicate 6 unchanged)
+    × (yuv (λ f. written (picture 1 f)) ≡ replicate 6 unchanged)
+unfolding answered first chroma
+refused-by-set = (refl, refl)
 
 -- ---- "These must not pass": none of these can stand beside the contract of a call
 -- "a picture call that tones its first row and copies the rest": byte 0 of the second row is copied
@@ -257,7 +263,7 @@ first-row-within a c =
     omega (arith, copied)
 
 pub first-row-by-set : (t : Toned) (cb cr : List ℕ)
-    → SetCall (picture Gray8) t (254 ∷ 253 ∷ 10 ∷ 11 ∷ replicate 13 99) cb cr → ⊥
+    → SetCall (picture 9 Gray8) t (254 ∷ 253 ∷ 10 ∷ 11 ∷ replicate 13 99) cb cr → ⊥
 unfolding answered entry first tightByte rowByte toned
 first-row-by-set t cb cr c =
     let copied : _≡_ {A = ℕ} 10 245 = ap (λ (l : List ℕ). getD l 2 0) (c .out-is) in
@@ -271,7 +277,7 @@ copied-within a c =
     omega (arith, copied)
 
 pub copied-by-set : (t : Toned) (cb cr : List ℕ)
-    → SetCall (picture Gray8) t (1 ∷ 2 ∷ 10 ∷ 11 ∷ replicate 13 99) cb cr → ⊥
+    → SetCall (picture 9 Gray8) t (1 ∷ 2 ∷ 10 ∷ 11 ∷ replicate 13 99) cb cr → ⊥
 unfolding answered entry first tightByte rowByte toned
 copied-by-set t cb cr c =
     let copied : _≡_ {A = ℕ} 1 254 = ap (λ (l : List ℕ). getD l 0 0) (c .out-is) in
@@ -279,7 +285,7 @@ copied-by-set t cb cr c =
 
 -- "a call that answers 13 on sufficient space, or some number always"
 pub not-always-refused : (a : Answer) (after : List ℕ) (t : Toned) (out cb cr : List ℕ)
-    → LutCall Gray8 2 2 9 more plane a after → SetCall (picture Gray8) t out cb cr
+    → LutCall Gray8 2 2 9 more plane a after → SetCall (picture 9 Gray8) t out cb cr
     → (a ≡ Done) × (t .answer ≡ Done)
 unfolding answered lutAnswered
 not-always-refused a after t out cb cr c d = (c .answer-is, d .answer-is)
