@@ -184,7 +184,10 @@ default-left-out = refl
 pub default-put-in : defaultNamed (0x01 ∷ 1 ∷ 0 ∷ 7 ∷ []) ≡ 0x11 ∷ 1 ∷ 0 ∷ 7 ∷ 2 ∷ []
 default-put-in = refl
 
--- no kind named, or the one next to the default, or none by a tension of 2
+-- no record, no kind named, the one next to the default, or none by a tension of 2
+pub no-record : namesDefault [] ≡ false
+no-record = refl
+
 pub no-kind : namesDefault (0x00 ∷ []) ≡ false
 no-kind = refl
 

@@ -4,7 +4,7 @@ use Prim.Native.Nat.{ℕ, _≤_, _-_}
 use native.Mathlib.Omega.{arith}
 use mathlib.Core.Path.{_≡_, refl, sym, ap, _∙_}
 use mathlib.Core.List.{List, [], _∷_}
-use lib.Dec.{ltb, lit≤}
+use lib.Dec.{ltb, lit<, lit≤}
 use lib.ListN.{length}
 use lib.IntN.{pos}
 use borrow.Author.Tests.{le-ltb}
@@ -32,6 +32,7 @@ use Rattle.sets.specs.Sets.{
 use Rattle.sets.specs.Legal.{set-answer, legal-view}
 use Rattle.records.specs.Format.{longest}
 use Rattle.writing.specs.Encode.{pairBytes, bitsUnder, encode, writeChecks, writeRecord}
+use Rattle.writing.specs.Contracts.{Held}
 use Rattle.writing.specs.Cases.{write-answer}
 use Rattle.writing.specs.Lengths.{encode-length}
 
@@ -95,6 +96,14 @@ longestSet = record {
   green = presentChannel longestCurve;
   blue = presentChannel longestCurve;
   interpolation = ClampedCubic (pos 256) (pos 256);
+}
+
+-- as the types of code have it
+pub longest-held : Held longestSet
+unfolding tabulate
+longest-held = record {
+  full = record { master = refl; red = refl; green = refl; blue = refl };
+  kind = record { tension = lit< tt; start = lit< tt; end = lit< tt };
 }
 
 pub longest-reached : length (encode (viewOf longestSet)) ≡ longest
