@@ -149,7 +149,7 @@ pub no-exact-planes :
     (ExactPlane Rgb24 3 2 10 (counting 100 19) (counting 0 19) (counting 0 19) → ⊥)
     × (ExactPlane Ya8 2 3 5 (counting 100 14) (counting 0 14) (counting 100 14) → ⊥)
     × (ExactPlane Gray8 2 3 4 (counting 100 10) (counting 0 10) (counting 100 10) → ⊥)
-    × (ExactPlane Gray8 2 3 4 (counting 100 10) (counting 0 10) (counting 100 11) → ⊥)
+    × (ExactPlane Gray8 2 3 4 (counting 100 12) (counting 0 10) (counting 100 11) → ⊥)
 unfolding inRow
 no-exact-planes = (
   λ e.
