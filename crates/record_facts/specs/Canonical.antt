@@ -1,13 +1,13 @@
 -- A set has one record, the writer's: same sets write the same bytes, and every record that a
 -- reader accepts is what the writer makes of its set, except one that names the default kind. "The
 -- writer leaves the kind out when it is the default": that one has bit 4 and its byte besides.
-use Prim.Native.Nat.{ℕ, zero, suc, _+_, _*_, _<_}
+use Prim.Native.Nat.{ℕ, suc, _+_, _*_, _<_}
 use native.Mathlib.Omega.{arith}
 use mathlib.Core.Path.{_≡_, refl, sym, ap, _∙_}
 use mathlib.Core.List.{List, [], _∷_, _++_, append-assoc, append-nil}
 use mathlib.Core.Bool.{Bool, true, false, cond, not, _&&_, true≢false}
-use lib.Dec.{eqb, lit<}
-use lib.ListN.{length, getD, length-append}
+use lib.Dec.{eqb}
+use lib.ListN.{length, length-append}
 use borrow.Author.Tests.{eqb-true}
 use Rattle.answers.specs.declared.Answer.the-variants.{Done}
 use Rattle.answers.specs.Checks.{first-append}
@@ -17,15 +17,7 @@ use Rattle.sets.specs.declared.Curves.{Curves}
 use Rattle.sets.specs.Sets.{View, viewOf, default, curveChecks, setChecks, setAnswer}
 use Rattle.sets.specs.Same.{Same}
 use Rattle.sets.specs.SameLaws.{same-view, checked-same}
-use Rattle.records.specs.Format.{
-  bit,
-  readKind,
-  readNumber,
-  readCarried,
-  readTension,
-  readFields,
-  readRecord,
-}
+use Rattle.records.specs.Format.{bit, readRecord}
 use Rattle.writing.specs.Encode.{
   fieldBytes,
   masterField,
@@ -170,46 +162,3 @@ pub writer-form : (s : List ℕ) → readRecord s .answer ≡ Done → encode (r
 writer-form s accepted e =
     by-test (namesDefault s)
     (λ t. absurd (omega (arith, rw t at (accepted-length s accepted), ap length e))) (λ t. t)
-
--- ---- on both sides of the edge
--- "10 02" names the default kind, and the writer makes "00" of its set
-pub default-kind : namesDefault (0x10 ∷ 2 ∷ []) ≡ true
-unfolding readRecord readFields readKind readNumber readCarried
-default-kind = refl
-
-pub default-left-out : encode (readRecord (0x10 ∷ 2 ∷ []) .set) ≡ 0x00 ∷ []
-unfolding readRecord readFields readKind readNumber readCarried encode bitsUnder
-default-left-out = refl
-
-pub default-put-in : defaultNamed (0x01 ∷ 1 ∷ 0 ∷ 7 ∷ []) ≡ 0x11 ∷ 1 ∷ 0 ∷ 7 ∷ 2 ∷ []
-default-put-in = refl
-
--- no record, no kind named, the one next to the default, or none by a tension of 2
-pub no-record : namesDefault [] ≡ false
-no-record = refl
-
-pub no-kind : namesDefault (0x00 ∷ []) ≡ false
-no-kind = refl
-
-pub next-kind : namesDefault (0x10 ∷ 3 ∷ []) ≡ false
-unfolding readRecord readFields readKind readNumber readCarried
-next-kind = refl
-
-pub tension-two : namesDefault (0x30 ∷ 7 ∷ 2 ∷ []) ≡ false
-unfolding readRecord readFields readKind readNumber readCarried readTension
-tension-two = refl
-
--- the bytes: 255 is one, 256 is none, and as a map it would be read like 0
-at-255 : (i : ℕ) → getD (255 ∷ []) i 0 < 256
-at-255 zero = lit< tt
-at-255 (suc i) = lit< tt
-
-pub byte-255 : AllBytes (255 ∷ [])
-byte-255 = record { byte = at-255 }
-
-pub not-256 : AllBytes (256 ∷ []) → ⊥
-not-256 b = omega (arith, b .byte 0)
-
-pub map-256 : encode (readRecord (256 ∷ []) .set) ≡ 0 ∷ []
-unfolding readRecord readFields readKind readNumber readCarried encode bitsUnder
-map-256 = refl

@@ -3,7 +3,7 @@
 -- Spelling: what the bytes of an accepted record are; from it Canonical: such a record is what the
 -- writer makes of its set, unless it names the default kind; and NotLonger. Room: 522 bytes always
 -- suffice. Runs says all this of runs of the reader and the writer. Longest: the first 523 bytes of
--- an input tell all; Input says so of what `tonetable` prints.
+-- an input tell all; Input says so of what `tonetable` prints. Examples: the edges.
 pub mod ReadLegal
 pub mod Longest
 pub mod RoundTrip
@@ -13,3 +13,4 @@ pub mod NotLonger
 pub mod Room
 pub mod Input
 pub mod Runs
+pub mod Examples

@@ -1,28 +1,22 @@
--- 522 bytes always suffice: into so long a buffer the writer never answers 13; and there is a set
--- that it does not write into 521.
-use Prim.Native.Nat.{ℕ, _≤_, _-_}
+-- 522 bytes always suffice: into so long a buffer the writer never answers 13.
+use Prim.Native.Nat.{ℕ, _≤_}
 use native.Mathlib.Omega.{arith}
-use mathlib.Core.Path.{_≡_, refl, sym, ap, _∙_}
+use mathlib.Core.Path.{_≡_, sym, ap, _∙_}
 use mathlib.Core.List.{List, [], _∷_}
-use lib.Dec.{ltb, lit<, lit≤}
+use lib.Dec.{ltb, lit≤}
 use lib.ListN.{length}
-use lib.IntN.{pos}
 use borrow.Author.Tests.{le-ltb}
-use Rattle.answers.specs.declared.Answer.the-variants.{Done, OutputTooSmall}
 use Rattle.answers.specs.declared.Answer.{Answer}
+use Rattle.answers.specs.declared.Answer.the-variants.{OutputTooSmall}
 use Rattle.answers.specs.Numbers.{numberOf, isDone, firstOf, done-is}
-use Rattle.answers.specs.Checks.{Check, firstRefusal, roomCheck, first-append}
+use Rattle.answers.specs.Checks.{Check, roomCheck, first-append}
 use Rattle.single.specs.RuleLaws.{by-test}
-use Rattle.lists.specs.Tabulate.{tabulate}
-use Rattle.points.specs.declared.Point.{Point}
 use Rattle.points.specs.declared.Curve.{Curve}
-use Rattle.points.specs.Points.{pt, limit, listOf, rises, risesFrom}
-use Rattle.tables.specs.declared.CurveInterpolation.the-variants.{ClampedCubic}
+use Rattle.points.specs.Points.{limit, listOf, rises}
 use Rattle.sets.specs.declared.Curves.{Curves}
 use Rattle.sets.specs.declared.Channel.{Channel}
 use Rattle.sets.specs.Sets.{
   viewOf,
-  presentChannel,
   curveChecks,
   setChecks,
   curveAnswer,
@@ -31,8 +25,7 @@ use Rattle.sets.specs.Sets.{
 }
 use Rattle.sets.specs.Legal.{set-answer, legal-view}
 use Rattle.records.specs.Format.{longest}
-use Rattle.writing.specs.Encode.{pairBytes, bitsUnder, encode, writeChecks, writeRecord}
-use Rattle.writing.specs.Contracts.{Held}
+use Rattle.writing.specs.Encode.{encode, writeRecord}
 use Rattle.writing.specs.Cases.{write-answer}
 use Rattle.writing.specs.Lengths.{encode-length}
 
@@ -84,39 +77,3 @@ module _ (s : Curves) (buffer : List ℕ) (enough : longest ≤ length buffer) w
   pub never-thirteen : writeRecord s buffer .answer ≡ OutputTooSmall → ⊥
   never-thirteen e = let lists = set-small s in
       omega (arith, ap numberOf (sym longest-suffices ∙ e))
-
--- ---- a set with the longest record: four lists of 64 points and two slopes
-abbrev longestCurve : Curve
-longestCurve = record { points = tabulate 64 (λ i. pt i 0); count = 64 }
-
-abbrev pub longestSet : Curves
-longestSet = record {
-  master = longestCurve;
-  red = presentChannel longestCurve;
-  green = presentChannel longestCurve;
-  blue = presentChannel longestCurve;
-  interpolation = ClampedCubic (pos 256) (pos 256);
-}
-
--- as the types of code have it
-pub longest-held : Held longestSet
-unfolding tabulate
-longest-held = record {
-  full = record { master = refl; red = refl; green = refl; blue = refl };
-  kind = record { tension = lit< tt; start = lit< tt; end = lit< tt };
-}
-
-pub longest-reached : length (encode (viewOf longestSet)) ≡ longest
-unfolding encode bitsUnder pairBytes tabulate
-longest-reached = refl
-
-pub one-less : firstRefusal (writeChecks longestSet (longest - 1)) ≡ OutputTooSmall
-unfolding risesFrom encode bitsUnder pairBytes tabulate
-one-less = refl
-
-pub just-enough : firstRefusal (writeChecks longestSet longest) ≡ Done
-unfolding risesFrom encode bitsUnder pairBytes tabulate
-just-enough = refl
-
-pub longest-is : longest ≡ 522
-longest-is = refl
