@@ -23,7 +23,8 @@ pub enum Answer {
 }
 
 impl Answer {
-    // The lengths that 14 allows a float table: either where it is built, the second where it is looked up in.
+    // The lengths that 14 allows a float table: either where it is built, the second where it is
+    // looked up in.
     pub const TABLE_LENGTH: usize = 256;
 
     pub const FINE_TABLE_LENGTH: usize = 4096;

@@ -46,7 +46,8 @@ pub fn format_of(n: u8) -> PixelFormat
 
 // What the kernels and the checks are told of a format.
 impl PixelFormat {
-    // The limits of 9 and 11: the largest width and height of a picture, and the largest row step of a plane.
+    // The limits of 9 and 11: the largest width and height of a picture, and the largest row step
+    // of a plane.
     pub const LARGEST_SIDE: usize = 4096;
 
     pub const LARGEST_STEP: usize = 32768;

@@ -1,5 +1,5 @@
--- Where the samples of a table stand: in order of x, from 0 up to 255; of 256 samples each at its own number, and of 4,096
--- every 273rd at a multiple of 17.
+-- Where the samples of a table stand: in order of x, from 0 up to 255; of 256 samples each at its
+-- own number, and of 4,096 every 273rd at a multiple of 17.
 use mathlib.Core.Path.{_≡_, refl}
 use mathlib.Core.Bool.{false}
 use Prim.Native.Nat.{ℕ, _+_, _-_, _*_, _^_, _≤_, _<_}
@@ -38,7 +38,8 @@ unfolding tabulate sampleAt step mul div ofInt ofBits
 fine-samples = refl
 
 pub sample-fine : (j : ℕ) → j < 16 → sampleAt (step 4096) (273 * j) ≡ float (17 * j)
-sample-fine j h = tabulate-agree (λ i. sampleAt (step 4096) (273 * i)) (λ i. float (17 * i)) fine-samples j h
+sample-fine =
+    tabulate-agree (λ i. sampleAt (step 4096) (273 * i)) (λ i. float (17 * i)) fine-samples
 
 -- ---- of S samples
 module _ (S : ℕ) (two : 2 ≤ S) (most : S ≤ 2 ^ 24) where

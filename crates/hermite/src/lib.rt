@@ -1,4 +1,5 @@
-// The straight and cubic pieces of a curve, and in `tangents` the tangents of CatmullRom and Cardinal.
+// The straight and cubic pieces of a curve, and in `tangents` the tangents of CatmullRom and
+// Cardinal.
 ghost use mathlib.Core.Path.{_≡_};
 ghost use Rattle.hermite.specs.Pieces as P;
 use points::Knot;

@@ -1,5 +1,5 @@
--- Document 01's marked examples, as far as they speak of lists: P3's kept points, the knots of an empty list (P1) and of
--- (128,200) (P2). And the exact broken line of a list that is given unsorted.
+-- Document 01's marked examples, as far as they speak of lists: P3's kept points, the knots of an
+-- empty list (P1) and of (128,200) (P2). And the exact broken line of a list given unsorted.
 use mathlib.Core.Path.{_≡_, refl}
 use mathlib.Core.List.{[], _∷_}
 use lib.Dec.{lit<, lit≤}
@@ -21,4 +21,11 @@ P2-knots = refl
 -- the line of (2,1),(0,0) joins (0,0) and (2,1): at 1 it is 1 / 2
 pub unsorted-line-at-1 : OnLine (pt 2 1 ∷ pt 0 0 ∷ []) 1 1 2
 unfolding kept keptBelow firstAt rest knots
-unsorted-line-at-1 = record { i = 0; inside = lit< tt; left = lit≤ tt; right = lit≤ tt; width = refl; height = refl }
+unsorted-line-at-1 = record {
+  i = 0;
+  inside = lit< tt;
+  left = lit≤ tt;
+  right = lit≤ tt;
+  width = refl;
+  height = refl;
+}

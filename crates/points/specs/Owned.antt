@@ -35,7 +35,9 @@ list-length c long = rw (length-take, long)
 pub held-list : (l : List Point) (n : ℕ) → length l ≡ 64 → take (min n 64) l ≡ take n l
 held-list l n long = elim (decLe n 64) [
   | yes few ↦ let same : min n 64 ≡ n = omega arith in rw same
-  | no many ↦ let most : min n 64 ≡ 64 = omega arith in rw most (take-all 64 l (omega arith) ∙ sym (take-all n l (omega arith)))
+  | no many ↦
+      let most : min n 64 ≡ 64 = omega arith in
+      rw most (take-all 64 l (omega arith) ∙ sym (take-all n l (omega arith)))
 ]
 
 pub bytes-told : (l : List Point) (us : List Val)

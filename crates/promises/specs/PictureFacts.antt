@@ -234,7 +234,8 @@ module _ (c : Call) (ok : Accepted c) where
       let l = listThatTones (c .given) p in
       let entry : output c p ≡ entryOf Linear l (input c p) = toned-entry p t ∙ rw linear in
       rw entry
-      (whole-nearest (entryOf Linear l (input c p)) n d (entry-near l (list-bytes p) (input c p) (input-byte p (t .within)) n d o))
+      (whole-nearest (entryOf Linear l (input c p)) n d
+      (entry-near l (list-bytes p) (input c p) (input-byte p (t .within)) n d o))
 
   pub line : (p : Place) → TonedAt (c .given) p → HasLine (listThatTones (c .given) p) (input c p)
   line p t =

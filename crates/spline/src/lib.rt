@@ -250,8 +250,8 @@ fn row_at(xs: &[f32; 66], ys: &[f32; 66], n: usize, boundary: SplineBoundary, k:
     }
 }
 
-// The Thomas solve: the unknowns of the system of m rows, to a row from place start on. Each row of the system is made just
-// before it is swept.
+// The Thomas solve: the unknowns of the system of m rows, to a row from place start on. Each row of
+// the system is made just before it is swept.
 fn thomas_solve(
     xs: &[f32; 66],
     ys: &[f32; 66],

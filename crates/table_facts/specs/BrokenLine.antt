@@ -1,5 +1,5 @@
--- The exact broken line of a given list: it is there at every byte, has one value there, also where two pieces meet,
--- and at a knot's x it is the knot's y.
+-- The exact broken line of a given list: it is there at every byte, has one value there, also where
+-- two pieces meet, and at a knot's x it is the knot's y.
 use mathlib.Core.Path.{_≡_, refl, sym, ap, _∙_}
 use mathlib.Core.List.{List}
 use Prim.Native.Nat.{ℕ, zero, suc, _+_, _-_, _*_, _≤_, _<_}
@@ -51,7 +51,8 @@ module _ (l : List Point) (bytes : All Bytes l) where
   line-width v n d o = omega (arith, rise (o .i) (suc (o .i)) (le-refl (suc (o .i))) (o .inside))
 
   -- it is there at every byte
-  piece : (v i : ℕ) → suc i < length ks → xOf ks i ≤ v → v ≤ xOf ks (suc i) → (n d : ℕ) × OnLine l v n d
+  piece : (v i : ℕ) → suc i < length ks → xOf ks i ≤ v → v ≤ xOf ks (suc i)
+      → (n d : ℕ) × OnLine l v n d
   piece v i h low high =
       let parts : (v - xOf ks i) + (xOf ks (suc i) - v) ≡ xOf ks (suc i) - xOf ks i = omega arith in (
         yOf ks i * (xOf ks (suc i) - v) + yOf ks (suc i) * (v - xOf ks i),
@@ -73,7 +74,8 @@ module _ (l : List Point) (bytes : All Bytes l) where
       piece v (r .0) (omega (arith, r .1, shape .two)) (r .2) (r .3)
 
   -- at a knot's x it is the knot's y
-  pub line-at-knot : (v n d : ℕ) → OnLine l v n d → (j : ℕ) → j < length (givenKnots l) → xOf (givenKnots l) j ≡ v
+  pub line-at-knot : (v n d : ℕ) → OnLine l v n d
+      → (j : ℕ) → j < length (givenKnots l) → xOf (givenKnots l) j ≡ v
       → n ≡ yOf (givenKnots l) j * d
   line-at-knot v n d o j h e =
       let i = o .i in

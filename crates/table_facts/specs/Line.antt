@@ -17,8 +17,8 @@ use Rattle.hermite.specs.Segments.{segment}
 use Rattle.hermite.specs.SegmentLaws.{InRange, segment-holds}
 use Rattle.table_facts.specs.Given.{given-rows}
 
--- "The exact broken line" of l at the position p / c is n / (256 * d): as `OnLine`, which is at a byte, with the heights in
--- 256ths
+-- "The exact broken line" of l at the position p / c is n / (256 * d): as `OnLine`, which is at a
+-- byte, with the heights in 256ths
 pub record LineAt (l : List Point) (p c n d : ℕ) : Type 0 where
   -- a position is a fraction
   pub divisor : 0 < c
@@ -31,7 +31,8 @@ pub record LineAt (l : List Point) (p c n d : ℕ) : Type 0 where
   pub width : d ≡ (xOf (givenKnots l) (suc i) - xOf (givenKnots l) i) * c
   -- n = y0 * d + (y1 - y0) * (p - x0 * c), with y0 and y1 in 256ths
   pub height : n + fineHeight (givenKnots l) i * (p - xOf (givenKnots l) i * c)
-      ≡ fineHeight (givenKnots l) i * d + fineHeight (givenKnots l) (suc i) * (p - xOf (givenKnots l) i * c)
+      ≡ fineHeight (givenKnots l) i * d
+      + fineHeight (givenKnots l) (suc i) * (p - xOf (givenKnots l) i * c)
 
 -- ---- at a byte it is what `OnLine` says
 in-256ths : (n y0 y1 d k : ℕ) → n + y0 * k ≡ y0 * d + y1 * k → 256 * n + 256 * y0 * k ≡ 256 * y0 * d + 256 * y1 * k
@@ -56,7 +57,8 @@ at-byte l v n d o =
 between : (y0 y1 k g : ℕ) → (y0 * g + y1 * k) + y0 * k ≡ y0 * (k + g) + y1 * k
 between y0 y1 k g = omega arith
 
-pub line-at : (l : List Point) → All Bytes l → (x : Float) → InRange x → (p c : ℕ) → 0 < c → Is x p 0 c
+pub line-at : (l : List Point) → All Bytes l → (x : Float) → InRange x
+    → (p c : ℕ) → 0 < c → Is x p 0 c
     → (n d : ℕ) × LineAt l p c n d
 line-at l bytes x r p c C e =
     let ks = givenKnots l in

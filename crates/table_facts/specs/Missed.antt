@@ -1,5 +1,5 @@
--- Why `through-points` leaves the splines out: under NotAKnotCubic the entry at a point's x can miss its y. Computed from the
--- definitions.
+-- Why `through-points` leaves the splines out: under NotAKnotCubic the entry at a point's x can
+-- miss its y. Computed from the definitions.
 use Prim.Native.Nat.{ℕ}
 use native.Mathlib.Omega.{arith}
 use mathlib.Core.Path.{_≡_, refl}
@@ -15,7 +15,8 @@ use Rattle.points.specs.Knots.{rest, knots, xAt, yAt, xRow, yRow}
 use Rattle.points.specs.Order.{All, Bytes}
 use Rattle.hermite.specs.Segments.{step, sampleAt, seek, segment}
 use Rattle.spline.specs.Segments.{between, segmentAt, firstCoefficient, splinePiece}
-use Rattle.spline.specs.Second.{rowAt, unknown, recovered, endsRecovered, framed, notAKnotAt, secondAt}
+use Rattle.spline.specs.Second.{rowAt, unknown, recovered, endsRecovered, framed}
+use Rattle.spline.specs.Second.{notAKnotAt, secondAt}
 use Rattle.spline.specs.Thomas.{scaled, sweep, swept, sweptRow, backward, substituted, solution}
 use Rattle.sampling.specs.Pieces.{pieceHeight, heightAt, sampled}
 use Rattle.tables.specs.declared.CurveInterpolation.{CurveInterpolation}
@@ -25,18 +26,24 @@ use Rattle.tables.specs.Tables.{unclampedAt, sampleOf, entryOf}
 abbrev peak : List Point
 peak = pt 142 0 ∷ pt 143 255 ∷ pt 144 0 ∷ pt 210 255 ∷ []
 
+peak-bytes : All Bytes peak
+peak-bytes =
+    ((lit< tt, lit< tt), ((lit< tt, lit< tt), ((lit< tt, lit< tt), ((lit< tt, lit< tt), tt))))
+
 -- at the point (142,0) the entry is 1
 pub not-a-knot-at-142 : entryOf NotAKnotCubic peak 142 ≡ 1
-unfolding entryOf sampleOf sampled unclampedAt heightAt pieceHeight kept keptBelow firstAt knots rest xRow yRow xAt yAt filled tabulate
-    step sampleAt seek segment between segmentAt firstCoefficient splinePiece secondAt notAKnotAt endsRecovered recovered framed unknown
-    rowAt solution substituted backward sweptRow swept sweep scaled guardedQuotient absolute clamped byteOf add sub neg mul div lt ofInt
-    ofBits
+unfolding entryOf sampleOf sampled unclampedAt heightAt pieceHeight kept keptBelow firstAt knots
+    rest xRow yRow xAt yAt filled tabulate step sampleAt seek segment between segmentAt
+    firstCoefficient splinePiece secondAt notAKnotAt endsRecovered recovered framed unknown rowAt
+    solution substituted backward sweptRow swept sweep scaled guardedQuotient absolute clamped
+    byteOf add sub neg mul div lt ofInt ofBits
 not-a-knot-at-142 = refl
 
 -- so `through-points` without its premise on the kind is refuted
 pub through-points-wants-no-spline :
-    ((l : List Point) → All Bytes l → (k : CurveInterpolation) (p : Point) → List·Memᴰ p (kept l) → entryOf k l (p .x) ≡ p .y) → ⊥
+    ((l : List Point) → All Bytes l → (k : CurveInterpolation) (p : Point) → List·Memᴰ p (kept l)
+    → entryOf k l (p .x) ≡ p .y) → ⊥
 unfolding kept keptBelow firstAt
 through-points-wants-no-spline through =
-    let bytes : All Bytes peak = ((lit< tt, lit< tt), ((lit< tt, lit< tt), ((lit< tt, lit< tt), ((lit< tt, lit< tt), tt)))) in
-    omega (arith, through peak bytes NotAKnotCubic (pt 142 0) (List·Memᴰ·head refl), not-a-knot-at-142)
+    let at-142 = through peak peak-bytes NotAKnotCubic (pt 142 0) (List·Memᴰ·head refl) in
+    omega (arith, at-142, not-a-knot-at-142)

@@ -74,7 +74,8 @@ module _ (l : List Point) (bytes : All Bytes l) where
   sample-straight S v r = sample-unclamped S v r ∙ linear-height l (sampleX S v)
 
   -- ---- for any S, where the sample stands at p / c
-  pub sample-near : (S v : ℕ) → InRange (sampleX S v) → (p c n d : ℕ) → Is (sampleX S v) p 0 c → LineAt l p c n d
+  pub sample-near : (S v : ℕ) → InRange (sampleX S v)
+      → (p c n d : ℕ) → Is (sampleX S v) p 0 c → LineAt l p c n d
       → Close 1 16384 (val (sampleOf Linear l S v)) (frac n 0 (256 * d))
   sample-near S v r p c n d e o =
       let C = o .divisor in
@@ -103,7 +104,8 @@ module _ (l : List Point) (bytes : All Bytes l) where
       (straight-close rows x r i inside low high)))
 
   -- of 256 samples, where sample v stands at v ..
-  pub byte-sample-near : (v : ℕ) → v < 256 → (n d : ℕ) → OnLine l v n d → Close 1 16384 (val (sampleOf Linear l 256 v)) (frac n 0 d)
+  pub byte-sample-near : (v : ℕ) → v < 256 → (n d : ℕ) → OnLine l v n d
+      → Close 1 16384 (val (sampleOf Linear l 256 v)) (frac n 0 d)
   byte-sample-near v h n d o =
       close-same 1 16384 (val (sampleOf Linear l 256 v)) (frac (256 * n) 0 (256 * d)) (frac n 0 d)
       (omega (arith, line-width l bytes v n d o))
@@ -111,12 +113,14 @@ module _ (l : List Point) (bytes : All Bytes l) where
       (omega arith) (omega arith)
 
   -- .. and of 4,096
-  pub fine-sample-near : (v : ℕ) → v < 4096 → (p c n d : ℕ) → Is (sampleX 4096 v) p 0 c → LineAt l p c n d
+  pub fine-sample-near : (v : ℕ) → v < 4096
+      → (p c n d : ℕ) → Is (sampleX 4096 v) p 0 c → LineAt l p c n d
       → Close 1 16384 (val (sampleOf Linear l 4096 v)) (frac n 0 (256 * d))
   fine-sample-near v h = sample-near 4096 v (sample-4096 v h)
 
   -- ---- an entry is the whole number nearest to the line, at an exact half one of the two nearest
-  pub entry-near : (v : ℕ) → v < 256 → (n d : ℕ) → OnLine l v n d → Nearest (entryOf Linear l v) (frac n 0 d)
+  pub entry-near : (v : ℕ) → v < 256 → (n d : ℕ) → OnLine l v n d
+      → Nearest (entryOf Linear l v) (frac n 0 d)
   unfolding entryOf
   entry-near v h n d o =
       let rows = given-rows l bytes in

@@ -20,13 +20,15 @@ use Rattle.table_facts.specs.Given.{sampleX, linear-height}
 
 module _ (l : List Point) (bytes : All Bytes l) (never-falls : NeverFalls (kept l)) where
   -- ---- for any S whose numbers of samples are floats
-  pub sample-order : (S : ℕ) → 2 ≤ S → S ≤ 2 ^ 24 → (v w : ℕ) → v ≤ w → w < S → InRange (sampleX S v) → InRange (sampleX S w)
+  pub sample-order : (S : ℕ) → 2 ≤ S → S ≤ 2 ^ 24
+      → (v w : ℕ) → v ≤ w → w < S → InRange (sampleX S v) → InRange (sampleX S w)
       → T (le (sampleOf Linear l S v) (sampleOf Linear l S w))
   unfolding sampleOf sampled
   sample-order S two most v w h k p q =
       clamped-le (unclampedAt Linear l (sampleX S v)) (unclampedAt Linear l (sampleX S w))
       (rw (linear-height l (sampleX S v), linear-height l (sampleX S w))
-      (straight-rises (kept l) (kept-is-kept l bytes) never-falls (sampleX S v) (sampleX S w) p q (sample-le S two most v w h (omega arith))))
+      (straight-rises (kept l) (kept-is-kept l bytes) never-falls (sampleX S v) (sampleX S w) p q
+      (sample-le S two most v w h (omega arith))))
 
   pub byte-sample-order : (v w : ℕ) → v ≤ w → w < 256 → T (le (sampleOf Linear l 256 v) (sampleOf Linear l 256 w))
   byte-sample-order v w h k = sample-order 256 (lit≤ tt) (lit≤ tt) v w h k (sample-256 v (omega arith)) (sample-256 w k)

@@ -1,5 +1,6 @@
--- The seven kinds that are no splines: every tangent is finite, and so is every sample of both tables; and where a sample
--- stands at a kept point's x, it is the point's y, in the byte table and in the fine one.
+-- The seven kinds that are no splines: every tangent is finite, and so is every sample of both
+-- tables; and where a sample stands at a kept point's x, it is the point's y, in the byte table and
+-- in the fine one.
 use mathlib.Core.Path.{_≡_, refl, _∙_}
 use mathlib.Core.Logic.{_⊎_, inl, inr}
 use mathlib.Core.Bool.{true, false}
@@ -43,7 +44,8 @@ use Rattle.sampling.specs.declared.Form.the-variants.{Cubic}
 use Rattle.tables.specs.Kinds.{formOf, numbersAt, numbersRow}
 use Rattle.sampling.specs.Pieces.{pieceHeight, heightAt, sampled}
 use Rattle.tables.specs.Tables.{unclampedAt, sampleOf, entryOf}
-use Rattle.table_facts.specs.Given.{sampleX, sample-x-is, fine-x-is, linear-height, given-rows}
+use Rattle.table_facts.specs.Given.{sampleX, sample-x-is, fine-x-is}
+use Rattle.table_facts.specs.Given.{linear-height, given-rows}
 
 -- the seven kinds that are none of document 01's "Splines (4, 8, 9)"; Cardinal's tension is a byte
 abbrev pub NoSpline : CurveInterpolation → Type 0
@@ -123,10 +125,12 @@ module _ (l : List Point) (bytes : All Bytes l) where
   sample-finite k h S v p = clamped-finite (unclampedAt k l (sampleX S v)) (height-finite k h (sampleX S v) p)
 
   -- .. of 256 samples and of 4,096
-  pub byte-sample-finite : (k : CurveInterpolation) → NoSpline k → (v : ℕ) → v < 256 → T (finite (sampleOf k l 256 v))
+  pub byte-sample-finite : (k : CurveInterpolation) → NoSpline k → (v : ℕ) → v < 256
+      → T (finite (sampleOf k l 256 v))
   byte-sample-finite k h v inside = sample-finite k h 256 v (sample-256 v inside)
 
-  pub fine-sample-finite : (k : CurveInterpolation) → NoSpline k → (v : ℕ) → v < 4096 → T (finite (sampleOf k l 4096 v))
+  pub fine-sample-finite : (k : CurveInterpolation) → NoSpline k → (v : ℕ) → v < 4096
+      → T (finite (sampleOf k l 4096 v))
   fine-sample-finite k h v inside = sample-finite k h 4096 v (sample-4096 v inside)
 
   -- ---- through points
@@ -155,7 +159,8 @@ module _ (l : List Point) (bytes : All Bytes l) where
       byte-256ths (sampleOf k l 256 (p .x)) (256 * p .y) (omega arith) (sample-through k h p m 256 (p .x) (sample-x-is (p .x) (b .0))) ∙ omega arith
 
   -- and of 4,096: where the point's x is 17 * j, sample 273 * j is its y
-  pub fine-through : (k : CurveInterpolation) → NoSpline k → (p : Point) → List·Memᴰ p (kept l) → (j : ℕ) → p .x ≡ 17 * j
+  pub fine-through : (k : CurveInterpolation) → NoSpline k → (p : Point) → List·Memᴰ p (kept l)
+      → (j : ℕ) → p .x ≡ 17 * j
       → Is (sampleOf k l 4096 (273 * j)) (256 * p .y) 0 256
   fine-through k h p m j e =
       let b = all-mem Bytes (kept l) (is-kept .bytes) p m in

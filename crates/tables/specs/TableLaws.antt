@@ -8,5 +8,6 @@ use Rattle.tables.specs.declared.CurveInterpolation.{CurveInterpolation}
 use Rattle.tables.specs.Tables.{byteTable, tableOf}
 
 -- a list that claims at most 64 points has its byte table
-pub table-of-few : (curve : Curve) (kind : CurveInterpolation) → curve .count ≤ limit → tableOf curve kind ≡ byteTable kind (listOf curve)
+pub table-of-few : (curve : Curve) (kind : CurveInterpolation) → curve .count ≤ limit
+    → tableOf curve kind ≡ byteTable kind (listOf curve)
 table-of-few curve kind few = rw (few-given curve few)

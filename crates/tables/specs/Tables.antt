@@ -73,7 +73,8 @@ pub record BuiltTable (curve : Curve) (kind : CurveInterpolation) (old : List Fl
 
 -- the byte table of a given list, beside an answer: "A table handed back with [a refusal] is all 0"
 abbrev pub tableBeside : Answer → Curve → CurveInterpolation → List ℕ
-tableBeside answer curve kind = cond (isDone answer) (byteTable kind (listOf curve)) (replicate 256 0)
+tableBeside answer curve kind =
+    cond (isDone answer) (byteTable kind (listOf curve)) (replicate 256 0)
 
 -- the table alone, of any list: all 0 for one that is refused
 abbrev pub tableOf : Curve → CurveInterpolation → List ℕ

@@ -42,7 +42,8 @@ returns c =
     let by = master .before .before .before .before in
     let start = by .before .before .before in
     let set = start .args .set in
-    let built = master .byte-table .ensures ∙ table-of-few _ _ (passed-count _ (passed by .master)) in
+    let few = passed-count _ (passed by .master) in
+    let built = master .byte-table .ensures ∙ table-of-few _ _ few in
     tight-rows-by (start .args .format) (viewOf set) _ _ _ _ _ (start .pre .0 .1) (by .by-colour .ensures) (k .bytes-a-pixel .ensures)
     (chosen-is _ (set .red) _ built (by .by-colour .result) (own-red .own-table .ensures) (red .chosen-table .ensures))
     (chosen-is _ (set .green) _ built (by .by-colour .result) (own-green .own-table2 .ensures) (green .chosen-table2 .ensures))

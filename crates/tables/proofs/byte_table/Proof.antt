@@ -12,7 +12,8 @@ use Rattle.tables.proofs.byte_table.Tie as tie
 returns : tie.Need-returns
 returns c =
     let k = c .before .before in
-    rw (← k .check-given .ensures, told-refused (k .check-given .result) (c .before .is-done .ensures) (c .if1 .taken))
+    let refused = told-refused _ (c .before .is-done .ensures) (c .if1 .taken) in
+    rw (← k .check-given .ensures, refused)
 
 returns-2 : tie.Need-returns-2
 unfolding byteAt entryOf
@@ -20,8 +21,10 @@ returns-2 c =
     let samples = c .before .before .before .sample-curve .ensures in
     let test = c .before .before .before .before .before in
     let k = test .before .before in
-    rw (← k .check-given .ensures, told-done (k .check-given .result) (test .before .is-done .ensures) (test .if1 .left))
-    (c .to-bytes .ensures ∙ tabulate-same 256 (λ v h. ap byteOf (rw samples (getD-tabulate 256 _ v nan h))))
+    let done = told-done _ (test .before .is-done .ensures) (test .if1 .left) in
+    rw (← k .check-given .ensures, done)
+    (c .to-bytes .ensures
+    ∙ tabulate-same 256 (λ v h. ap byteOf (rw samples (getD-tabulate 256 _ v nan h))))
 
 pub byte-table-spec : {M : Type 1} → statement M
 byte-table-spec =

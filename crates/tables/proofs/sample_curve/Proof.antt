@@ -24,7 +24,8 @@ use Rattle.tables.proofs.sample_curve.Statement.{statement}
 use Rattle.tables.proofs.sample_curve.Tie as tie
 
 -- ---- what sorting and the knots give
-module _ (given sorted : Curve) {k : Knots} (s : SortedList (listOf given) sorted) (r : KnotsOf (knots (listOf sorted)) k) where
+module _ (given sorted : Curve) {k : Knots}
+    (s : SortedList (listOf given) sorted) (r : KnotsOf (knots (listOf sorted)) k) where
   rows : KnotsOf (knots (kept (listOf given))) k
   rows = rw (s .list) at r
 
@@ -32,8 +33,10 @@ module _ (given sorted : Curve) {k : Knots} (s : SortedList (listOf given) sorte
   count bytes long =
       let l = listOf given in
       let most = list-length given long in
-      rw (rows .count)
-      (omega (arith, knots-shape (kept l) (kept-is-kept l bytes) .two), omega (arith, knots-length (kept l), kept-length l, most))
+      rw (rows .count) (
+        omega (arith, knots-shape (kept l) (kept-is-kept l bytes) .two),
+        omega (arith, knots-length (kept l), kept-length l, most),
+      )
 
   table : (kind : CurveInterpolation) (S : ℕ) {form : Form} {ms new : List Float} → form ≡ formOf kind → ms ≡ numbersRow kind (k .xs) (k .ys) (k .count)
       → new ≡ tabulate S (sampled (heightAt form (k .xs) (k .ys) ms (k .count)) S) → new ≡ fineTable kind (listOf given) S
@@ -46,8 +49,8 @@ numbers-requires c κs =
     let n = k .before in
     let given = n .before .before in
     let few =
-    count (given .args .curve) (n .sorted .result) (n .sorted .ensures) (k .knots .ensures) (search (needs, all-take, bytes-told))
-    (search (needs, length-told)) in
+    count (given .args .curve) (n .sorted .result) (n .sorted .ensures) (k .knots .ensures)
+    (search (needs, all-take, bytes-told)) (search (needs, length-told)) in
     (few .0, few .1, refl)
 
 fill-requires : tie.Need-fill-requires
@@ -55,8 +58,8 @@ fill-requires c κs =
     let k = c .before .before .before .before .before .before .before .before .before .before .before in
     let n = k .before in
     let given = n .before .before in (
-      count (given .args .curve) (n .sorted .result) (n .sorted .ensures) (k .knots .ensures) (search (needs, all-take, bytes-told))
-          (search (needs, length-told)),
+      count (given .args .curve) (n .sorted .result) (n .sorted .ensures) (k .knots .ensures)
+          (search (needs, all-take, bytes-told)) (search (needs, length-told)),
       given .pre,
     )
 
@@ -66,7 +69,8 @@ returns c =
     let m = f .before .before .before .before .before in
     let k = m .before .before .before .before .before .before .before in
     let n = k .before in
-    table (n .before .before .args .curve) (n .sorted .result) (n .sorted .ensures) (k .knots .ensures) _ _ (m .form-of .ensures)
+    table (n .before .before .args .curve) (n .sorted .result) (n .sorted .ensures)
+    (k .knots .ensures) _ _ (m .form-of .ensures)
     (m .before .numbers .ensures) (f .fill .ensures)
 
 pub sample-curve-spec : {M : Type 1} → statement M

@@ -71,7 +71,8 @@ returns c =
     let done = test .before in
     let read = done .before in
     let r = read .read-record in
-    let few = passed-count (r .result .set .master) (passed-set (r .result .set) (r .ensures .legal) .master) in (
+    let passed = passed-set (r .result .set) (r .ensures .legal) in
+    let few = passed-count (r .result .set .master) (passed .master) in (
       t .0 ∙ ap tableText (b .byte-table .ensures ∙ table-of-few _ _ few)
           ∙ read-text (read .before .before .args .bytes .now) (read .read-record .result) (read .read-record .ensures) (sym (done .is-done .ensures) ∙ test .if1 .taken),
       t .1,

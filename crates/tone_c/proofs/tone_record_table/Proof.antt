@@ -52,13 +52,14 @@ returns-2 c =
     let b = t .before .before .before in
     let k = b .before .before in
     let read = k .before .before .before .before .read-record .ensures in
+    let master = ap (λ (set : View). byteTable (set .kind) (set .master)) (read .set) in
     let few = table-of-few _ _ (passed-count _ (passed-set _ (read .legal) .master)) in
     let long : length (b .byte-table .result) ≡ 256 = search needs in
     record {
       number = c .number2 .ensures ∙ ap numberOf (answered (k .before .before));
       table =
           rw (c .number2 .ensures, told-done (k .before .before .first-of .result) (k .before .is-done .ensures) (k .if1 .left))
-          (rw (long, b .byte-table .ensures ∙ few ∙ ap (λ (set : View). byteTable (set .kind) (set .master)) (read .set)) at (t .copy-bytes .ensures));
+          (rw (long, b .byte-table .ensures ∙ few ∙ master) at (t .copy-bytes .ensures));
     }
 
 pub tone-record-table-spec : {M : Type 1} → statement M
