@@ -10,7 +10,7 @@ use lib.ListN.{length, take, drop}
 use lib.Ieee.{Float}
 use Rattle.lists.specs.Tabulate.{tabulate}
 use Rattle.answers.specs.declared.Answer.{Answer}
-use Rattle.answers.specs.declared.Answer.the-variants.{Done}
+use Rattle.answers.specs.declared.Answer.the-variants.{Done, OutputTooSmall}
 use Rattle.answers.specs.Numbers.{numberOf}
 use Rattle.answers.specs.Checks.{firstRefusal, roomCheck}
 use Rattle.single.specs.Rules.{byteOf}
@@ -41,7 +41,7 @@ use Rattle.tables.specs.declared.Lut.{Lut}
 use Rattle.tables.specs.Tables.{sampleOf, entryOf, BuiltTable, BuiltLut}
 use Rattle.lookup.specs.Lookup.{looked, LookupCall}
 use Rattle.sets.specs.declared.Curves.{Curves}
-use Rattle.sets.specs.Sets.{View, viewOf}
+use Rattle.sets.specs.Sets.{View, viewOf, setAnswer}
 use Rattle.sets.specs.Carried.{LegalKind}
 use Rattle.sets.specs.Legal.{Legal}
 use Rattle.sets.specs.Same.{Same}
@@ -51,6 +51,8 @@ use Rattle.records.specs.Views.{HandedBack}
 use Rattle.writing.specs.declared.Written.{Written}
 use Rattle.writing.specs.Encode.{encode}
 use Rattle.writing.specs.Contracts.{Wrote}
+use Rattle.record_facts.specs.ReadLegal.{AllBytes}
+use Rattle.record_facts.specs.Canonical.{namesDefault}
 use Rattle.record_facts.specs.RoundTrip as RoundTrip
 use Rattle.record_facts.specs.NotLonger as NotLonger
 use Rattle.record_facts.specs.Runs as Writing
@@ -172,3 +174,19 @@ accepted-not-refused = Writing.accepted-not-refused
 pub accepted-fits : (s : List ℕ) {old new : List ℕ} {r : RecordRead} {w : Written} → HandedBack (readRecord s) r → r .answer ≡ Done
     → Wrote (r .set) old w new → length s ≤ length old → w .answer ≡ Done
 accepted-fits = Writing.accepted-fits
+
+-- .. nor any set whose lists pass the check in 522 bytes: they always suffice
+pub always-fits : {set : Curves} {old new : List ℕ} {w : Written} → Wrote set old w new → 522 ≤ length old
+    → (w .answer ≡ setAnswer set) × (w .answer ≡ OutputTooSmall → ⊥)
+always-fits = Writing.always-fits
+
+-- records are canonical: the same sets are written as the same bytes ..
+pub same-bytes : {a b : Curves} {old newA newB : List ℕ} {w x : Written} → Same a b → Wrote a old w newA → Wrote b old x newB
+    → (w .answer ≡ x .answer) × (w .length ≡ x .length) × (newA ≡ newB)
+same-bytes = Writing.same-runs
+
+-- .. and an accepted record comes back byte for byte, unless it names the default kind
+pub returned : (s : List ℕ) {old new : List ℕ} {r : RecordRead} {w : Written} → AllBytes s → HandedBack (readRecord s) r → r .answer ≡ Done
+    → namesDefault s ≡ false → Wrote (r .set) old w new → w .answer ≡ Done
+    → (w .length ≡ length s) × (take (w .length) new ≡ s)
+returned = Writing.returned

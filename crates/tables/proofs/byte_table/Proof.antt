@@ -12,8 +12,10 @@ use Rattle.tables.proofs.byte_table.Tie as tie
 returns : tie.Need-returns
 returns c =
     let k = c .before .before in
-    let refused = told-refused _ (c .before .is-done .ensures) (c .if1 .taken) in
-    rw (← k .check-given .ensures, refused)
+    rw (
+      ← k .check-given .ensures,
+      told-refused (k .check-given .result) (c .before .is-done .ensures) (c .if1 .taken),
+    )
 
 returns-2 : tie.Need-returns-2
 unfolding byteAt entryOf
@@ -21,8 +23,10 @@ returns-2 c =
     let samples = c .before .before .before .sample-curve .ensures in
     let test = c .before .before .before .before .before in
     let k = test .before .before in
-    let done = told-done _ (test .before .is-done .ensures) (test .if1 .left) in
-    rw (← k .check-given .ensures, done)
+    rw (
+      ← k .check-given .ensures,
+      told-done (k .check-given .result) (test .before .is-done .ensures) (test .if1 .left),
+    )
     (c .to-bytes .ensures
     ∙ tabulate-same 256 (λ v h. ap byteOf (rw samples (getD-tabulate 256 _ v nan h))))
 
