@@ -285,6 +285,26 @@ rows-alone-wants-accepted claim =
     (record { within = w; not-alpha = λ e. omega (arith, e, w .channel) })))
     (record { cb = λ yuv. refl; cr = λ yuv. refl }))
 
+pub rows-alone-wants-one-set :
+    ((a b : Call) → SameFormat a b × SameWidth a b × SameHeight a b → Accepted a → Accepted b
+    → AlikeInRows a b → AlikeInChroma a b → WriteTheSame a b)
+    → ⊥
+unfolding answered
+rows-alone-wants-one-set claim =
+    let same = claim white otherSet (refl, refl, refl) refl refl
+    (λ p w. rw (only-here straightCurve 1 255 p
+    (record { within = w; not-alpha = λ e. omega (arith, e, w .channel) })))
+    (record { cb = λ yuv. refl; cr = λ yuv. refl }) .out in
+    omega (
+      arith,
+      ap (λ (l : List ℕ). getD l 0 0) same,
+      getD-take 1 (white .out) 0 0 (lit< tt),
+      getD-take 1 (otherSet .out) 0 0 (lit< tt),
+      white-output,
+      through-points otherSet refl linear-is-no-spline here (grey-toned zeros 1 255) (pt 255 0)
+          (List·Memᴰ·tail (List·Memᴰ·head refl)) refl,
+    )
+
 pub near-wants-accepted :
     ((a : Call) → IsLinear (a .given) → (p : Place) → TonedAt (a .given) p
     → (n d : ℕ) → OnLine (listThatTones (a .given) p) (input a p) n d → Nearest n d (output a p))
