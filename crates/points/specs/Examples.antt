@@ -1,10 +1,13 @@
 -- Document 01's marked examples, as far as they speak of lists: P3's kept points, the knots of an
 -- empty list (P1) and of (128,200) (P2). And the exact broken line of a list given unsorted.
 use mathlib.Core.Path.{_≡_, refl}
-use mathlib.Core.List.{[], _∷_}
+use mathlib.Core.List.{List, [], _∷_}
+use Prim.Native.Nat.{ℕ, zero, suc, _-_, _≤_, _<_}
+use native.Mathlib.Omega.{arith}
 use lib.Dec.{lit<, lit≤}
+use Rattle.points.specs.declared.Point.{Point}
 use Rattle.points.specs.Points.{pt, firstAt, keptBelow, kept}
-use Rattle.points.specs.Knots.{rest, knots, OnLine}
+use Rattle.points.specs.Knots.{rest, knots, givenKnots, xOf, OnLine}
 
 pub P3-kept : kept (pt 10 5 ∷ pt 10 9 ∷ pt 0 0 ∷ []) ≡ pt 0 0 ∷ pt 10 5 ∷ []
 unfolding kept keptBelow firstAt
@@ -18,8 +21,11 @@ pub P2-knots : knots (pt 128 200 ∷ []) ≡ pt 0 200 ∷ pt 128 200 ∷ pt 255 
 unfolding rest knots
 P2-knots = refl
 
--- the line of (2,1),(0,0) joins (0,0) and (2,1): at 1 it is 1 / 2
-pub unsorted-line-at-1 : OnLine (pt 2 1 ∷ pt 0 0 ∷ []) 1 1 2
+-- the line of (2,1),(0,0) joins (0,0), (2,1) and (255,1): at 1 it is 1 / 2
+abbrev unsorted : List Point
+unsorted = pt 2 1 ∷ pt 0 0 ∷ []
+
+pub unsorted-line-at-1 : OnLine unsorted 1 1 2
 unfolding kept keptBelow firstAt rest knots
 unsorted-line-at-1 = record {
   i = 0;
@@ -29,3 +35,39 @@ unsorted-line-at-1 = record {
   width = refl;
   height = refl;
 }
+
+-- "both ends included": at the first knot, at the last, and "At an inner knot both sides give the
+-- knot's y"
+pub line-at-ends : OnLine unsorted 0 0 2 × OnLine unsorted 255 253 253
+unfolding kept keptBelow firstAt rest knots
+line-at-ends = (
+  record { i = 0; inside = lit< tt; left = lit≤ tt; right = lit≤ tt; width = refl; height = refl },
+  record { i = 1; inside = lit< tt; left = lit≤ tt; right = lit≤ tt; width = refl; height = refl },
+)
+
+pub line-at-inner-knot : OnLine unsorted 2 2 2 × OnLine unsorted 2 253 253
+unfolding kept keptBelow firstAt rest knots
+line-at-inner-knot = (
+  record { i = 0; inside = lit< tt; left = lit≤ tt; right = lit≤ tt; width = refl; height = refl },
+  record { i = 1; inside = lit< tt; left = lit≤ tt; right = lit≤ tt; width = refl; height = refl },
+)
+
+-- three knots have two segments, and no more; a byte past a segment's ends is not on it
+pub two-segments : {v n d : ℕ} (o : OnLine unsorted v n d) → o .i < 2
+unfolding kept keptBelow firstAt rest knots
+two-segments o = omega (arith, o .inside)
+
+pub past-the-ends : (OnLine unsorted 256 253 253 → ⊥) × (OnLine unsorted 1 253 253 → ⊥)
+unfolding kept keptBelow firstAt rest knots
+past-the-ends = (λ o. beyond (o .i) (o .inside) (o .right), λ o. before (o .i) (o .left) (o .width))
+  where
+    beyond : (i : ℕ) → suc i < 3 → 256 ≤ xOf (givenKnots unsorted) (suc i) → ⊥
+    beyond zero h r = omega (arith, r)
+    beyond (suc zero) h r = omega (arith, r)
+    beyond (suc (suc i)) h r = omega arith
+
+    before : (i : ℕ) → xOf (givenKnots unsorted) i ≤ 1
+        → 253 ≡ xOf (givenKnots unsorted) (suc i) - xOf (givenKnots unsorted) i → ⊥
+    before zero l w = omega (arith, w)
+    before (suc zero) l w = omega (arith, l)
+    before (suc (suc i)) l w = omega (arith, w)
