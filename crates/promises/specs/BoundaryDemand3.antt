@@ -145,8 +145,8 @@ near a linear p toned n d on =
     Demand.near (run a) (not-refused a) (same-kind a ∙ linear) p toned n d (rw (same-list a p) on)
 
 -- where that line is there, and has one height
-pub line : (a : AcceptedCall) → (p : Place) → TonedAt a p → HasLine (listThatTones a p) (input a p)
-line a p toned = rw (same-list a p) at (Demand.line (run a) (not-refused a) p toned)
+pub line : (a : AcceptedCall) (p : Place) → HasLine (listThatTones a p) (input a p)
+line a p = rw (same-list a p) at (Demand.line (run a) p)
 
 -- "Under any kind but the three splines, a toned byte equal to the x of a point in the list that
 -- tones it comes out as that point's y."

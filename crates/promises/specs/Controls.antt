@@ -303,16 +303,50 @@ rows-alone-wants-alpha claim =
       getD-take 4 (b .out) 3 0 (lit< tt),
     )
 
-abbrev tinted : ℕ → Strip
-tinted cb = record { by = straightLine; format = Yuv420P; height = 1; plane = 5 ∷ []; step = 1; chroma = cb ∷ [] }
+-- .. and so are both chroma planes
+abbrev tinted : ℕ → ℕ → Run
+tinted cb cr =
+    given (linear straightCurve (own straightCurve)) Yuv420P 1 1 3 (5 ∷ []) 1 (cb ∷ []) 1 (cr ∷ []) 1
+    (0 ∷ []) (0 ∷ []) (0 ∷ [])
 
-pub rows-alone-wants-chroma : ((a b : Call) → Share a b → Accepted a → Accepted b → AlikeInRows a b → WriteTheSame a b) → ⊥
+tinted-lent : (cb cr : ℕ) → Lent (tinted cb cr)
+tinted-lent cb cr = record {
+  plane = byte-at (5 ∷ []) (lit< tt, tt);
+  points = record { master = straightLine .bytes; red = straightLine .bytes; green = tt; blue = tt };
+  tension = lit< tt;
+}
+
+abbrev ranTinted : ℕ → ℕ → Call
+ranTinted cb cr = ranOn (tinted cb cr) (tinted-lent cb cr)
+
+-- "rows alone", with alike for what is asked of chroma
+abbrev RowsAloneUnder : (Call → Call → Type 0) → Type 0
+RowsAloneUnder Alike =
+    (a b : Call) → Share a b → Accepted a → Accepted b → AlikeInRows a b → Alike a b → WriteTheSame a b
+
+tinted-the-same : (Alike : Call → Call → Type 0) (cb cr other-cb other-cr : ℕ)
+    → Alike (ranTinted cb cr) (ranTinted other-cb other-cr) → RowsAloneUnder Alike
+    → WriteTheSame (ranTinted cb cr) (ranTinted other-cb other-cr)
 unfolding answered
-rows-alone-wants-chroma claim =
-    let a = ran (tinted 1) (lit< tt, tt) in
-    let b = ran (tinted 2) (lit< tt, tt) in
-    let same = claim a b (shared (tinted 1) (tinted 2) (lit< tt, tt) (lit< tt, tt) refl refl refl) refl refl (λ p w. refl) .cb in
-    let alike : _≡_ {A = List ℕ} (1 ∷ []) (2 ∷ []) = sym (passed-through a refl .cb refl) ∙ same ∙ passed-through b refl .cb refl in
+tinted-the-same Alike cb cr other-cb other-cr alike claim =
+    claim (ranTinted cb cr) (ranTinted other-cb other-cr)
+    (record { set = same-refl (tinted cb cr .set); format = refl; width = refl; height = refl })
+    refl refl (λ p w. refl) alike
+
+pub rows-alone-wants-cb : RowsAloneUnder (λ a b. a .given .cr .bytes ≡ b .given .cr .bytes) → ⊥
+unfolding answered
+rows-alone-wants-cb claim =
+    let same = tinted-the-same (λ a b. a .given .cr .bytes ≡ b .given .cr .bytes) 1 3 2 3 refl claim .cb in
+    let alike : _≡_ {A = List ℕ} (1 ∷ []) (2 ∷ []) =
+    sym (passed-through (ranTinted 1 3) refl .cb refl) ∙ same ∙ passed-through (ranTinted 2 3) refl .cb refl in
+    omega (arith, ap (λ (l : List ℕ). getD l 0 0) alike)
+
+pub rows-alone-wants-cr : RowsAloneUnder (λ a b. a .given .cb .bytes ≡ b .given .cb .bytes) → ⊥
+unfolding answered
+rows-alone-wants-cr claim =
+    let same = tinted-the-same (λ a b. a .given .cb .bytes ≡ b .given .cb .bytes) 3 1 3 2 refl claim .cr in
+    let alike : _≡_ {A = List ℕ} (1 ∷ []) (2 ∷ []) =
+    sym (passed-through (ranTinted 3 1) refl .cr refl) ∙ same ∙ passed-through (ranTinted 3 2) refl .cr refl in
     omega (arith, ap (λ (l : List ℕ). getD l 0 0) alike)
 
 -- it speaks of runs whose padding and row steps differ: rows 5 and 6, one after the other, and with

@@ -1,7 +1,7 @@
 -- Controls of the third demand: what it asks of the runs themselves is needed. Each of the four
 -- things that two runs share is needed for the order; and that the documents do not refuse a run is
 -- needed for order, of both runs, for nearness, for the y at a point's x, for the bytes of rows
--- alone, of the second run, and for what passes through. By runs of one pixel at most, of Linear and
+-- alone and for no dithering, of the second run, and for what passes through. By runs of one pixel at most, of Linear and
 -- of lists that never fall.
 use Prim.Native.Nat.{ℕ, _≤_, _<_}
 use native.Mathlib.Omega.{arith}
@@ -331,6 +331,23 @@ through-points-wants-accepted claim =
       arith,
       claim (refused 255 (lit< tt)) linear-is-no-spline here (grey-toned straightCurve 0 255)
           (pt 255 255) (List·Memᴰ·tail (List·Memᴰ·head refl)) refl,
+      refused-output 255 (lit< tt),
+    )
+
+-- one list, one kind and one byte, and 255 is not 9
+pub no-dithering-wants-accepted :
+    ((a b : Call) → Accepted a → kindIn (a .given) ≡ kindIn (b .given) → (p q : Place)
+    → TonedAt (a .given) p → TonedAt (b .given) q
+    → listThatTones (a .given) p ≡ listThatTones (b .given) q
+    → input a p ≡ input b q → output a p ≡ output b q)
+    → ⊥
+unfolding answered
+no-dithering-wants-accepted claim =
+    omega (
+      arith,
+      claim white (refused 255 (lit< tt)) refl refl here here (grey-toned straightCurve 1 255)
+          (grey-toned straightCurve 0 255) refl refl,
+      white-output,
       refused-output 255 (lit< tt),
     )
 

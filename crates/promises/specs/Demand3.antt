@@ -47,8 +47,8 @@ pub near : (a : Call) → Accepted a → IsLinear (a .given) → (p : Place) →
     → (n d : ℕ) → OnLine (listThatTones (a .given) p) (input a p) n d → Nearest n d (output a p)
 near = Fact.toned-nearest
 
--- where that line is there, and has one height
-pub line : (a : Call) → Accepted a → (p : Place) → TonedAt (a .given) p → HasLine (listThatTones (a .given) p) (input a p)
+-- where that line is there, and has one height, in every run
+pub line : (a : Call) (p : Place) → HasLine (listThatTones (a .given) p) (input a p)
 line = Fact.line
 
 -- "Under any kind but the three splines, a toned byte equal to the x of a point in the list that tones it comes out as that point's y."

@@ -1,13 +1,13 @@
 -- What stands at each place of the outputs of a run that is not refused, and the clauses of the third demand that follow.
 use Prim.Native.Nat.{ℕ, _+_, _-_, _*_, _/_, _%_, _≤_, _<_}
 use native.Mathlib.Nat.{mod-lt, div-lt-iff-lt-mul, eq-zero-or-pos, mul-zero, div-add-mod'}
-use native.Mathlib.Decide.{ℕ-discrete}
+use native.Mathlib.Decide.{ℕ-discrete, decLt}
 use native.Mathlib.Omega.{arith}
 use mathlib.Core.Path.{_≡_, sym, ap, _∙_}
 use mathlib.Core.Logic.{⊎-elim}
 use mathlib.Core.Bool.{true, false, false≢true}
 use mathlib.Core.List.{List, _++_, List·Memᴰ}
-use lib.ListN.{length, getD, take, drop, length-append, length-drop}
+use lib.ListN.{length, getD, take, drop, length-append, length-drop, List·getD-eq-default}
 use lib.Seq.{take-append-seam, getD-append-add, getD-drop, length-take-le, getD-take, ext-getD}
 use borrow.Author.Tests.{lt-ltb}
 use Rattle.lists.specs.Tabulate.{filled, length-filled, getD-filled-rest}
@@ -108,7 +108,33 @@ along-row r p w = omega (arith, mul-room (p .column) (r .width) (bytesAPixel (r 
 whole-nearest : (b n d : ℕ) → Whole.Nearest b (frac n 0 d) → Nearest n d b
 whole-nearest b n d h = (omega (arith, h .0), omega (arith, h .1))
 
--- ---- one run
+-- ---- one run, refused or not
+module _ (c : Call) where
+  -- a place past the plane's end reads as 0
+  input-byte : (p : Place) → input c p < 256
+  input-byte p =
+      let plane = c .given .plane .bytes in
+      let k = inPlane (c .given) p in
+      elim (decLt k (length plane)) [
+        | yes inside ↦ c .contract .lent .plane k inside
+        | no past ↦
+            let none : getD plane k 0 ≡ 0 = List·getD-eq-default plane 0 (omega (arith, past)) in
+            omega (arith, none)
+      ]
+
+  list-bytes : (p : Place) → All Bytes (listThatTones (c .given) p)
+  list-bytes p = of-toning-list (All Bytes) (c .given .format) (viewOf (c .given .set)) (c .contract .lent .points) (p .channel)
+
+  pub line : (p : Place) → HasLine (listThatTones (c .given) p) (input c p)
+  line p =
+      let l = listThatTones (c .given) p in
+      record {
+        there = on-line l (list-bytes p) (input c p) (input-byte p);
+        wide = line-width l (list-bytes p) (input c p);
+        one-height = one-value l (list-bytes p) (input c p);
+      }
+
+-- ---- one run that is not refused
 module _ (c : Call) (ok : Accepted c) where
   passed-checks : Checked.Accepted (c .given)
   passed-checks = Checked.accepted-run (c .given) ok
@@ -144,16 +170,13 @@ module _ (c : Call) (ok : Accepted c) where
   output-holds p w =
       omega (arith, along-row (c .given) p w, mul-room (p .row) (c .given .height) (rowBytes (c .given)) (w .row), out-long, passed-checks .room)
 
-  input-byte : (p : Place) → Within (c .given) p → input c p < 256
-  input-byte p w = c .contract .lent .plane (inPlane (c .given) p) (plane-holds p w)
-
   -- a toned byte is its entry in the table of the list that tones it; alpha is copied
   toned-entry : (p : Place) → TonedAt (c .given) p → output c p ≡ entryOf (kindIn (c .given)) (listThatTones (c .given) p) (input c p)
   toned-entry p t =
       let r = c .given in
       at-place p (t .within)
       ∙ toned-through (keptOf (r .format)) (p .channel) (tablesIn r) (input c p) (t .not-alpha)
-      ∙ toning-table (r .format) (viewOf (r .set)) (p .channel) (input c p) (input-byte p (t .within))
+      ∙ toning-table (r .format) (viewOf (r .set)) (p .channel) (input c p) (input-byte c p)
 
   alpha-copied : (p : Place) → Within (c .given) p → IsAlpha (c .given) p → output c p ≡ input c p
   alpha-copied p w alpha =
@@ -216,16 +239,13 @@ module _ (c : Call) (ok : Accepted c) where
   }
 
   -- ---- the list that tones a byte: of bytes, rising, its own kept list
-  list-bytes : (p : Place) → All Bytes (listThatTones (c .given) p)
-  list-bytes p = of-toning-list (All Bytes) (c .given .format) (viewOf (c .given .set)) (c .contract .lent .points) (p .channel)
-
   list-legal : (p : Place) → LegalList (listThatTones (c .given) p)
   list-legal p =
       of-toning-list LegalList (c .given .format) (viewOf (c .given .set))
       (legal-lists (viewOf (c .given .set)) (passed-checks .legal)) (p .channel)
 
   list-kept : (p : Place) → kept (listThatTones (c .given) p) ≡ listThatTones (c .given) p
-  list-kept p = kept-rising (listThatTones (c .given) p) (list-bytes p) (list-legal p .rising)
+  list-kept p = kept-rising (listThatTones (c .given) p) (list-bytes c p) (list-legal p .rising)
 
   -- ---- nearest to the line, and through the points
   pub toned-nearest : IsLinear (c .given) → (p : Place) → TonedAt (c .given) p
@@ -235,23 +255,14 @@ module _ (c : Call) (ok : Accepted c) where
       let entry : output c p ≡ entryOf Linear l (input c p) = toned-entry p t ∙ rw linear in
       rw entry
       (whole-nearest (entryOf Linear l (input c p)) n d
-      (entry-near l (list-bytes p) (input c p) (input-byte p (t .within)) n d o))
-
-  pub line : (p : Place) → TonedAt (c .given) p → HasLine (listThatTones (c .given) p) (input c p)
-  line p t =
-      let l = listThatTones (c .given) p in
-      record {
-        there = on-line l (list-bytes p) (input c p) (input-byte p (t .within));
-        wide = line-width l (list-bytes p) (input c p);
-        one-height = one-value l (list-bytes p) (input c p);
-      }
+      (entry-near l (list-bytes c p) (input c p) (input-byte c p) n d o))
 
   pub through-point : (IsSpline (kindIn (c .given)) → ⊥) → (p : Place) → TonedAt (c .given) p
       → (q : Point) → List·Memᴰ q (listThatTones (c .given) p) → input c p ≡ q .x → output c p ≡ q .y
   through-point other p t q m e =
       let l = listThatTones (c .given) p in
       toned-entry p t ∙ ap (entryOf (kindIn (c .given)) l) e
-      ∙ Table.through-points l (list-bytes p) (kindIn (c .given)) (no-spline (kindIn (c .given)) other (c .contract .lent .tension)) q (rw (list-kept p) m)
+      ∙ Table.through-points l (list-bytes c p) (kindIn (c .given)) (no-spline (kindIn (c .given)) other (c .contract .lent .tension)) q (rw (list-kept p) m)
 
 -- ---- two runs
 entry-alike : {j k : CurveInterpolation} {l m : List Point} {x y : ℕ} → j ≡ k → l ≡ m → x ≡ y
@@ -296,8 +307,8 @@ module _ (a b : Call) (share : Share a b) (a-ok : Accepted a) (b-ok : Accepted b
       let of-a : output a p ≡ entryOf Linear l (input a p) = toned-entry a a-ok p t ∙ rw linear in
       let of-b : output b p ≡ entryOf Linear l (input b p) =
       toned-entry b b-ok p (same-toned a b share p t) ∙ rw (← same-list a b share p, ← share .set .kind, linear) in
-      rw (of-a, of-b) (entry-order l (list-bytes a a-ok p) (rw (list-kept a a-ok p) never-falls) (input a p) (input b p) below
-      (input-byte b b-ok p (same-place a b share p (t .within))))
+      rw (of-a, of-b) (entry-order l (list-bytes a p) (rw (list-kept a a-ok p) never-falls) (input a p) (input b p) below
+      (input-byte b p))
 
   -- the same byte in, the same byte out
   same-byte : (p : Place) → Within (a .given) p → input a p ≡ input b p → output a p ≡ output b p
