@@ -1,5 +1,6 @@
 -- Document 01's marked examples, as far as they speak of lists: P3's kept points, the knots of an
--- empty list (P1) and of (128,200) (P2). And the exact broken line of a list given unsorted.
+-- empty list (P1) and of (128,200) (P2). And the words of points, and the exact broken line of a
+-- list given unsorted, at their edges.
 use mathlib.Core.Path.{_≡_, refl}
 use mathlib.Core.List.{List, [], _∷_}
 use Prim.Native.Nat.{ℕ, zero, suc, _-_, _≤_, _<_}
@@ -8,6 +9,7 @@ use lib.Dec.{lit<, lit≤}
 use Rattle.points.specs.declared.Point.{Point}
 use Rattle.points.specs.Points.{pt, firstAt, keptBelow, kept}
 use Rattle.points.specs.Knots.{rest, knots, givenKnots, xOf, OnLine}
+use Rattle.points.specs.Order.{All, Bytes, Rising, NeverFalls}
 
 pub P3-kept : kept (pt 10 5 ∷ pt 10 9 ∷ pt 0 0 ∷ []) ≡ pt 0 0 ∷ pt 10 5 ∷ []
 unfolding kept keptBelow firstAt
@@ -20,6 +22,37 @@ P1-knots = refl
 pub P2-knots : knots (pt 128 200 ∷ []) ≡ pt 0 200 ∷ pt 128 200 ∷ pt 255 200 ∷ []
 unfolding rest knots
 P2-knots = refl
+
+-- a list that stands at 0 and at 255 has no further knots, one that stands next to them has two
+pub knots-at-edges :
+    (knots (pt 0 7 ∷ pt 255 9 ∷ []) ≡ pt 0 7 ∷ pt 255 9 ∷ [])
+    × (knots (pt 1 0 ∷ pt 254 255 ∷ []) ≡ pt 0 0 ∷ pt 1 0 ∷ pt 254 255 ∷ pt 255 255 ∷ [])
+unfolding rest knots
+knots-at-edges = (refl, refl)
+
+-- x and y are bytes, of every point
+pub bytes-at-edges :
+    All Bytes (pt 0 255 ∷ pt 255 0 ∷ []) × (All Bytes (pt 0 0 ∷ pt 256 0 ∷ []) → ⊥)
+    × (All Bytes (pt 0 256 ∷ pt 1 0 ∷ []) → ⊥)
+bytes-at-edges = (
+  ((lit< tt, lit< tt), ((lit< tt, lit< tt), tt)),
+  λ b. omega (arith, b .1 .0 .0),
+  λ b. omega (arith, b .0 .1),
+)
+
+-- x rises from each point to the next, and does not stay
+pub rising-at-edges :
+    Rising (pt 0 9 ∷ pt 1 0 ∷ pt 2 0 ∷ []) × (Rising (pt 0 0 ∷ pt 0 9 ∷ pt 1 9 ∷ []) → ⊥)
+    × (Rising (pt 0 0 ∷ pt 9 8 ∷ pt 9 9 ∷ []) → ⊥)
+rising-at-edges =
+    ((lit< tt, (lit< tt, tt)), λ r. omega (arith, r .0), λ r. omega (arith, r .1 .0))
+
+-- y may stay from each point to the next, and does not fall, by one even
+pub never-falls-at-edges :
+    NeverFalls (pt 9 4 ∷ pt 0 4 ∷ pt 0 5 ∷ []) × (NeverFalls (pt 0 4 ∷ pt 9 3 ∷ pt 9 4 ∷ []) → ⊥)
+    × (NeverFalls (pt 0 4 ∷ pt 9 5 ∷ pt 9 4 ∷ []) → ⊥)
+never-falls-at-edges =
+    ((lit≤ tt, (lit≤ tt, tt)), λ f. omega (arith, f .0), λ f. omega (arith, f .1 .0))
 
 -- the line of (2,1),(0,0) joins (0,0), (2,1) and (255,1): at 1 it is 1 / 2
 abbrev unsorted : List Point
