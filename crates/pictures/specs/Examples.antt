@@ -36,17 +36,17 @@ use Rattle.tables.specs.declared.CurveInterpolation.the-variants.{Linear}
 use Rattle.tables.specs.Tables.{unclampedAt, sampleOf, entryOf}
 use Rattle.sets.specs.declared.Curves.{Curves}
 use Rattle.sets.specs.declared.Channel.{Channel}
-use Rattle.sets.specs.Sets.{presentChannel}
+use Rattle.sets.specs.Sets.{presentChannel, viewOf}
 use Rattle.sets.specs.Examples.{stored, line, many, falling}
 use Rattle.rows.specs.Bytes.{toned, rowByte}
 use Rattle.rows.specs.Rows.{inRow, planeByte, tightByte, needed}
 use Rattle.formats.specs.declared.PixelFormat.{PixelFormat}
-use Rattle.formats.specs.declared.PixelFormat.the-variants.{Gray8, Cmyk, Yuv420P}
+use Rattle.formats.specs.declared.PixelFormat.the-variants.{Gray8, Rgb24, Cmyk, Yuv420P}
 use Rattle.formats.specs.Checks.{lutAnswer}
 use Rattle.formats.specs.Examples.{yuv, others}
 use Rattle.pictures.specs.declared.Toned.{Toned}
 use Rattle.pictures.specs.OneTable.{LutCall, tonedWithin}
-use Rattle.pictures.specs.Runs.{Run, SetCall, given, rowBytes, answer, first, chroma, stepOf}
+use Rattle.pictures.specs.Runs.{Run, SetCall, given, rowBytes, answer, tonedBy, first, chroma, stepOf}
 
 -- the set of this master alone
 abbrev absent : Channel
@@ -80,7 +80,7 @@ unfolding lutAnswered
 no-columns = refl
 
 -- ---- the one-table call on each format, with a table that adds 10: 2 columns and 2 rows, each
--- with its padding
+-- with its padding; and 3 columns and 1 row, so that width and height are told apart
 abbrev more : List ℕ
 more = tabulate 256 (λ x. x + 10)
 
@@ -92,15 +92,15 @@ firstRow a b =
 abbrev plane : List ℕ
 plane = firstRow 1 2
 
--- what the contract of the call says of it afterwards, by the row step
-abbrev left : ℕ → PixelFormat → List ℕ
-left step f =
-    cond (isDone (lutAnswer f 2 2 step (length plane))) (tonedWithin f 2 2 step more plane) plane
+-- what the contract of the call says of it afterwards, by width, height and row step
+abbrev left : ℕ → ℕ → ℕ → PixelFormat → List ℕ
+left w h step f =
+    cond (isDone (lutAnswer f w h step (length plane))) (tonedWithin f w h step more plane) plane
 
-pub left-is : (step : ℕ) (f : PixelFormat) (a : Answer) (after : List ℕ)
-    → LutCall f 2 2 step more plane a after → after ≡ left step f
-left-is step f a after c =
-    c .plane-is ∙ ap (λ b. cond (isDone b) (tonedWithin f 2 2 step more plane) plane) (c .answer-is)
+pub left-is : (w h step : ℕ) (f : PixelFormat) (a : Answer) (after : List ℕ)
+    → LutCall f w h step more plane a after → after ≡ left w h step f
+left-is w h step f a after c =
+    c .plane-is ∙ ap (λ b. cond (isDone b) (tonedWithin f w h step more plane) plane) (c .answer-is)
 
 -- "The one-table call tones all 12 formats within the plane: alpha of Ya8 and Rgba, chroma and
 -- padding unchanged; Cmyk tones all four inks"
@@ -125,14 +125,20 @@ inksLeft =
     11 ∷ 12 ∷ 13 ∷ 14 ∷ 15 ∷ 16 ∷ 17 ∷ 18 ∷ 9 ∷ 20 ∷ 21 ∷ 22 ∷ 23 ∷ 24 ∷ 25 ∷ 26 ∷ 27 ∷ 18 ∷ []
 
 pub toned-within :
-    (others (left 9)
+    (others (left 2 2 9)
     ≡ greyLeft ∷ greyAlphaLeft ∷ coloursLeft ∷ coloursAlphaLeft ∷ inksLeft ∷ inksLeft ∷ [])
-    × (yuv (left 9) ≡ replicate 6 greyLeft)
+    × (yuv (left 2 2 9) ≡ replicate 6 greyLeft)
 unfolding lutAnswered each tabulate planeByte inRow rowByte toned
 toned-within = (refl, refl)
 
+pub one-row-within :
+    left 3 1 9 Gray8
+    ≡ 11 ∷ 12 ∷ 13 ∷ 4 ∷ 5 ∷ 6 ∷ 7 ∷ 8 ∷ 9 ∷ 10 ∷ 11 ∷ 12 ∷ 13 ∷ 14 ∷ 15 ∷ 16 ∷ 17 ∷ 18 ∷ []
+unfolding lutAnswered each tabulate planeByte inRow rowByte toned
+one-row-within = refl
+
 -- "lent memory is unchanged": a step of 1 is below the row bytes of each format
-pub refused-plane : (others (left 1) ≡ replicate 6 plane) × (yuv (left 1) ≡ replicate 6 plane)
+pub refused-plane : (others (left 2 2 1) ≡ replicate 6 plane) × (yuv (left 2 2 1) ≡ replicate 6 plane)
 unfolding lutAnswered
 refused-plane = (refl, refl)
 
@@ -177,9 +183,22 @@ pub accepted : answer (run line Yuv420P 4 2 3 4 8 8 3) ≡ Done
 unfolding answered
 accepted = refl
 
+-- each chroma plane has an output of its own: a plane of 3 bytes does not fit into 2, though the
+-- other of 2 fits
+abbrev chromaRun : List ℕ → List ℕ → ℕ → ℕ → Run
+chromaRun cb cr outCb outCr =
+    given (alone line) Yuv420P 1 1 3 (5 ∷ []) 1 cb 1 cr 1 (0 ∷ []) (replicate outCb 0) (replicate outCr 0)
+
+pub chroma-apart :
+    (answer (chromaRun (1 ∷ 2 ∷ 3 ∷ []) (4 ∷ 5 ∷ []) 2 3) ≡ OutputTooSmall)
+    × (answer (chromaRun (1 ∷ 2 ∷ []) (3 ∷ 4 ∷ 5 ∷ []) 3 2) ≡ OutputTooSmall)
+    × (answer (chromaRun (1 ∷ 2 ∷ 3 ∷ []) (4 ∷ 5 ∷ []) 3 2) ≡ Done)
+unfolding answered
+chroma-apart = (refl, refl, refl)
+
 -- ---- the set call on each format: its master falls from 255 to 0, so that v gives 255 − v, red is
--- P2's (128,200), "all 200", blue is (128,100), and there is no green; 2 columns and 2 rows; the
--- outputs are all 99, and each holds more than is written
+-- P2's (128,200), "all 200", blue is (128,100), and there is no green; 2 columns and 2 rows, and 3
+-- columns and 1 row; the outputs are all 99, and each holds more than is written
 -- what an entry opens under Linear
 unfoldable entry : List Point → ℕ → ℕ
 unfolding entryOf sampleOf sampled unclampedAt heightAt pieceHeight kept keptBelow firstAt knots
@@ -196,9 +215,9 @@ redAndBlue = record {
   interpolation = Linear;
 }
 
-abbrev picture : ℕ → PixelFormat → Run
-picture step f =
-    given redAndBlue f 2 2 3 plane step (1 ∷ 2 ∷ 3 ∷ []) 7 (4 ∷ 5 ∷ []) 8
+abbrev picture : ℕ → ℕ → ℕ → PixelFormat → Run
+picture w h step f =
+    given redAndBlue f w h 3 plane step (1 ∷ 2 ∷ 3 ∷ []) 7 (4 ∷ 5 ∷ []) 8
     (replicate 17 99) (replicate 4 99) (replicate 3 99)
 
 -- what the contract of the call says of the outputs afterwards, and of the steps handed back
@@ -241,15 +260,30 @@ coloursAlphaWritten =
     ∷ replicate 4 99 ∷ replicate 3 99 ∷ (8 ∷ 0 ∷ 0 ∷ []) ∷ []
 
 pub toned-by-set :
-    (others (λ f. written (picture 9 f))
+    (others (λ f. written (picture 2 2 9 f))
     ≡ greyWritten ∷ unchanged ∷ coloursWritten ∷ coloursAlphaWritten ∷ unchanged ∷ unchanged ∷ [])
-    × (yuv (λ f. written (picture 9 f)) ≡ replicate 6 yuvWritten)
+    × (yuv (λ f. written (picture 2 2 9 f)) ≡ replicate 6 yuvWritten)
 unfolding answered entry first chroma tightByte rowByte toned
 toned-by-set = (refl, refl)
 
+pub one-row-by-set : written (picture 3 1 9 Yuv420P)
+    ≡ (254 ∷ 253 ∷ 252 ∷ replicate 14 99) ∷ (1 ∷ 2 ∷ 3 ∷ 99 ∷ []) ∷ (4 ∷ 5 ∷ 99 ∷ [])
+    ∷ (3 ∷ 7 ∷ 8 ∷ []) ∷ []
+unfolding answered entry first chroma tightByte rowByte toned
+one-row-by-set = refl
+
+-- "In Rgb24 and Rgba the list that tones a byte is its colour's where present; in every other case
+-- it is the master's"
+pub toning-lists :
+    (tonedBy Rgb24 (viewOf redAndBlue) 0 ≡ pt 128 200 ∷ [])
+    × (tonedBy Rgb24 (viewOf redAndBlue) 1 ≡ pt 0 255 ∷ pt 255 0 ∷ [])
+    × (tonedBy Rgb24 (viewOf redAndBlue) 2 ≡ pt 128 100 ∷ [])
+    × (tonedBy Gray8 (viewOf redAndBlue) 0 ≡ pt 0 255 ∷ pt 255 0 ∷ [])
+toning-lists = (refl, refl, refl, refl)
+
 -- a step of 1 is below the row bytes of each format that is not refused before
-pub refused-by-set : (others (λ f. written (picture 1 f)) ≡ replicate 6 unchanged)
-    × (yuv (λ f. written (picture 1 f)) ≡ replicate 6 unchanged)
+pub refused-by-set : (others (λ f. written (picture 2 2 1 f)) ≡ replicate 6 unchanged)
+    × (yuv (λ f. written (picture 2 2 1 f)) ≡ replicate 6 unchanged)
 unfolding answered first chroma
 refused-by-set = (refl, refl)
 
@@ -258,12 +292,12 @@ refused-by-set = (refl, refl)
 pub first-row-within : (a : Answer) → LutCall Gray8 2 2 9 more plane a (firstRow 11 12) → ⊥
 unfolding lutAnswered each tabulate planeByte inRow rowByte toned
 first-row-within a c =
-    let left = left-is 9 Gray8 a (firstRow 11 12) c in
+    let left = left-is 2 2 9 Gray8 a (firstRow 11 12) c in
     let copied : _≡_ {A = ℕ} 10 20 = ap (λ (l : List ℕ). getD l 9 0) left in
     omega (arith, copied)
 
 pub first-row-by-set : (t : Toned) (cb cr : List ℕ)
-    → SetCall (picture 9 Gray8) t (254 ∷ 253 ∷ 10 ∷ 11 ∷ replicate 13 99) cb cr → ⊥
+    → SetCall (picture 2 2 9 Gray8) t (254 ∷ 253 ∷ 10 ∷ 11 ∷ replicate 13 99) cb cr → ⊥
 unfolding answered entry first tightByte rowByte toned
 first-row-by-set t cb cr c =
     let copied : _≡_ {A = ℕ} 10 245 = ap (λ (l : List ℕ). getD l 2 0) (c .out-is) in
@@ -273,11 +307,11 @@ first-row-by-set t cb cr c =
 pub copied-within : (a : Answer) → LutCall Gray8 2 2 9 more plane a plane → ⊥
 unfolding lutAnswered each tabulate planeByte inRow rowByte toned
 copied-within a c =
-    let copied : _≡_ {A = ℕ} 1 11 = ap (λ (l : List ℕ). getD l 0 0) (left-is 9 Gray8 a plane c) in
+    let copied : _≡_ {A = ℕ} 1 11 = ap (λ (l : List ℕ). getD l 0 0) (left-is 2 2 9 Gray8 a plane c) in
     omega (arith, copied)
 
 pub copied-by-set : (t : Toned) (cb cr : List ℕ)
-    → SetCall (picture 9 Gray8) t (1 ∷ 2 ∷ 10 ∷ 11 ∷ replicate 13 99) cb cr → ⊥
+    → SetCall (picture 2 2 9 Gray8) t (1 ∷ 2 ∷ 10 ∷ 11 ∷ replicate 13 99) cb cr → ⊥
 unfolding answered entry first tightByte rowByte toned
 copied-by-set t cb cr c =
     let copied : _≡_ {A = ℕ} 1 254 = ap (λ (l : List ℕ). getD l 0 0) (c .out-is) in
@@ -285,7 +319,7 @@ copied-by-set t cb cr c =
 
 -- "a call that answers 13 on sufficient space, or some number always"
 pub not-always-refused : (a : Answer) (after : List ℕ) (t : Toned) (out cb cr : List ℕ)
-    → LutCall Gray8 2 2 9 more plane a after → SetCall (picture 9 Gray8) t out cb cr
+    → LutCall Gray8 2 2 9 more plane a after → SetCall (picture 2 2 9 Gray8) t out cb cr
     → (a ≡ Done) × (t .answer ≡ Done)
 unfolding answered lutAnswered
 not-always-refused a after t out cb cr c d = (c .answer-is, d .answer-is)
