@@ -6,6 +6,7 @@
 -- Given has what the three share, Line the exact broken line at any position, BrokenLine that it has one height.
 -- Below them, of knots in rows: StraightLaws and ListLaws of straight pieces; CubicLaws of cubic ones, whose tangents are finite: HermiteKinds, from the bounds in Sizes,
 -- SlopeBounds, MonotoneBounds, RootBounds, AlphaBounds and CubicBounds.
+-- ThomasBounds: the unknowns of the splines' systems are finite.
 pub mod BrokenLine
 pub mod Sizes
 pub mod SlopeBounds
@@ -13,6 +14,7 @@ pub mod MonotoneBounds
 pub mod RootBounds
 pub mod AlphaBounds
 pub mod CubicBounds
+pub mod ThomasBounds
 pub mod CubicLaws
 pub mod StraightLaws
 pub mod ListLaws

@@ -1,0 +1,337 @@
+-- The Thomas solve of the splines' systems does not overflow. On the diagonal a row of an inner
+-- knot has twice the sum of what is beside it, so a swept row has the bound of the one before it.
+-- Only the last row may be larger, once. Segments are less than 256 wide.
+use mathlib.Core.Path.{_≡_, sym}
+use mathlib.Core.Logic.{inl}
+use mathlib.Core.Bool.{Bool, true, false}
+use Prim.Native.Nat.{ℕ, zero, suc, _+_, _-_, _*_, _/_, _^_, _≤_, _<_, zero-le}
+use native.Mathlib.Decide.{ℕ-discrete}
+use native.Mathlib.Nat.{le-trans, le-of-eq, lt-of-lt-of-le, lt-of-not-le, not-le-of-lt, ne-of-gt}
+use native.Mathlib.Nat.{zero-add, mul-le-mul, mul-le-mul-left, mul-le-mul-right}
+use native.Mathlib.Nat.{le-of-mul-le-mul-right, div-mul-le-self, lt-div-mul-add}
+use native.Mathlib.Omega.{arith}
+use borrow.Author.Tests.{ne-eqb}
+use lib.Dec.{lit<, lit≤}
+use lib.Pow.{pow-add, pow-pos, pow-mono, shl-lt}
+use lib.Ieee.{Float, nan, inf, fin, binary32, round, lt}
+use lib.Ieee.Positive.{den, den-pos}
+use Rattle.floats.specs.Notation.{_⊖_, _⊗_}
+use Rattle.floats.specs.Value.{Is, top, bot, own, size-is, absolute}
+use Rattle.floats.specs.Round.{Rounds, over, under}
+use Rattle.floats.specs.Ops.{sub-rounds}
+use Rattle.floats.specs.Exact.{Rep, rep-dyadic}
+use Rattle.floats.specs.Bound.{AtMost, AtLeast, at-most-is, at-most-more, at-most-cond}
+use Rattle.floats.specs.Bound.{round-at-least, at-most-sub, at-most-mul, at-most-div}
+use Rattle.single.specs.Constants.{𝟎, 𝟏, pico, 𝟎-is, 𝟏-is}
+use Rattle.single.specs.Rules.{guardedQuotient}
+use Rattle.spline.specs.declared.Row.{Row}
+use Rattle.spline.specs.declared.Swept.{Swept}
+use Rattle.spline.specs.Thomas.{inverse, scaled, sweep, sweptRow, backward, substituted, solution}
+
+-- a swept row that cannot grow
+pub record Steady (s : Swept) : Type 0 where
+  pub above : AtMost 1 1 (s .above)
+  pub right : AtMost (2 ^ 42) 1 (s .right)
+
+-- the last row's right-hand side may be larger, once
+pub record Bounded (s : Swept) : Type 0 where
+  pub above : AtMost 1 1 (s .above)
+  pub right : AtMost (2 ^ 58) 1 (s .right)
+
+pub steady-bounded : {s : Swept} → Steady s → Bounded s
+steady-bounded h =
+    record { above = h .above; right = at-most-more (2 ^ 58) 1 (lit< tt) (lit≤ tt) (h .right) }
+
+-- ---- whole numbers
+whole-most : (x : Float) {n : ℕ} → Is x n 0 1 → AtMost n 1 x
+whole-most x {n} i = at-most-is x n 0 1 n (lit< tt) i (inl (sym (zero-add n)))
+
+whole-least : (x : Float) {n : ℕ} → Is x n 0 1 → AtLeast n 1 x
+whole-least x {n} i =
+    let size = size-is x n 0 1 n i (inl (sym (zero-add n))) in
+    record { fin = i .0; unit = lit< tt; least = le-of-eq (sym size) }
+
+rep-whole : (a : ℕ) → a < 2 ^ 24 → Rep binary32 a 1
+rep-whole a s = rep-dyadic a 0 (lit≤ tt) s
+
+-- the format holds a number of 24 digits times a power of two
+rep-times : (a k : ℕ) → a < 2 ^ 24 → k ≤ 104 → Rep binary32 (a * 2 ^ k) 1
+rep-times a k s h =
+    let room : 24 + (k + 149) ≤ 277 = omega arith in
+    record {
+      q = a;
+      j = k + 149;
+      small = s;
+      fine = lt-of-lt-of-le (shl-lt 24 (k + 149) s) (pow-mono room);
+      same = rw (pow-add 2 k 149) (same (2 ^ k) (2 ^ 149));
+    }
+  where
+    same : (b u : ℕ) → a * b * u ≡ a * (b * u) * 1
+    same b u = omega arith
+
+mul-most : {a b r : ℕ} {x y : Float} → Rep binary32 r 1 → AtMost a 1 x → AtMost b 1 y → a * b ≤ r
+    → AtMost r 1 (x ⊗ y)
+mul-most {r = r} rep h g l = at-most-mul binary32 r 1 (lit< tt) rep h g (omega arith)
+
+sub-most : {a b r : ℕ} {x y : Float} → Rep binary32 r 1 → AtMost a 1 x → AtMost b 1 y → a + b ≤ r
+    → AtMost r 1 (x ⊖ y)
+sub-most {r = r} rep h g l = at-most-sub binary32 r 1 (lit< tt) rep h g (omega arith)
+
+-- ---- a difference from below: n less what is at most a in size
+top-most : {a : ℕ} (x : Float) → AtMost a 1 x → top x ≤ a * den x
+top-most nan h = absurd (h .fin)
+top-most (inf s) h = absurd (h .fin)
+top-most (fin true m e) h = zero-le
+top-most (fin false m e) h = omega (arith, h .most)
+
+sub-least : (x : Float) {y : Float} {n a : ℕ} (b : ℕ) → b + a ≤ n → n + a < 2 ^ 24 → Is x n 0 1
+    → AtMost a 1 y → AtLeast b 1 (x ⊖ y)
+sub-least x {y} {n} {a} b l s i h =
+    let y-is = own y (h .fin) in
+    go (sub-rounds binary32 x y n 0 1 (top y) (bot y) (den y) (lit< tt) (den-pos y) i y-is)
+  where
+    u : ℕ
+    u = 1 * den y
+
+    least : (t : Bool) (c : ℕ) → x ⊖ y ≡ round binary32 t c u → b * u ≤ c → AtLeast b 1 (x ⊖ y)
+    least t c z g =
+        let f = sub-most (rep-whole (n + a) s) (whole-most x i) h (omega arith) .fin in
+        let U : 0 < u = omega (arith, den-pos y) in
+        let rep = rep-whole b (omega arith) in
+        rw z (round-at-least binary32 t c u b 1 U (lit< tt) rep (omega arith) (rw z at f))
+
+    go : Rounds binary32 (x ⊖ y) (n * den y + bot y * 1) (0 * den y + top y * 1) u
+        → AtLeast b 1 (x ⊖ y)
+    go (over c e z) = least false c z (omega (arith, mul-le-mul-right (den y) l, top-most y h))
+    go (under c e z) = least true c z (omega (arith, mul-le-mul-right (den y) l, top-most y h))
+
+-- ---- the inverse of a pivot
+-- r / 2 ^ j is a value of the format, at least 1 / n, and hardly more
+record Inverse (n j r : ℕ) : Type 0 where
+  pos : 0 < n
+  fine : j ≤ 149
+  small : r < 2 ^ 24
+  least : 2 ^ j ≤ r * n
+  most : r * n ≤ 2 ^ j + n
+
+inverse-of : (j n : ℕ) → j ≤ 149 → 0 < n → 2 ^ j + n < 2 ^ 24 * n → Inverse n j (2 ^ j / n + 1)
+inverse-of j n J N s =
+    let low = lt-div-mul-add {a = 2 ^ j} N in
+    let high = div-mul-le-self (2 ^ j) n in
+    let few = small (2 ^ j / n) (2 ^ j) (2 ^ 24) high s in
+    record { pos = N; fine = J; small = few; least = omega arith; most = omega arith }
+  where
+    small : (q u t : ℕ) → q * n ≤ u → u + n < t * n → q + 1 < t
+    small q u t h k =
+        lt-of-not-le (λ (l : t ≤ q + 1). not-le-of-lt k (omega (arith, mul-le-mul-right n l)))
+
+-- where the guard's test holds, the inverse is 0, which is no larger
+inverse-most : {n j r : ℕ} (x : Float) → Inverse n j r → AtLeast n 1 x
+    → AtMost r (2 ^ j) (inverse x)
+unfolding guardedQuotient
+inverse-most {n} {j} {r} x v h =
+    let u = 2 ^ j in
+    let rep = rep-dyadic r j (v .fine) (v .small) in
+    let one = whole-most 𝟏 𝟏-is in
+    at-most-cond (lt (absolute x) pico)
+    (at-most-more r u (pow-pos j) (omega arith) (whole-most 𝟎 𝟎-is))
+    (at-most-div binary32 r u (pow-pos j) rep one h (v .pos) (omega (arith, v .least)))
+
+-- ---- rows over their pivots
+-- above the diagonal is at most 1, and on the right-hand side at most t * 2 ^ 41
+record Over (t : ℕ) (s : Swept) : Type 0 where
+  above : AtMost 1 1 (s .above)
+  right : AtMost (t * 2 ^ 41) 1 (s .right)
+
+steady : {s : Swept} → Over 2 s → Steady s
+steady h = record { above = h .above; right = h .right }
+
+bounded : {s : Swept} → Over (2 ^ 17) s → Bounded s
+bounded h = record { above = h .above; right = h .right }
+
+-- where the pivot is at least n, c at most a and d at most b * 2 ^ 41
+scaled-most : {n j r a : ℕ} (b t : ℕ) {pivot c d : Float} → t < 2 ^ 24 → Inverse n j r
+    → AtLeast n 1 pivot → AtMost a 1 c → AtMost (b * 2 ^ 41) 1 d → a * r ≤ 2 ^ j
+    → b * r ≤ t * 2 ^ j → Over t (scaled pivot c d)
+unfolding scaled
+scaled-most {n} {j} {r} {a} b t {pivot} few v h c d l m =
+    let i = inverse-most pivot v h in
+    let one = rep-whole 1 (lit< tt) in
+    let rep = rep-times t 41 few (lit≤ tt) in
+    record {
+      above = at-most-mul binary32 1 1 (lit< tt) one c i (omega arith);
+      right = at-most-mul binary32 (t * 2 ^ 41) 1 (lit< tt) rep d i (many (2 ^ 41) (2 ^ j) m);
+    }
+  where
+    many : (w u : ℕ) → b * r ≤ t * u → b * w * r * 1 ≤ t * w * (1 * u)
+    many w u h = omega (arith, mul-le-mul-right w h)
+
+-- the first row, where the inverse is at most 2
+first-most : {n j r c : ℕ} (row : Row) (s : Swept) → Inverse n j r → 23 ≤ j → Is (row .b) n 0 1
+    → AtMost c 1 (row .c) → AtMost (2 ^ 41) 1 (row .d) → c * r ≤ 2 ^ j → Steady (sweep 0 s row)
+unfolding sweep
+first-most {j = j} row s v J b c d l =
+    steady
+    (scaled-most 1 2 (lit< tt) v (whole-least (row .b) b) c d l
+    (omega (arith, v .small, pow-mono {i = 23} {j = j} J)))
+
+-- a later row, whose pivot is at least b - a
+later-most : {a b c n j r : ℕ} (t k : ℕ) {s : Swept} (row : Row) → t < 2 ^ 24 → Inverse n j r
+    → Steady s → AtMost a 1 (row .a) → Is (row .b) b 0 1 → AtMost c 1 (row .c)
+    → AtMost (2 ^ 41) 1 (row .d) → n + a ≤ b → b + a < 2 ^ 24 → c * r ≤ 2 ^ j
+    → (2 * a + 1) * r ≤ t * 2 ^ j → Over t (sweep (suc k) s row)
+unfolding sweep
+later-most {a} {n = n} t k row few v h ia ib ic id l m e f =
+    let below = mul-most (rep-whole a (omega arith)) ia (h .above) (omega arith) in
+    let twice = rep-times (2 * a) 41 (omega arith) (lit≤ tt) in
+    let more = rep-times (2 * a + 1) 41 (omega (arith, v .pos)) (lit≤ tt) in
+    let right = sub-most more id (mul-most twice ia (h .right) (omega arith)) (omega arith) in
+    rw (ne-eqb (suc k) 0 (ne-of-gt (omega arith)))
+    (scaled-most (2 * a + 1) t few v (sub-least (row .b) n l m ib below) ic right e f)
+
+-- ---- r / u is the inverse of n, as `Inverse` has it
+-- a * r / u is at most 1, where a is less than n by no less than f
+times-most : (a f n r u : ℕ) → a + f ≤ n → n ≤ f * r → r * n ≤ u + n → a * r ≤ u
+times-most a f n r u h g k = omega (arith, mul-le-mul-right r h)
+
+-- r is at least k, where n is at most m
+times-least : (k m n r u : ℕ) → 0 < m → k * m ≤ u → n ≤ m → u ≤ r * n → k ≤ r
+times-least k m n r u M h g l =
+    le-of-mul-le-mul-right {k = m} (le-trans h (le-trans l (mul-le-mul-left r g))) M
+
+-- where n is a sum of a few widths, a is less than c * n, and c is at most 2
+small : (n : ℕ) → 0 < n → Inverse n 23 (2 ^ 23 / n + 1)
+small n N = inverse-of 23 n (lit≤ tt) N (omega arith)
+
+small-most : {n r : ℕ} (a c : ℕ) → c ≤ 2 → a < c * n → n ≤ 1020 → Inverse n 23 r
+    → a * r ≤ c * 2 ^ 23
+small-most {n} {r} a c C l m v =
+    let many = times-least 2040 1020 n r (2 ^ 23) (lit< tt) (lit≤ tt) m (v .least) in
+    times-most a 1 (c * n) r (c * 2 ^ 23) (omega arith) (omega (arith, mul-le-mul-right n C))
+    (omega (arith, mul-le-mul-left c (v .most)))
+
+small-first : {n q : ℕ} (r : Row) (s : Swept) → 0 < n → n ≤ 1020 → q < n → Is (r .b) n 0 1
+    → Is (r .c) q 0 1 → AtMost (2 ^ 41) 1 (r .d) → Steady (sweep 0 s r)
+small-first {n} {q} r s N m l b c d =
+    let v = small n N in
+    let above = small-most q 1 (lit≤ tt) (omega arith) m v in
+    first-most r s v (lit≤ tt) b (whole-most (r .c) c) d above
+
+-- ---- inner knots
+-- the row of an inner knot between segments p and q wide, whole numbers
+pub record InnerRow (p q : ℕ) (r : Row) : Type 0 where
+  pub a : Is (r .a) p 0 1
+  pub b : Is (r .b) (2 * (p + q)) 0 1
+  pub c : Is (r .c) q 0 1
+  pub d : AtMost (2 ^ 41) 1 (r .d)
+
+pub inner-first : {p q : ℕ} {r : Row} (s : Swept) → 0 < p → p < 256 → 0 < q → q < 256
+    → InnerRow p q r → Steady (sweep 0 s r)
+inner-first {r = r} s P p< Q q< i =
+    small-first r s (omega arith) (omega arith) (omega arith) (i .b) (i .c) (i .d)
+
+pub inner-next : {p q : ℕ} (k : ℕ) {s : Swept} {r : Row} → 0 < p → p < 256 → 0 < q → q < 256
+    → InnerRow p q r → Steady s → Steady (sweep (suc k) s r)
+inner-next {p} {q} k {r = r} P p< Q q< i h =
+    let v = small (p + 2 * q) (omega arith) in
+    let above = small-most q 1 (lit≤ tt) (omega arith) (omega arith) v in
+    let right = small-most (2 * p + 1) 2 (lit≤ tt) (omega arith) (omega arith) v in
+    steady
+    (later-most 2 k r (lit< tt) v h (whole-most (r .a) (i .a)) (i .b) (whole-most (r .c) (i .c))
+    (i .d) (omega arith) (omega arith) above right)
+
+-- ---- slopes given
+pub clamped-first : {q : ℕ} (r : Row) (s : Swept) → 0 < q → q < 256 → Is (r .b) (2 * q) 0 1
+    → Is (r .c) q 0 1 → AtMost (2 ^ 41) 1 (r .d) → Steady (sweep 0 s r)
+clamped-first r s Q q< b c d = small-first r s (omega arith) (omega arith) (omega arith) b c d
+
+-- in a last row a rough bound of the inverse will do, 1 / 2 ^ j
+last-most : {a b : ℕ} (j k : ℕ) {s : Swept} (r : Row) → j ≤ 149 → Steady s → AtMost a 1 (r .a)
+    → Is (r .b) b 0 1 → Is (r .c) 0 0 1 → AtMost (2 ^ 41) 1 (r .d) → 2 ^ j + a ≤ b → b + a < 2 ^ 24
+    → 2 * a + 1 ≤ 2 ^ 17 * 2 ^ j → Bounded (sweep (suc k) s r)
+last-most j k r J h a b c d l m f =
+    let P = pow-pos j in
+    let v : Inverse (2 ^ j) j 1 =
+    record { pos = P; fine = J; small = lit< tt; least = omega arith; most = omega arith } in
+    let zero = whole-most (r .c) c in
+    bounded (later-most (2 ^ 17) k r (lit< tt) v h a b zero d l m (omega arith) (omega arith))
+
+pub clamped-last : {p : ℕ} (k : ℕ) {s : Swept} (r : Row) → 0 < p → p < 256 → Is (r .a) p 0 1
+    → Is (r .b) (2 * p) 0 1 → Is (r .c) 0 0 1 → AtMost (2 ^ 41) 1 (r .d) → Steady s
+    → Bounded (sweep (suc k) s r)
+clamped-last k r P p< a b c d h =
+    last-most 0 k r (lit≤ tt) h (whole-most (r .a) a) b c d (omega arith) (omega arith)
+    (omega arith)
+
+-- ---- not-a-knot, with |g - h| written g - h + (h - g)
+-- the diagonal, where v is the sum of both widths and one of them
+diagonal : (w v : ℕ) → 2 ≤ w → w ≤ 510 → w < v → v < w + 256 → (6 ≤ w * v) × (w * v ≤ 390150)
+diagonal w v a b l m =
+    (mul-le-mul {n₁ = 2} {m₁ = 3} a (omega arith), mul-le-mul {n₂ = 510} {m₂ = 765} b (omega arith))
+
+-- e is |g - h|, and f what it lacks to h + 2 * g
+free-most : (h g e f r u : ℕ) → e + f ≤ h + 2 * g → h + 2 * g ≤ f * r
+    → r * ((h + g) * (h + 2 * g)) ≤ u + (h + g) * (h + 2 * g) → e * (g + h) * r ≤ u
+free-most h g e f r u s l m =
+    let w = g + h in
+    times-most (e * w) (f * w) ((h + g) * (h + 2 * g)) r u (omega (arith, mul-le-mul-right w s))
+    (omega (arith, mul-le-mul-right w l)) m
+
+pub free-first : {h g : ℕ} (r : Row) (s : Swept) → 0 < h → h < 256 → 0 < g → g < 256
+    → Is (r .b) ((h + g) * (h + 2 * g)) 0 1 → AtMost ((g - h + (h - g)) * (g + h)) 1 (r .c)
+    → AtMost (2 ^ 41) 1 (r .d) → Steady (sweep 0 s r)
+free-first {h} {g} r s H h< G g< b c d =
+    let v = h + 2 * g in
+    let n = (h + g) * v in
+    let i = 2 ^ 26 / n + 1 in
+    let e = g - h + (h - g) in
+    let f = v - e in
+    let size = diagonal (h + g) v (omega arith) (omega arith) (omega arith) (omega arith) in
+    let o = inverse-of 26 n (lit≤ tt) (omega (arith, size .0)) (omega (arith, size .0)) in
+    let many = times-least 86 390150 n i (2 ^ 26) (lit< tt) (lit≤ tt) (size .1) (o .least) in
+    let near : v ≤ f * 86 = omega arith in
+    first-most r s o (lit≤ tt) b c d
+    (free-most h g e f i (2 ^ 26) (omega arith) (le-trans near (mul-le-mul-left f many)) (o .most))
+
+-- e is |h - g|
+free-least : (h g e : ℕ) → 0 < h → h < 256 → 0 < g → g < 256 → e ≤ 254 → e < 2 * h + g
+    → (2 + e * (h + g) ≤ (h + g) * (2 * h + g)) × (e * (h + g) ≤ 129540)
+free-least h g e H h< G g< m l =
+    (omega (arith, mul-le-mul-right (h + g) l), mul-le-mul {n₂ = 254} {m₂ = 510} m (omega arith))
+
+pub free-last : {h g : ℕ} (k : ℕ) {s : Swept} (r : Row) → 0 < h → h < 256 → 0 < g → g < 256
+    → AtMost ((h - g + (g - h)) * (h + g)) 1 (r .a) → Is (r .b) ((h + g) * (2 * h + g)) 0 1
+    → Is (r .c) 0 0 1 → AtMost (2 ^ 41) 1 (r .d) → Steady s → Bounded (sweep (suc k) s r)
+free-last {h} {g} k r H h< G g< a b c d i =
+    let v = 2 * h + g in
+    let size = diagonal (h + g) v (omega arith) (omega arith) (omega arith) (omega arith) in
+    let rest = free-least h g (h - g + (g - h)) H h< G g< (omega arith) (omega arith) in
+    last-most 1 k r (lit≤ tt) i a b c d (rest .0) (omega (arith, size .1, rest .1))
+    (omega (arith, rest .1))
+
+-- ---- back substitution adds at most 2 ^ 58 for each unknown
+module _ (s : ℕ → Swept) (m : ℕ) (few : m ≤ 66) (all : (k : ℕ) → k < m → Bounded (s k)) where
+  backward-most : (j : ℕ) → j ≤ m → AtMost (j * 2 ^ 58) 1 (backward s m j)
+  unfolding backward
+  backward-most zero l = whole-most 𝟎 𝟎-is
+  backward-most (suc j) l =
+      let row = all (m - suc j) (omega arith) in
+      let next = backward-most j (omega arith) in
+      let rep = rep-times j 58 (omega arith) (lit≤ tt) in
+      let more = rep-times (suc j) 58 (omega arith) (lit≤ tt) in
+      sub-most more (row .right) (mul-most rep (row .above) next (omega arith)) (omega arith)
+
+pub solution-most : (rows : ℕ → Row) (m : ℕ) → m ≤ 66
+    → ((k : ℕ) → k + 1 < m → Steady (sweptRow rows k))
+    → ((k : ℕ) → k + 1 ≡ m → Bounded (sweptRow rows k))
+    → (k : ℕ) → k < m → AtMost (2 ^ 65) 1 (solution rows m k)
+unfolding solution substituted
+solution-most rows m few inner last k l =
+    let most = backward-most (sweptRow rows) m few all (m - k) (omega arith) in
+    at-most-more (2 ^ 65) 1 (lit< tt) (omega arith) most
+  where
+    all : (i : ℕ) → i < m → Bounded (sweptRow rows i)
+    all i h = elim (ℕ-discrete (i + 1) m) [
+      | yes e ↦ last i e
+      | no more ↦ steady-bounded (inner i (omega arith))
+    ]
