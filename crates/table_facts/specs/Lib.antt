@@ -1,12 +1,13 @@
 -- The facts about the tables of a given list, said of the definitions that the contracts of `tables` cite, for every list of byte points in any order.
--- Through: under the seven kinds that are no splines every sample is finite, and one at a kept
+-- Through: every sample is finite, and under the seven kinds that are no splines one at a kept
 -- point's x is its y; Missed: not under NotAKnotCubic. Near and Ordered, of Linear: how near a sample
 -- and an entry are to the exact broken line, and that a table never falls where no point is lower
 -- than the one before it.
 -- Given has what the three share, Line the exact broken line at any position, BrokenLine that it has one height.
 -- Below them, of knots in rows: StraightLaws and ListLaws of straight pieces; CubicLaws of cubic ones, whose tangents are finite: HermiteKinds, from the bounds in Sizes,
--- SlopeBounds, MonotoneBounds, RootBounds, AlphaBounds and CubicBounds.
--- ThomasBounds: the unknowns of the splines' systems are finite.
+-- SlopeBounds, MonotoneBounds, RootBounds, AlphaBounds and CubicBounds. Of splines: SplineBounds,
+-- that their second derivatives are finite, from ThomasBounds, and SplinePieces, that their pieces
+-- are.
 pub mod BrokenLine
 pub mod Sizes
 pub mod SlopeBounds
@@ -14,8 +15,10 @@ pub mod MonotoneBounds
 pub mod RootBounds
 pub mod AlphaBounds
 pub mod CubicBounds
-pub mod ThomasBounds
 pub mod CubicLaws
+pub mod ThomasBounds
+pub mod SplineBounds
+pub mod SplinePieces
 pub mod StraightLaws
 pub mod ListLaws
 pub mod HermiteKinds

@@ -310,7 +310,7 @@ free-last {h} {g} k r H h< G g< a b c d i =
     (omega (arith, rest .1))
 
 -- ---- back substitution adds at most 2 ^ 58 for each unknown
-module _ (s : ℕ → Swept) (m : ℕ) (few : m ≤ 66) (all : (k : ℕ) → k < m → Bounded (s k)) where
+module _ (s : ℕ → Swept) (m : ℕ) (few : m ≤ 256) (all : (k : ℕ) → k < m → Bounded (s k)) where
   backward-most : (j : ℕ) → j ≤ m → AtMost (j * 2 ^ 58) 1 (backward s m j)
   unfolding backward
   backward-most zero l = whole-most 𝟎 𝟎-is
@@ -321,14 +321,14 @@ module _ (s : ℕ → Swept) (m : ℕ) (few : m ≤ 66) (all : (k : ℕ) → k <
       let more = rep-times (suc j) 58 (omega arith) (lit≤ tt) in
       sub-most more (row .right) (mul-most rep (row .above) next (omega arith)) (omega arith)
 
-pub solution-most : (rows : ℕ → Row) (m : ℕ) → m ≤ 66
+pub solution-most : (rows : ℕ → Row) (m : ℕ) → m ≤ 256
     → ((k : ℕ) → k + 1 < m → Steady (sweptRow rows k))
     → ((k : ℕ) → k + 1 ≡ m → Bounded (sweptRow rows k))
-    → (k : ℕ) → k < m → AtMost (2 ^ 65) 1 (solution rows m k)
+    → (k : ℕ) → k < m → AtMost (2 ^ 66) 1 (solution rows m k)
 unfolding solution substituted
 solution-most rows m few inner last k l =
     let most = backward-most (sweptRow rows) m few all (m - k) (omega arith) in
-    at-most-more (2 ^ 65) 1 (lit< tt) (omega arith) most
+    at-most-more (2 ^ 66) 1 (lit< tt) (omega arith) most
   where
     all : (i : ℕ) → i < m → Bounded (sweptRow rows i)
     all i h = elim (ℕ-discrete (i + 1) m) [

@@ -1,0 +1,113 @@
+-- The piece of a spline is finite at every position, where its second derivatives are at most
+-- 2 ^ 225 units; and how large the slopes of a clamped curve are.
+use mathlib.Core.Path.{sym}
+use mathlib.Core.Logic.{inr}
+use mathlib.Core.Bool.{true}
+use mathlib.Core.List.{List}
+use Prim.Native.Nat.{ℕ, suc, _+_, _*_, _^_, _≤_, _<_}
+use native.Mathlib.Nat.{le-trans, zero-add, mul-le-mul-right}
+use native.Mathlib.Omega.{arith}
+use lib.Dec.{lit<, lit≤}
+use lib.IntN.{ℤ, pos, negsuc}
+use lib.Signed.{mag}
+use lib.Ieee.{Float, binary32, round, ofInt}
+use lib.Ieee.Back.{round-whole}
+use lib.Ieee.Positive.{den, den-pos}
+use Rattle.floats.specs.Notation.{_⊖_, _⊗_}
+use Rattle.floats.specs.Value.{top, is-of-le, is-of-neg}
+use Rattle.floats.specs.Order.{finite-between}
+use Rattle.floats.specs.Small.{whole-mul}
+use Rattle.floats.specs.Within.{Within, Beyond, widen, within-is, within-cond}
+use Rattle.floats.specs.Within.{within-add, within-sub, within-mul, within-div}
+use Rattle.single.specs.Constants.{𝟎, 𝟐, 𝟔, 𝟐𝟓𝟓, 𝟐𝟓𝟔, 𝟎-is, 𝟐-is, 𝟔-is, 𝟐𝟓𝟓-is, 𝟐𝟓𝟔-is}
+use Rattle.single.specs.RuleLaws.{float-is}
+use Rattle.points.specs.declared.Knot.{Knot}
+use Rattle.points.specs.Knots.{knotAt, at, narrow}
+use Rattle.hermite.specs.Segments.{segment}
+use Rattle.hermite.specs.Rows.{Rows}
+use Rattle.hermite.specs.SegmentLaws.{InRange, nonnegative-is, segment-holds}
+use Rattle.spline.specs.Segments.{between, segmentAt, firstCoefficient, splinePiece, slopeOf}
+use Rattle.table_facts.specs.Sizes.{most-within, two-within, Small, knot-small}
+use Rattle.table_facts.specs.SplineBounds.{least-beyond, Sized, width-within, sized}
+
+-- ---- slopes
+-- a signed number of 16 bits
+signed-within : (q : ℤ) → mag q < 32768 → Within (ofInt binary32 q) 164
+unfolding ofInt
+signed-within (pos n) h =
+    most-within (ofInt binary32 (pos n)) n 1 32768 164 (lit< tt) (float-is n (omega arith))
+    (omega arith) (lit≤ tt)
+signed-within (negsuc n) h =
+    let z = round binary32 true (suc n) 1 in
+    let i = is-of-neg z (suc n) 1 (round-whole binary32 true (suc n) (omega arith)) in
+    within-is z 0 (suc n) 1 (suc n) 164 (lit< tt) i (inr (sym (zero-add (suc n))))
+    (le-trans (mul-le-mul-right (2 ^ 149) h) (lit≤ tt))
+
+-- no larger than what is known of a secant
+pub slope-of-within : (q : ℤ) → mag q < 32768 → Within (slopeOf q) 178
+unfolding slopeOf
+slope-of-within q h =
+    let divisor = least-beyond 𝟐𝟓𝟔 256 1 256 157 (lit< tt) 𝟐𝟓𝟔-is (lit≤ tt) (lit≤ tt) in
+    within-div 178 (signed-within q h) divisor (lit≤ tt) (lit≤ tt)
+
+-- ---- a piece
+two-beyond : Beyond 𝟐 150
+two-beyond = least-beyond 𝟐 2 1 2 150 (lit< tt) 𝟐-is (lit≤ tt) (lit≤ tt)
+
+six-beyond : Beyond 𝟔 151
+six-beyond = least-beyond 𝟔 6 1 6 151 (lit< tt) 𝟔-is (lit≤ tt) (lit≤ tt)
+
+-- t is x less the x of the knot a
+piece-within : {a : Knot} (b : Knot) {ma mb x : Float} {w : ℕ} → Small a → Sized (between a b) w
+    → Within ma 225 → Within mb 225 → Within x 157 → Within (splinePiece a b ma mb x) 252
+unfolding splinePiece firstCoefficient between
+piece-within {a} b {w = w} p z va vb vx =
+    let t = within-sub vx (p .across) (lit< tt) in
+    let twice = within-mul 226 two-within va (lit≤ tt) (lit≤ tt) in
+    let sum = within-add twice (widen 226 vb (lit≤ tt)) (lit< tt) in
+    let bend = within-mul 235 (width-within z) sum (lit≤ tt) (lit≤ tt) in
+    let sixth = within-div 233 bend six-beyond (lit≤ tt) (lit≤ tt) in
+    let c1 = within-sub (widen 233 (z .secant) (lit≤ tt)) sixth (lit< tt) in
+    let c2 = within-div 224 va two-beyond (lit≤ tt) (lit≤ tt) in
+    let six-widths = whole-mul 𝟔 (b .x ⊖ a .x) 6 w (omega (arith, z .byte)) 𝟔-is (z .width) in
+    let divisor : Beyond (𝟔 ⊗ (b .x ⊖ a .x)) 151 =
+    least-beyond _ (6 * w) 1 6 151 (lit< tt) six-widths (omega (arith, z .some)) (lit≤ tt) in
+    let c3 = within-div 224 (within-sub vb va (lit< tt)) divisor (lit≤ tt) (lit≤ tt) in
+    let first = within-mul 243 c1 t (lit≤ tt) (lit≤ tt) in
+    let second = within-mul 244 (within-mul 233 c2 t (lit≤ tt) (lit≤ tt)) t (lit≤ tt) (lit≤ tt) in
+    let c3-square = within-mul 242 (within-mul 233 c3 t (lit≤ tt) (lit≤ tt)) t (lit≤ tt) (lit≤ tt) in
+    let third = within-mul 251 c3-square t (lit≤ tt) (lit≤ tt) in
+    let two-terms = within-add (widen 243 (p .high) (lit≤ tt)) first (lit< tt) in
+    let three-terms = widen 251 (within-add two-terms second (lit< tt)) (lit≤ tt) in
+    within-cond (narrow (a .x) (b .x)) (widen 252 (p .high) (lit≤ tt))
+    (within-add three-terms third (lit< tt))
+
+-- ---- a curve
+-- where it has a height
+range-within : (x : Float) → InRange x → Within x 157
+range-within x p =
+    let f = finite-between 𝟎 x 𝟐𝟓𝟓 (𝟎-is .0) (𝟐𝟓𝟓-is .0) (p .low) (p .high) in
+    let i = nonnegative-is x f (p .low) in
+    let most = is-of-le x 𝟐𝟓𝟓 (top x) 0 (den x) 255 0 1 i 𝟐𝟓𝟓-is (p .high) in
+    most-within x (top x) (den x) (256 * den x) 157 (den-pos x) i (omega (arith, most))
+    (units (den x) (2 ^ 149))
+  where
+    units : (d u : ℕ) → 256 * d * u ≤ 256 * u * d
+    units d u = omega arith
+
+-- the piece in the segment of x, with the second derivatives of the row ms
+abbrev pub splineAt : List Float → List Float → List Float → ℕ → Float → Float
+splineAt xs ys ms n x =
+    let s = segment xs n x in
+    splinePiece (knotAt xs ys s) (knotAt xs ys (s + 1)) (at ms s) (at ms (s + 1)) x
+
+module _ {xs ys : List Float} {n : ℕ} {a h : ℕ → ℕ} (r : Rows xs ys n a h) (ms : List Float)
+    (tame : (i : ℕ) → i < n → Within (at ms i) 225) where
+  pub spline-within : (x : Float) → InRange x → Within (splineAt xs ys ms n x) 252
+  unfolding segmentAt
+  spline-within x p =
+      let s = segment xs n x in
+      let k = segment-holds r x (p .low) (p .high) in
+      let l : s < n = omega (arith, k .inside) in
+      piece-within (knotAt xs ys (s + 1)) (knot-small r s l) (sized r s (k .inside)) (tame s l)
+      (tame (s + 1) (k .inside)) (range-within x p)
