@@ -1,13 +1,15 @@
 -- The second demand. "Everywhere else tables and pictures equal the Rust's, bit for bit": that is a matter of running both, and docs/DIFFERENCES.md has what
 -- was compared. What is proved stands here: each call that answers 0 gives what its definition says, the definitions are those of the published
 -- curves, and records survive writing then reading. What a call gives with another number is the first demand's.
-use Prim.Native.Nat.{ℕ, _≤_}
+use Prim.Native.Nat.{ℕ, _≤_, _<_}
 use mathlib.Core.Path.{_≡_}
 use mathlib.Core.Bool.{true, false}
 use mathlib.Core.List.{List, [], _∷_, _++_}
 use lib.IntN.{ℤ}
 use lib.ListN.{length, take, drop}
+use lib.Dec.{T}
 use lib.Ieee.{Float}
+use lib.Ieee.Scale.{finite}
 use Rattle.lists.specs.Tabulate.{tabulate}
 use Rattle.answers.specs.declared.Answer.{Answer}
 use Rattle.answers.specs.declared.Answer.the-variants.{Done, OutputTooSmall}
@@ -18,6 +20,7 @@ use Rattle.points.specs.declared.Point.{Point}
 use Rattle.points.specs.declared.Curve.{Curve}
 use Rattle.points.specs.declared.Sorted.{Sorted}
 use Rattle.points.specs.Points.{listOf, kept, SortedFrom}
+use Rattle.points.specs.Order.{All, Bytes}
 use Rattle.hermite.specs.CatmullRom.{catmullRomAt, cardinalAt}
 use Rattle.monotone.specs.Monotone.{monotoneAt}
 use Rattle.chords.specs.Alpha.{alphaAt}
@@ -39,6 +42,7 @@ use Rattle.tables.specs.declared.CurveInterpolation.the-variants.{
 }
 use Rattle.tables.specs.declared.Lut.{Lut}
 use Rattle.tables.specs.Tables.{sampleOf, entryOf, BuiltTable, BuiltLut}
+use Rattle.table_facts.specs.Through.{byte-sample-finite, fine-sample-finite}
 use Rattle.lookup.specs.Lookup.{looked, LookupCall}
 use Rattle.sets.specs.declared.Curves.{Curves}
 use Rattle.sets.specs.Sets.{View, viewOf, setAnswer}
@@ -61,6 +65,7 @@ use Rattle.pictures.specs.OneTable.{LutCall}
 use Rattle.promises.specs.Words.{Call, Accepted, ExactPicture}
 use Rattle.promises.specs.Results.{straightly, hermiteBy, splineBy, ExactPlane}
 use Rattle.promises.specs.ResultFacts as Fact
+use Rattle.promises.specs.ListFacts.{of-its-bits}
 use Rattle.promises.specs.Drawn.{drawn}
 use Rattle.promises.specs.PictureFacts.{as-defined}
 
@@ -79,6 +84,15 @@ build-lut = Fact.build-lut-builds
 pub build-table : {given : Curve} {kind : CurveInterpolation} {old new : List Float} {r : Answer} → BuiltTable given kind old r new → numberOf r ≡ 0
     → new ≡ tabulate (length old) (λ v. sampleOf kind (listOf given) (length old) v)
 build-table = Fact.build-table-builds
+
+-- each of these samples is finite, under every kind, and so none is NaN: of 256, and of 4,096
+pub samples-finite : (kind : CurveInterpolation) → LegalKind kind
+    → (l : List Point) → All Bytes l
+    → ((v : ℕ) → v < 256 → T (finite (sampleOf kind l 256 v)))
+    × ((v : ℕ) → v < 4096 → T (finite (sampleOf kind l 4096 v)))
+samples-finite kind legal l bytes =
+    let bits = of-its-bits kind legal in
+    (byte-sample-finite l bytes kind bits, fine-sample-finite l bytes kind bits)
 
 -- `lookup`: each value replaced
 pub lookup : {table old new : List Float} {r : Answer} → LookupCall table old r new → numberOf r ≡ 0

@@ -21,10 +21,10 @@ use Rattle.tables.specs.declared.CurveInterpolation.the-variants.{
   NotAKnotCubic,
 }
 use Rattle.tables.specs.Tables.{entryOf}
-use Rattle.table_facts.specs.Through.{NoSpline}
+use Rattle.table_facts.specs.Through.{NoSpline, OfItsBits}
 use Rattle.sets.specs.declared.Colour.{Colour}
 use Rattle.sets.specs.declared.Colour.the-variants.{Red, Green, Blue}
-use Rattle.sets.specs.Carried.{carriedOf}
+use Rattle.sets.specs.Carried.{carriedOf, LegalKind}
 use Rattle.sets.specs.Sets.{View, colourOf, ownOrMaster}
 use Rattle.sets.specs.Legal.{LegalList, LegalColour, Legal}
 use Rattle.rows.specs.Bytes.{through}
@@ -83,3 +83,16 @@ no-spline ChordalCatmullRom other byte = tt
 no-spline (Cardinal q) other byte = byte
 no-spline (ClampedCubic start end) other byte = other (inr (inl refl))
 no-spline NotAKnotCubic other byte = other (inr (inr refl))
+
+-- a kind that code holds, in the words of the table facts
+pub of-its-bits : (k : CurveInterpolation) → LegalKind k → OfItsBits k
+of-its-bits Linear legal = tt
+of-its-bits CatmullRom legal = tt
+of-its-bits MonotoneCubic legal = tt
+of-its-bits MonotoneCubicBox legal = tt
+of-its-bits NaturalCubic legal = tt
+of-its-bits CentripetalCatmullRom legal = tt
+of-its-bits ChordalCatmullRom legal = tt
+of-its-bits (Cardinal q) legal = legal .tension
+of-its-bits (ClampedCubic start end) legal = (legal .start, legal .end)
+of-its-bits NotAKnotCubic legal = tt
