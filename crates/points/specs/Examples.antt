@@ -6,8 +6,10 @@ use mathlib.Core.List.{List, [], _∷_}
 use Prim.Native.Nat.{ℕ, zero, suc, _-_, _≤_, _<_}
 use native.Mathlib.Omega.{arith}
 use lib.Dec.{lit<, lit≤}
+use Rattle.answers.specs.declared.Answer.the-variants.{Done, PointCount}
+use Rattle.answers.specs.Checks.{firstRefusal}
 use Rattle.points.specs.declared.Point.{Point}
-use Rattle.points.specs.Points.{pt, firstAt, keptBelow, kept}
+use Rattle.points.specs.Points.{pt, straightCurve, countCheck, firstAt, keptBelow, kept}
 use Rattle.points.specs.Knots.{rest, knots, givenKnots, xOf, OnLine}
 use Rattle.points.specs.Order.{All, Bytes, Rising, NeverFalls}
 
@@ -22,6 +24,14 @@ P1-knots = refl
 pub P2-knots : knots (pt 128 200 ∷ []) ≡ pt 0 200 ∷ pt 128 200 ∷ pt 255 200 ∷ []
 unfolding rest knots
 P2-knots = refl
+
+-- "the straight curve", and at most 64 points
+pub straight : straightCurve ≡ pt 0 0 ∷ pt 255 255 ∷ []
+straight = refl
+
+pub count-at-edges :
+    (firstRefusal (countCheck 64 ∷ []) ≡ Done) × (firstRefusal (countCheck 65 ∷ []) ≡ PointCount)
+count-at-edges = (refl, refl)
 
 -- a list that stands at 0 and at 255 has no further knots, one that stands next to them has two
 pub knots-at-edges :
@@ -61,6 +71,18 @@ unsorted = pt 2 1 ∷ pt 0 0 ∷ []
 pub unsorted-line-at-1 : OnLine unsorted 1 1 2
 unfolding kept keptBelow firstAt rest knots
 unsorted-line-at-1 = record {
+  i = 0;
+  inside = lit< tt;
+  left = lit≤ tt;
+  right = lit≤ tt;
+  width = refl;
+  height = refl;
+}
+
+-- and that of (0,10),(255,20) is 3,060 / 255 at 51, which is 12
+pub slanting-line-at-51 : OnLine (pt 0 10 ∷ pt 255 20 ∷ []) 51 3060 255
+unfolding kept keptBelow firstAt rest knots
+slanting-line-at-51 = record {
   i = 0;
   inside = lit< tt;
   left = lit≤ tt;
