@@ -1,5 +1,7 @@
 #!/usr/bin/env python3
-"""Draws docs/toned.png: a small dark picture, and the same toned by the C program of bindings/c (`bindings/c/build` builds it)."""
+"""Draws docs/toned.png: a dark picture, and the same toned by the C program of bindings/c
+(`bindings/c/build` builds it).
+"""
 import math
 import pathlib
 import struct
@@ -8,26 +10,37 @@ import tempfile
 import zlib
 
 ROOT = pathlib.Path(__file__).resolve().parent.parent
-WIDTH, HEIGHT, GAP = 240, 160, 8
-# A record: master and blue stand, the kind is the default; the shadows go up, blue a little less.
+WIDTH, HEIGHT, GAP = 480, 320, 16
+# A record with master and blue, of the default kind: shadows go up, blue a little less.
 MASTER = [(0, 0), (24, 64), (64, 150), (160, 220), (255, 255)]
 BLUE = [(0, 6), (24, 58), (64, 136), (160, 206), (255, 246)]
 RECORD = bytes([0x09, len(MASTER), *sum(MASTER, ()), len(BLUE), *sum(BLUE, ())])
 
 
+def in_ellipse(x, y, across, down, wide, high):
+    return ((x - across) / wide) ** 2 + ((y - down) / high) ** 2 < 1
+
+
+def is_figure(x, y):
+    """Someone at the table: a head, a neck, shoulders."""
+    head = in_ellipse(x, y, 340, 122, 25, 32)
+    neck = abs(x - 340) < 12 and 140 < y < 178
+    shoulders = in_ellipse(x, y, 340, 262, 78, 90) and y <= 256
+    return head or neck or shoulders
+
+
 def pixel(x, y):
-    """A room at night: a window at the left, a figure in the dark at the right."""
-    light = 90 * math.exp(-((x - 60) ** 2 + (y - 50) ** 2) / 1800)
-    room = 9 + 10 * y / HEIGHT
-    if 34 < x < 86 and 22 < y < 84 and abs(x - 60) > 2 and abs(y - 53) > 2:
-        return 120 + x // 2, 128 + x // 2, 150 + y // 2
-    head = (x - 172) ** 2 + (y - 62) ** 2 < 15**2
-    body = y > 76 and abs(x - 172) < 12 + (y - 76) * 0.5 and y < 148
-    if head or body:
-        shade = room + 9 + 5 * math.cos((x - 150) / 9)
+    """A room at night: a window at the left, someone in the dark at the right, a table."""
+    light = 90 * math.exp(-((x - 120) ** 2 + (y - 100) ** 2) / 7200)
+    room = 9 + 5 * y / 160
+    if 68 < x < 172 and 44 < y < 168 and abs(x - 120) > 4 and abs(y - 106) > 4:
+        return 120 + x // 4, 128 + x // 4, 150 + y // 4
+    if is_figure(x, y):
+        shade = room + 9 + 5 * math.cos((x - 290) / 22)
         return int(shade + 8), int(shade + 3), int(shade)
-    floor = 7 if y > 128 else 0
-    return int(room + light * 0.9 + floor), int(room + light * 0.8 + floor), int(room + light + floor / 2)
+    table = 9 if y > 256 else 0
+    red, green, blue = light * 0.9 + 1.2 * table, light * 0.8 + table, light + table / 2
+    return int(room + red), int(room + green), int(room + blue)
 
 
 def toned(raster):
@@ -36,7 +49,8 @@ def toned(raster):
         folder = pathlib.Path(folder)
         (folder / "record").write_bytes(RECORD)
         (folder / "in.ppm").write_bytes(b"P6\n%d %d\n255\n" % (WIDTH, HEIGHT) + raster)
-        subprocess.run([ROOT / "target/c/tonepicture", folder / "record", folder / "in.ppm", folder / "out.ppm"], check=True)
+        files = [folder / name for name in ("record", "in.ppm", "out.ppm")]
+        subprocess.run([ROOT / "target/c/tonepicture", *files], check=True)
         return (folder / "out.ppm").read_bytes()[-len(raster) :]
 
 
@@ -46,7 +60,9 @@ def chunk(name, data):
 
 def png(width, height, rows):
     header = struct.pack(">IIBBBBB", width, height, 8, 2, 0, 0, 0)
-    return b"\x89PNG\r\n\x1a\n" + chunk(b"IHDR", header) + chunk(b"IDAT", zlib.compress(b"".join(b"\0" + r for r in rows), 9)) + chunk(b"IEND", b"")
+    pixels = zlib.compress(b"".join(b"\0" + row for row in rows), 9)
+    chunks = chunk(b"IHDR", header) + chunk(b"IDAT", pixels) + chunk(b"IEND", b"")
+    return b"\x89PNG\r\n\x1a\n" + chunks
 
 
 def main():
@@ -54,7 +70,8 @@ def main():
     after = toned(before)
     row = 3 * WIDTH
     gap = b"\xff" * (3 * GAP)
-    rows = [before[y * row : (y + 1) * row] + gap + after[y * row : (y + 1) * row] for y in range(HEIGHT)]
+    starts = range(0, HEIGHT * row, row)
+    rows = [before[start : start + row] + gap + after[start : start + row] for start in starts]
     (ROOT / "docs" / "toned.png").write_bytes(png(2 * WIDTH + GAP, HEIGHT, rows))
 
 
