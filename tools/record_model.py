@@ -1,19 +1,22 @@
 #!/usr/bin/env python3
-"""A second reading of document 01's "Stored record" and "When a call says no", and the lists of records that hold the engine to it.
+"""A second reading of document 01's "Stored record" and "When a call says no", and the lists of
+records that hold the engine to it.
 
-The model was written from document 01 alone, without a look at the engine's code: `read` and `write` below follow the paper's
-sentences, which stand beside them. From it come the two files of the test program crates/replay_records:
+The model was written from document 01 alone, without a look at the engine's code: `read` and
+`write` below follow the paper's sentences, which stand beside them. From it come the two files of
+the test program crates/replay_records:
 
   stdin   the stored list: for each record its length in two bytes, low byte first, then its bytes
-  stdout  what the program must print, a line for each record of the list and one for each map byte of the walk over all records of
-          up to two bytes
+  stdout  what the program must print, a line for each record of the list and one for each map byte
+          of the walk over all records of up to two bytes
 
-A record's line is its number in the list and its text (`text`). A walk's line has the text of the record that is the map byte alone, how often each
-answer 0 to 7 comes among the 256 records of two bytes, and a digest of their texts, so that the set and the written record of each are compared too.
+A record's line is its number in the list and its text (`text`). A walk's line has the text of the
+record that is the map byte alone, how often each answer 0 to 7 comes among the 256 records of two
+bytes, and a digest of their texts, so that the set and the written record of each are compared too.
 The program reads each written record again and marks it if that is not the same set.
 
   python3 tools/record_model.py            writes both files anew, the same on every machine
-  python3 tools/record_model.py --check    says whether they are as the model has them, and changes nothing
+  python3 tools/record_model.py --check    says whether they are as the model has them
 """
 
 import sys
@@ -25,16 +28,19 @@ DEFAULT = 2
 
 
 class Set:
-    """A master, three optional colours and a kind with what it carries: nothing, a tension or two slopes."""
+    """A master, three optional colours and a kind with what it carries: nothing, a tension or two
+    slopes.
+    """
 
     def __init__(self, master=(), colours=(None, None, None), kind=DEFAULT, carried=()):
-        self.master, self.colours, self.kind, self.carried = list(master), list(colours), kind, list(carried)
+        self.master, self.colours = list(master), list(colours)
+        self.kind, self.carried = kind, list(carried)
 
     def members(self):
         return self.master, self.colours, self.kind, self.carried
 
 
-# ---- reading ----------------------------------------------------------------------------------------------------------
+# ---- reading -------------------------------------------------------------------------------------
 
 
 class Refused(Exception):
@@ -82,7 +88,8 @@ def fields(record):
     # "1. Bit 7 of a record's map stands."
     if stands[7]:
         raise Refused(1)
-    # "Bit 0 off: empty master; 1 to 3 off: absent colour, a count of 0 being an empty one; 4 off: default kind."
+    # "Bit 0 off: empty master; 1 to 3 off: absent colour, a count of 0 being an empty one; 4 off:
+    # default kind."
     result = Set()
     if stands[0]:
         result.master = read_list(record, True)
@@ -94,7 +101,8 @@ def fields(record):
         (result.kind,) = record.take(1)
         if result.kind >= KINDS:
             raise Refused(5)
-    # "then 6, and only then 2 for tension or slopes"; "Bit 5 stands with Cardinal only, bit 6 with ClampedCubic only, and always then."
+    # "then 6, and only then 2 for tension or slopes"; "Bit 5 stands with Cardinal only, bit 6 with
+    # ClampedCubic only, and always then."
     if stands[5] != (result.kind == CARDINAL) or stands[6] != (result.kind == CLAMPED):
         raise Refused(6)
     if stands[5]:
@@ -109,14 +117,16 @@ def fields(record):
 
 
 def read(record):
-    """The answer, and the set; beside a refusal "the empty set of the default kind, without colours"."""
+    """The answer, and the set; beside a refusal "the empty set of the default kind, without
+    colours".
+    """
     try:
         return 0, fields(Bytes(record))
     except Refused as refused:
         return refused.number, Set()
 
 
-# ---- writing ----------------------------------------------------------------------------------------------------------
+# ---- writing -------------------------------------------------------------------------------------
 
 
 def list_field(points):
@@ -124,19 +134,29 @@ def list_field(points):
 
 
 def carried_field(kind, carried):
-    return [byte for slope in carried for byte in (slope % 256, slope % 65536 // 256)] if kind == CLAMPED else list(carried)
+    return (
+        [byte for slope in carried for byte in (slope % 256, slope % 65536 // 256)]
+        if kind == CLAMPED
+        else list(carried)
+    )
 
 
 def record_of(bits_and_fields):
-    """A map of the bits that stand, then their fields in the bits' order. Also used with damaged fields."""
+    """A map of the bits that stand, then their fields in the bits' order. Also used with damaged
+    fields.
+    """
     bits = sum(1 << bit for bit, _ in bits_and_fields)
     return [bits] + [byte for _, field in sorted(bits_and_fields) for byte in field]
 
 
 def parts(s):
-    """The fields that the writer gives a set: no empty master, no absent colour, and "the kind left out when it is the default"."""
+    """The fields that the writer gives a set: no empty master, no absent colour, and "the kind left
+    out when it is the default".
+    """
     found = [(0, list_field(s.master))] if s.master else []
-    found += [(1 + i, list_field(colour)) for i, colour in enumerate(s.colours) if colour is not None]
+    found += [
+        (1 + i, list_field(colour)) for i, colour in enumerate(s.colours) if colour is not None
+    ]
     found += [(4, [s.kind])] if s.kind != DEFAULT else []
     found += [(5, carried_field(s.kind, s.carried))] if s.kind == CARDINAL else []
     found += [(6, carried_field(s.kind, s.carried))] if s.kind == CLAMPED else []
@@ -147,7 +167,7 @@ def write(s):
     return record_of(parts(s))
 
 
-# ---- what the program prints ------------------------------------------------------------------------------------------
+# ---- what the program prints ---------------------------------------------------------------------
 
 
 def hexadecimal(data):
@@ -155,13 +175,18 @@ def hexadecimal(data):
 
 
 def text(record):
-    """The answer's number, the set member by member, and unless it is refused the record that the writer makes of the set.
+    """The answer's number, the set member by member, and unless it is refused the record that the
+    writer makes of the set.
 
-    The set: M, R, G, B with the x and y of each point, `-` for an absent colour; K with the kind's number and the tension or the slopes.
+    The set: M, R, G, B with the x and y of each point, `-` for an absent colour; K with the kind's
+    number and the tension or the slopes.
     """
     answer, s = read(record)
     lists = zip("MRGB", [s.master] + s.colours)
-    words = ["%d" % answer] + [name + ("-" if points is None else hexadecimal(list_field(points)[1:])) for name, points in lists]
+    words = ["%d" % answer] + [
+        name + ("-" if points is None else hexadecimal(list_field(points)[1:]))
+        for name, points in lists
+    ]
     words += ["K%d" % s.kind] + ["%d" % number for number in s.carried]
     if answer:
         return " ".join(words)
@@ -185,11 +210,13 @@ def walk():
         yield "map %s: %s; %s %08x" % (hexadecimal([bits]), text([bits]), counts, digest(texts))
 
 
-# ---- the stored list --------------------------------------------------------------------------------------------------
+# ---- the stored list -----------------------------------------------------------------------------
 
 
 class Chance:
-    """Numbers that look like chance and are the same everywhere: xorshift of 32 bits (Marsaglia 2003)."""
+    """Numbers that look like chance and are the same everywhere: xorshift of 32 bits (Marsaglia
+    2003).
+    """
 
     def __init__(self, seed):
         self.state = seed
@@ -210,7 +237,9 @@ class Chance:
 
     def carried(self, kind):
         count = {CARDINAL: 1, CLAMPED: 2}.get(kind, 0)
-        return [self.below(256) if kind == CARDINAL else self.below(65536) - 32768 for _ in range(count)]
+        return [
+            self.below(256) if kind == CARDINAL else self.below(65536) - 32768 for _ in range(count)
+        ]
 
 
 STRAIGHT = [(0, 0), (255, 255)]
@@ -219,10 +248,13 @@ EDGE_TENSIONS = [0, 1, 127, 128, 254, 255]
 
 
 def good_sets(chance):
-    # every kind with every combination of colours, with and without a master; colours of no points among them
+    # every kind with every combination of colours, with and without a master; colours of no points
+    # among them
     for kind in range(KINDS):
         for present in range(8):
-            colours = [chance.points(chance.below(4)) if present >> i & 1 else None for i in range(3)]
+            colours = [
+                chance.points(chance.below(4)) if present >> i & 1 else None for i in range(3)
+            ]
             for n in (0, 1 + chance.below(5)):
                 yield Set(chance.points(n), colours, kind, chance.carried(kind))
     # one list at a time, and all four, of 63 and of 64 points: the last is the longest record
@@ -234,7 +266,10 @@ def good_sets(chance):
     # the ends of x, neighbouring x
     yield Set([(0, 255)])
     yield Set([(255, 0)])
-    yield Set([(x, 255 - x) for x in range(64)], [[(x, x) for x in range(192, 256)], [], [(127, 0), (128, 0)]])
+    yield Set(
+        [(x, 255 - x) for x in range(64)],
+        [[(x, x) for x in range(192, 256)], [], [(127, 0), (128, 0)]],
+    )
     for tension in EDGE_TENSIONS:
         yield Set(STRAIGHT, kind=CARDINAL, carried=[tension])
     for i, slope in enumerate(EDGE_SLOPES):
@@ -242,7 +277,9 @@ def good_sets(chance):
 
 
 def damaged_lists(chance):
-    """A list's bit, and lists that are refused with 3 or 4, or end too soon when the list is the last field."""
+    """A list's bit, and lists that are refused with 3 or 4, or end too soon when the list is the
+    last field.
+    """
     for bit in range(4):
         for count in (65, 66, 128, 255):
             yield bit, [count]
@@ -274,14 +311,22 @@ def damaged(chance, good):
         yield record_of(plain + [(4, [DEFAULT])]) + [DEFAULT]
     # 2 at every place: records with all fields, each with tension or slopes or neither
     for kind in (0, CARDINAL, CLAMPED):
-        whole = write(Set(chance.points(3), [chance.points(2), [], chance.points(1)], kind, chance.carried(kind)))
+        whole = write(
+            Set(
+                chance.points(3),
+                [chance.points(2), [], chance.points(1)],
+                kind,
+                chance.carried(kind),
+            )
+        )
         for n in range(len(whole) + 1):
             yield whole[:n]
     # 1 before everything else
     for record in [[], [0], [65], [1, 0, 0], [2, 5, 0, 5, 0]] + [write(s)[1:] for s in good[::12]]:
         yield [0x80 | chance.below(128)] + record
         yield [0x80] + record
-    # 3 and 4 in each list: as the last field; with good fields before; with a kind byte behind that would be 5
+    # 3 and 4 in each list: as the last field; with good fields before; with a kind byte behind that
+    # would be 5
     for bit, field in damaged_lists(chance):
         before = [(i, list_field(chance.points(1 + chance.below(3)))) for i in range(bit)]
         yield record_of([(bit, field)])
@@ -294,9 +339,17 @@ def damaged(chance, good):
         yield record_of([(first, [2, 7, 0, 6, 0]), (first + 1, [])])
     # 5: with and without bits 5 and 6, with and without what they would carry
     for kind in (10, 11, 16, 127, 128, 254, 255):
-        for carried in ([], [(5, [])], [(5, [9])], [(6, [])], [(6, [1, 2, 3, 4])], [(5, [9]), (6, [1, 2, 3, 4])]):
+        for carried in (
+            [],
+            [(5, [])],
+            [(5, [9])],
+            [(6, [])],
+            [(6, [1, 2, 3, 4])],
+            [(5, [9]), (6, [1, 2, 3, 4])],
+        ):
             yield record_of([(0, [1, 3, 4]), (4, [kind])] + carried)
-    # 6: every kind, and the kind left out, with each wrong pair of bits; whole, without the bytes, with bytes too many
+    # 6: every kind, and the kind left out, with each wrong pair of bits; whole, without the bytes,
+    # with bytes too many
     for kind in [None] + list(range(KINDS)):
         named = [] if kind is None else [(4, [kind])]
         for five in (False, True):
@@ -339,13 +392,22 @@ def main():
         "stdout": "".join(line + "\n" for line in lines).encode(),
     }
     if sys.argv[1:] == ["--check"]:
-        wrong = [name for name, data in files.items() if not (folder / name).is_file() or (folder / name).read_bytes() != data]
-        print("not as the model has them: " + ", ".join(wrong) if wrong else "as the model has them")
+        wrong = [
+            name
+            for name, data in files.items()
+            if not (folder / name).is_file() or (folder / name).read_bytes() != data
+        ]
+        print(
+            "not as the model has them: " + ", ".join(wrong) if wrong else "as the model has them"
+        )
         sys.exit(1 if wrong else 0)
     for name, data in files.items():
         (folder / name).write_bytes(data)
     counts = ", ".join("%d with %d" % (answers.count(n), n) for n in range(8))
-    print("%d records in the list: %s; the longest has %d bytes" % (len(records), counts, max(map(len, records))))
+    print(
+        "%d records in the list: %s; the longest has %d bytes"
+        % (len(records), counts, max(map(len, records)))
+    )
 
 
 if __name__ == "__main__":

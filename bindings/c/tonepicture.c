@@ -1,7 +1,8 @@
 /* Tones a picture by a record: tonepicture RECORD PICTURE OUT
  *
- * PICTURE is a binary PGM (P5, toned as Gray8) or PPM (P6, toned as Rgb24) of maxval 255, and OUT becomes the same with toned bytes.
- * Where the engine refuses, the program prints `refused N: words` to standard error and writes no OUT. After any failure its exit code is 1. */
+ * PICTURE is a binary PGM (P5, toned as Gray8) or PPM (P6, toned as Rgb24) of maxval 255, and OUT
+ * becomes the same with toned bytes. Where the engine refuses, the program prints
+ * `refused N: words` to standard error and writes no OUT. After any failure its exit code is 1. */
 #include <stdio.h>
 #include <stdlib.h>
 
@@ -41,7 +42,8 @@ static int read_file(const char *name, struct bytes *file)
     }
     file->data = malloc(room);
     file->length = 0;
-    while (file->data != NULL && (got = fread(file->data + file->length, 1, room - file->length, stream)) > 0) {
+    while (file->data != NULL
+           && (got = fread(file->data + file->length, 1, room - file->length, stream)) > 0) {
         file->length += got;
         if (file->length == room) {
             uint8_t *larger = room < LARGEST_FILE ? realloc(file->data, 2 * room) : NULL;
@@ -68,7 +70,8 @@ static int is_space(uint8_t c)
     return c == ' ' || (c >= '\t' && c <= '\r');
 }
 
-/* The next number of a header: white space and comments, from # to the end of the line, may stand before it. */
+/* The next number of a header: white space and comments, from # to the end of the line, may be
+ * before it. */
 static int read_number(const struct bytes *file, size_t *at, uint32_t *number)
 {
     size_t i = *at;
@@ -103,11 +106,13 @@ static int read_header(const char *name, const struct bytes *file, struct pictur
     size_t at = 2;
     uint32_t most;
 
-    if (file->length < 2 || file->data[0] != 'P' || (file->data[1] != '5' && file->data[1] != '6')) {
+    if (file->length < 2 || file->data[0] != 'P'
+        || (file->data[1] != '5' && file->data[1] != '6')) {
         return fail(name, "is neither a binary PGM (P5) nor a binary PPM (P6)");
     }
     picture->format = file->data[1] == '5' ? TONE_GRAY8 : TONE_RGB24;
-    if (!read_number(file, &at, &picture->width) || !read_number(file, &at, &picture->height) || !read_number(file, &at, &most)) {
+    if (!read_number(file, &at, &picture->width) || !read_number(file, &at, &picture->height)
+        || !read_number(file, &at, &most)) {
         return fail(name, "has no width, height and maxval in its header");
     }
     if (picture->width == 0 || picture->height == 0) {
@@ -124,7 +129,8 @@ static int read_header(const char *name, const struct bytes *file, struct pictur
     return 1;
 }
 
-/* The bytes of a toned raster; 1 for a picture larger than the engine takes, which it refuses before it looks at outputs. */
+/* The bytes of a toned raster; 1 for a picture larger than the engine takes, which it refuses
+ * before it looks at outputs. */
 static size_t toned_length(const struct picture *picture)
 {
     if (picture->width > TONE_LARGEST_SIDE || picture->height > TONE_LARGEST_SIDE) {
@@ -137,8 +143,10 @@ static int tone(const struct bytes *record, const struct picture *picture, struc
 {
     size_t step = (size_t)picture->width * (picture->format == TONE_RGB24 ? 3 : 1);
     uint8_t none = 0; /* what stands for chroma: not null, of length 0 */
-    uint8_t answer = tone_picture(record->data, record->length, picture->format, picture->width, picture->height, 1, picture->raster,
-                                  picture->raster_length, step, &none, 0, &none, 0, toned->data, toned->length, &none, 0, &none, 0);
+    uint8_t answer = tone_picture(record->data, record->length, picture->format, picture->width,
+                                  picture->height, 1, picture->raster, picture->raster_length, step,
+                                  &none, 0, &none, 0, toned->data, toned->length, &none, 0, &none,
+                                  0);
 
     if (answer != TONE_DONE) {
         fprintf(stderr, "refused %d: %s\n", answer, tone_refusal_text(answer));
@@ -154,8 +162,9 @@ static int write_picture(const char *name, const struct picture *picture, const 
     if (stream == NULL) {
         return fail(name, "cannot be opened");
     }
-    good = fprintf(stream, "P%d\n%lu %lu\n255\n", picture->format == TONE_GRAY8 ? 5 : 6, (unsigned long)picture->width,
-                   (unsigned long)picture->height) > 0;
+    good = fprintf(stream, "P%d\n%lu %lu\n255\n", picture->format == TONE_GRAY8 ? 5 : 6,
+                   (unsigned long)picture->width, (unsigned long)picture->height)
+           > 0;
     good = good && fwrite(toned->data, 1, toned->length, stream) == toned->length;
     good = fclose(stream) == 0 && good;
     return good ? 1 : fail(name, "cannot be written");
@@ -170,10 +179,12 @@ int main(int count, char **words)
     int good;
 
     if (count != 4) {
-        fprintf(stderr, "tonepicture RECORD PICTURE OUT: tones a binary PGM or PPM of maxval 255 by a record\n");
+        fprintf(stderr, "tonepicture RECORD PICTURE OUT: tones a binary PGM or PPM of maxval 255 "
+                        "by a record\n");
         return 1;
     }
-    good = read_file(words[1], &record) && read_file(words[2], &file) && read_header(words[2], &file, &picture);
+    good = read_file(words[1], &record) && read_file(words[2], &file)
+           && read_header(words[2], &file, &picture);
     if (good) {
         toned.length = toned_length(&picture);
         toned.data = malloc(toned.length);

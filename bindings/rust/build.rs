@@ -1,13 +1,16 @@
-//! Links the proved library and, where the original's text is at hand, makes the original's curve part compile.
+//! Links the proved library and, where the original's text is at hand, makes the
+//! original's curve part compile.
 //!
-//! It stops where the target is not x86-64 Linux, and where header, archive and crate are not of one version.
+//! It stops where the target is not x86-64 Linux, and where header, archive and
+//! crate are not of one version.
 //!
 //! | variable | meaning | without it |
 //! |---|---|---|
-//! | `TONE_ARCHIVE` | the static library to link | `rt staticlib tone_c` is run at the repository's root |
-//! | `TONE_ORIGINAL` | the folder with the original's `curves.rs` and `tonal_lut.rs` | `shared/docs/src` beside the repository |
+//! | `TONE_ARCHIVE` | the static library to link | `rt staticlib tone_c` is run |
+//! | `TONE_ORIGINAL` | the folder with `curves.rs` and `tonal_lut.rs` | `../shared/docs/src` |
 //!
-//! With the original there is the cfg `original`; without it the library and its tests build all the same.
+//! With the original there is the cfg `original`; without it the library and its
+//! tests build all the same.
 use std::env;
 use std::fs;
 use std::path::{Path, PathBuf};
@@ -36,7 +39,8 @@ fn main() {
     println!("cargo::rustc-link-search=native={}", archive.parent().unwrap().display());
     println!("cargo::rustc-link-lib=static=tone_c");
 
-    let original = env::var_os("TONE_ORIGINAL").map_or_else(|| here.join("../../../shared/docs/src"), PathBuf::from);
+    let original = env::var_os("TONE_ORIGINAL")
+        .map_or_else(|| here.join("../../../shared/docs/src"), PathBuf::from);
     let curves = original.join("curves.rs");
     println!("cargo::rerun-if-changed={}", curves.display());
     if curves.exists() {
@@ -55,8 +59,14 @@ fn archive(root: &Path) -> PathBuf {
     println!("cargo::rerun-if-changed={}", root.join("crates").display());
     println!("cargo::rerun-if-changed={}", root.join("crates.txt").display());
     let run = Command::new("rt").args(["staticlib", "tone_c"]).current_dir(root).output();
-    let run = run.unwrap_or_else(|e| panic!("rt, the Rattle toolchain, could not be run ({e}); name an archive by TONE_ARCHIVE"));
-    assert!(run.status.success(), "rt staticlib tone_c failed:\n{}", String::from_utf8_lossy(&run.stdout));
+    let run = run.unwrap_or_else(|e| {
+        panic!("rt, the Rattle toolchain, could not be run ({e}); name an archive by TONE_ARCHIVE")
+    });
+    assert!(
+        run.status.success(),
+        "rt staticlib tone_c failed:\n{}",
+        String::from_utf8_lossy(&run.stdout)
+    );
     root.join("target/staticlib/libtone_c.a")
 }
 
@@ -79,7 +89,10 @@ fn header_version(header: &Path) -> u32 {
 
 /// What the archive's `tone_version` answers: a program of one line is linked with it and run.
 fn archive_version(archive: &Path, out: &Path) -> u32 {
-    let source = "extern \"C\" { fn tone_version() -> u32; }\nfn main() { print!(\"{}\", unsafe { tone_version() }) }\n";
+    let source = concat!(
+        "extern \"C\" { fn tone_version() -> u32; }\n",
+        "fn main() { print!(\"{}\", unsafe { tone_version() }) }\n"
+    );
     write(out, "archive_version.rs", source);
     let program = out.join("archive_version");
     let mut rustc = Command::new(env::var_os("RUSTC").unwrap());
@@ -90,19 +103,27 @@ fn archive_version(archive: &Path, out: &Path) -> u32 {
     }
     let built = rustc.output().unwrap_or_else(|e| panic!("the compiler could not be run: {e}"));
     let said = String::from_utf8_lossy(&built.stderr);
-    assert!(built.status.success(), "{} has no tone_version, or cannot be linked:\n{said}", archive.display());
-    let run = Command::new(&program).output().unwrap_or_else(|e| panic!("{}: {e}", program.display()));
-    String::from_utf8_lossy(&run.stdout).parse().unwrap_or_else(|_| panic!("{} says no version", archive.display()))
+    assert!(
+        built.status.success(),
+        "{} has no tone_version, or cannot be linked:\n{said}",
+        archive.display()
+    );
+    let run =
+        Command::new(&program).output().unwrap_or_else(|e| panic!("{}: {e}", program.display()));
+    String::from_utf8_lossy(&run.stdout)
+        .parse()
+        .unwrap_or_else(|_| panic!("{} says no version", archive.display()))
 }
 
-/// Writes what `src/original.rs` includes: the curve part twice, as published and with the roots that document 01 asks for, its closure `lookup`
-/// as a function, and the one-table call.
+/// Writes what `src/original.rs` includes: the curve part twice, as published and with the roots
+/// that document 01 asks for, its closure `lookup` as a function, and the one-table call.
 fn generate(curves: &Path, tonal_lut: &Path, out: &Path) {
     let published = without_uses(&read(curves))
         .replace("oxideav_core::PixelFormat", "PixelFormat")
         .replace("crate::layout::", "layout::")
         .replace("crate::deep::", "deep::");
-    // document 01: "`powf(0.5)` has no fixed rounding: here it is the square root, `powf(1.0)` the chord"
+    // document 01: "`powf(0.5)` has no fixed rounding: here it is the square
+    // root, `powf(1.0)` the chord"
     let rooted = replaced_once(&published, "chord.powf(alpha)", "power(chord, alpha)");
     write(out, "curves.rs", &rooted);
     write(out, "curves_published.rs", &published);
@@ -110,13 +131,15 @@ fn generate(curves: &Path, tonal_lut: &Path, out: &Path) {
     write(out, "tonal_lut.rs", &without_uses(&read(tonal_lut)));
 }
 
-/// The text without its `use` lines, whose types `src/original.rs` stands in for, and without the comment at its head, which `include!` refuses.
+/// The text without its `use` lines, whose types `src/original.rs` stands in for, and without the
+/// comment at its head, which `include!` refuses.
 fn without_uses(text: &str) -> String {
     let kept = text.lines().filter(|l| !l.starts_with("use ") && !l.starts_with("//!"));
     kept.map(|l| format!("{l}\n")).collect()
 }
 
-/// `let NAME = |ARGUMENTS| -> RESULT { .. };` as `pub fn NAME(ARGUMENTS) -> RESULT { .. }`, with the constant that it reads.
+/// `let NAME = |ARGUMENTS| -> RESULT { .. };` as `pub fn NAME(ARGUMENTS) -> RESULT { .. }`, with
+/// the constant that it reads.
 fn closure_as_function(text: &str, name: &str, constant: &str) -> String {
     let start = format!("let {name} = |");
     let after = &text[find_once(text, &start) + start.len()..];
@@ -142,7 +165,11 @@ fn end_of_block(text: &str) -> usize {
 }
 
 fn find_once(text: &str, what: &str) -> usize {
-    assert_eq!(text.matches(what).count(), 1, "not the original expected: `{what}` does not stand there once");
+    assert_eq!(
+        text.matches(what).count(),
+        1,
+        "not the original expected: `{what}` does not stand there once"
+    );
     text.find(what).unwrap()
 }
 

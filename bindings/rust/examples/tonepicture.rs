@@ -1,7 +1,8 @@
 //! Tones a picture by a record: `cargo run --release --example tonepicture -- RECORD PICTURE OUT`
 //!
-//! PICTURE is a binary PGM (P5, toned as Gray8) or PPM (P6, toned as Rgb24) of maxval 255, and OUT becomes the same with toned bytes. Where the engine
-//! refuses, the program prints `refused N: words` to standard error and writes no OUT. The same program in C is `bindings/c/tonepicture.c`.
+//! PICTURE is a binary PGM (P5, toned as Gray8) or PPM (P6, toned as Rgb24) of maxval 255, and OUT
+//! becomes the same with toned bytes. Where the engine refuses, the program prints `refused N:
+//! words` to standard error and writes no OUT. The same program in C is `bindings/c/tonepicture.c`.
 use std::process::ExitCode;
 use std::{env, fs};
 use tone::{Format, Outputs, Planes};
@@ -17,7 +18,9 @@ struct Picture<'a> {
 fn main() -> ExitCode {
     let words: Vec<String> = env::args().skip(1).collect();
     let [record, picture, out] = &words[..] else {
-        eprintln!("tonepicture RECORD PICTURE OUT: tones a binary PGM or PPM of maxval 255 by a record");
+        eprintln!(
+            "tonepicture RECORD PICTURE OUT: tones a binary PGM or PPM of maxval 255 by a record"
+        );
         return ExitCode::FAILURE;
     };
     match run(record, picture, out) {
@@ -43,10 +46,18 @@ fn run(record: &str, picture: &str, out: &str) -> Result<(), String> {
 fn toned(record: &[u8], picture: &Picture) -> Result<Vec<u8>, tone::Refusal> {
     let row = picture.width as usize * picture.format.bytes_a_pixel();
     // a picture larger than the engine takes is refused before it looks at outputs
-    let size = if picture.width.max(picture.height) > 4096 { 0 } else { row * picture.height as usize };
+    let size =
+        if picture.width.max(picture.height) > 4096 { 0 } else { row * picture.height as usize };
     let mut toned = vec![0; size];
     let planes = Planes::one(picture.raster, row);
-    tone::picture(record, picture.format, picture.width, picture.height, planes, Outputs::one(&mut toned))?;
+    tone::picture(
+        record,
+        picture.format,
+        picture.width,
+        picture.height,
+        planes,
+        Outputs::one(&mut toned),
+    )?;
     Ok(toned)
 }
 
@@ -71,7 +82,8 @@ fn header(file: &[u8]) -> Result<Picture<'_>, &'static str> {
     }
 }
 
-/// The next number of a header: white space and comments, from # to the end of the line, may stand before it.
+/// The next number of a header: white space and comments, from # to the end of the
+/// line, may stand before it.
 fn number(rest: &mut &[u8]) -> Option<u32> {
     while let [first, behind @ ..] = *rest {
         *rest = match first {

@@ -1,4 +1,5 @@
-//! The exported functions, as `bindings/c/tone.h` declares and describes them. A slice passes as a pointer and a length.
+//! The exported functions, as `bindings/c/tone.h` declares and describes them. A slice passes
+//! as a pointer and a length.
 extern "C" {
     pub fn tone_version() -> u32;
     pub fn tone_table(
@@ -21,9 +22,21 @@ extern "C" {
         table: *mut f32,
         table_length: usize,
     ) -> u8;
-    pub fn tone_lookup(table: *const f32, table_length: usize, values: *mut f32, values_length: usize) -> u8;
-    pub fn tone_plane(table: *const [u8; 256], format: u8, width: u32, height: u32, plane: *mut u8, plane_length: usize, step: usize)
-        -> u8;
+    pub fn tone_lookup(
+        table: *const f32,
+        table_length: usize,
+        values: *mut f32,
+        values_length: usize,
+    ) -> u8;
+    pub fn tone_plane(
+        table: *const [u8; 256],
+        format: u8,
+        width: u32,
+        height: u32,
+        plane: *mut u8,
+        plane_length: usize,
+        step: usize,
+    ) -> u8;
     pub fn tone_picture(
         record: *const u8,
         record_length: usize,
@@ -45,6 +58,17 @@ extern "C" {
         out_v: *mut u8,
         out_v_length: usize,
     ) -> u8;
-    pub fn tone_record_table(record: *const u8, record_length: usize, table: *mut u8, table_length: usize) -> u8;
-    pub fn tone_record_copy(record: *const u8, record_length: usize, out: *mut u8, out_length: usize, written: *mut usize) -> u8;
+    pub fn tone_record_table(
+        record: *const u8,
+        record_length: usize,
+        table: *mut u8,
+        table_length: usize,
+    ) -> u8;
+    pub fn tone_record_copy(
+        record: *const u8,
+        record_length: usize,
+        out: *mut u8,
+        out_length: usize,
+        written: *mut usize,
+    ) -> u8;
 }

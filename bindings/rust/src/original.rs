@@ -1,5 +1,5 @@
-//! The Rust original's curve part, made by `build.rs` from its published text, and stand-ins for the types of other crates that it names.
-//! No line of the original stands in this repository.
+//! The Rust original's curve part, made by `build.rs` from its published text, and stand-ins for
+//! the types of other crates that it names. No line of the original stands in this repository.
 
 /// What the original takes from elsewhere, as far as its curve part needs it.
 mod stand_ins {
@@ -65,7 +65,11 @@ mod stand_ins {
     pub trait PixelFilter {
         fn accepted_formats(&self) -> &'static [PixelFormat];
         fn is_pointwise(&self) -> bool;
-        fn apply_pixels(&self, input: &VideoFrame, params: VideoStreamParams) -> Result<VideoFrame, Error>;
+        fn apply_pixels(
+            &self,
+            input: &VideoFrame,
+            params: VideoStreamParams,
+        ) -> Result<VideoFrame, Error>;
     }
 
     pub mod layout {
@@ -105,8 +109,15 @@ mod stand_ins {
             _: VideoStreamParams,
             f: impl FnOnce(FloatImage) -> Result<FloatImage, Error>,
         ) -> Result<VideoFrame, Error> {
-            let floats = input.planes[0].data.chunks_exact(4).map(|b| f32::from_le_bytes([b[0], b[1], b[2], b[3]]));
-            let data = f(FloatImage(floats.collect()))?.0.iter().flat_map(|v| v.to_le_bytes()).collect::<Vec<u8>>();
+            let floats = input.planes[0]
+                .data
+                .chunks_exact(4)
+                .map(|b| f32::from_le_bytes([b[0], b[1], b[2], b[3]]));
+            let data = f(FloatImage(floats.collect()))?
+                .0
+                .iter()
+                .flat_map(|v| v.to_le_bytes())
+                .collect::<Vec<u8>>();
             Ok(VideoFrame { pts: input.pts, planes: vec![VideoPlane { stride: data.len(), data }] })
         }
     }
@@ -135,7 +146,10 @@ pub fn pixel_format(format: crate::Format) -> PixelFormat {
 
 /// A frame of planes, each with its row step.
 pub fn frame(planes: impl IntoIterator<Item = (Vec<u8>, usize)>) -> VideoFrame {
-    VideoFrame { pts: None, planes: planes.into_iter().map(|(data, stride)| VideoPlane { stride, data }).collect() }
+    VideoFrame {
+        pts: None,
+        planes: planes.into_iter().map(|(data, stride)| VideoPlane { stride, data }).collect(),
+    }
 }
 
 /// Ways into the text included, whose table builds are private.
@@ -152,9 +166,10 @@ macro_rules! doors {
                 Kind::CentripetalCatmullRom => CurveInterpolation::CentripetalCatmullRom,
                 Kind::ChordalCatmullRom => CurveInterpolation::ChordalCatmullRom,
                 Kind::Cardinal { tension } => CurveInterpolation::Cardinal { tension_q8: tension },
-                Kind::ClampedCubic { start_slope, end_slope } => {
-                    CurveInterpolation::ClampedCubic { start_slope_q8: start_slope, end_slope_q8: end_slope }
-                }
+                Kind::ClampedCubic { start_slope, end_slope } => CurveInterpolation::ClampedCubic {
+                    start_slope_q8: start_slope,
+                    end_slope_q8: end_slope,
+                },
                 Kind::NotAKnotCubic => CurveInterpolation::NotAKnotCubic,
             }
         }
@@ -210,7 +225,13 @@ pub mod tonal_lut {
     include!(concat!(env!("OUT_DIR"), "/tonal_lut.rs"));
 
     /// The call, which is not open outside its crate.
-    pub fn tone(frame: &mut VideoFrame, table: &[u8; 256], format: crate::Format, width: u32, height: u32) {
+    pub fn tone(
+        frame: &mut VideoFrame,
+        table: &[u8; 256],
+        format: crate::Format,
+        width: u32,
+        height: u32,
+    ) {
         apply_tone_lut(frame, table, super::pixel_format(format), width, height);
     }
 }

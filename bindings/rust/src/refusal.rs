@@ -33,7 +33,10 @@ const ALL: [(Refusal, &str); 14] = [
     (Refusal::UnknownKind, "the kind byte is above 9"),
     (Refusal::FieldMismatch, "bit 5 or bit 6 disagrees with the kind"),
     (Refusal::TrailingBytes, "bytes follow the last field"),
-    (Refusal::UnsupportedFormat, "the set call is given Ya8, Cmyk or CmykInverted, or a call an unknown format"),
+    (
+        Refusal::UnsupportedFormat,
+        "the set call is given Ya8, Cmyk or CmykInverted, or a call an unknown format",
+    ),
     (Refusal::PictureTooLarge, "width or height is above 4,096"),
     (Refusal::MissingPlane, "the set call has no plane, or fewer than three for YUV"),
     (Refusal::RowStep, "the first plane's row step is below the row bytes or above 32,768"),

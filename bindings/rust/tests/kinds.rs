@@ -20,7 +20,8 @@ fn the_original_gives_the_numbers_of_the_page() {
     use tone::original::curves;
     for s in statements() {
         let (curve, kind) = (curves::curve(&s.question.points), s.question.kind());
-        let given = s.read_from(&curves::byte_table(&curve, kind), &curves::fine_table(&curve, kind, 256));
+        let given =
+            s.read_from(&curves::byte_table(&curve, kind), &curves::fine_table(&curve, kind, 256));
         assert_eq!(given, s.values, "{}: the original has {given:x?}", s.name);
     }
 }

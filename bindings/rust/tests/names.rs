@@ -1,4 +1,5 @@
-//! Refusals, kinds, formats, sizes and the version are the same here, in the C header and, where they stand there, in the crates.
+//! Refusals, kinds, formats, sizes and the version are the same here, in the C header and, where
+//! they stand there, in the crates.
 use tone::{Format, FormatNumber, Kind, KindNumbers, Outputs, Planes, Refusal};
 
 const HEADER: &str = include_str!("../../c/tone.h");
@@ -7,7 +8,8 @@ const KINDS: &str = include_str!("../../../crates/tables/specs/Kinds.antt");
 const FORMATS: &str = include_str!("../../../crates/formats/specs/Formats.antt");
 const BOUNDARY: &str = include_str!("../../../crates/tone_c/specs/Version.antt");
 
-/// What stands behind `TONE_NAME` and a separator in the header, up to the end of the line; a name's case and breaks do not count.
+/// What stands behind `TONE_NAME` and a separator in the header, up to the end of the line; a
+/// name's case and breaks do not count.
 fn in_header(name: &str, separator: &str) -> &'static str {
     let bare = name.to_uppercase();
     let constants = HEADER.split(" TONE_").skip(1).filter_map(|text| text.split_once(separator));
@@ -29,8 +31,12 @@ fn count(name: &str) -> usize {
 
 /// The lines of a definition: `name ARGUMENT = VALUE`.
 fn lines_of<'a>(text: &'a str, name: &'a str) -> impl Iterator<Item = (&'a str, &'a str)> {
-    let lines = text.lines().filter_map(move |line| line.strip_prefix(name)?.strip_prefix(' ')?.split_once(" = "));
-    lines.map(|(argument, value)| (argument.trim_matches(['(', ')']).split(' ').next().unwrap(), value))
+    let lines = text
+        .lines()
+        .filter_map(move |line| line.strip_prefix(name)?.strip_prefix(' ')?.split_once(" = "));
+    lines.map(|(argument, value)| {
+        (argument.trim_matches(['(', ')']).split(' ').next().unwrap(), value)
+    })
 }
 
 #[test]
@@ -53,7 +59,10 @@ fn kinds() {
     assert_eq!(KindNumbers { number: 10, tension: 0, start_slope: 0, end_slope: 0 }.kind(), None);
     let in_crate: Vec<_> = lines_of(KINDS, "kindNumber").collect();
     let here = Kind::NAMES.iter().enumerate().map(|(place, name)| (*name, place.to_string()));
-    assert!(here.eq(in_crate.iter().map(|(name, value)| (*name, value.to_string()))), "{in_crate:?}");
+    assert!(
+        here.eq(in_crate.iter().map(|(name, value)| (*name, value.to_string()))),
+        "{in_crate:?}"
+    );
     assert_eq!(count("tone_kind"), Kind::NAMES.len());
 }
 
@@ -65,8 +74,21 @@ fn formats() {
         assert_eq!(number(&format!("{format:?}")), usize::from(place), "{format:?}");
     }
     let (_, behind) = FORMATS.split_once("\ninOrder =").unwrap();
-    let in_crate: Vec<_> = behind.split("[]").next().unwrap().split('∷').map(str::trim).filter(|name| !name.is_empty()).collect();
-    assert!(Format::ALL.iter().map(|format| format!("{format:?}")).eq(in_crate.iter().map(|name| name.to_string())), "{in_crate:?}");
+    let in_crate: Vec<_> = behind
+        .split("[]")
+        .next()
+        .unwrap()
+        .split('∷')
+        .map(str::trim)
+        .filter(|name| !name.is_empty())
+        .collect();
+    assert!(
+        Format::ALL
+            .iter()
+            .map(|format| format!("{format:?}"))
+            .eq(in_crate.iter().map(|name| name.to_string())),
+        "{in_crate:?}"
+    );
     assert_eq!(count("tone_format"), Format::ALL.len());
     for (name, bytes) in lines_of(FORMATS, "bytesAPixel") {
         let format = Format::ALL.into_iter().find(|format| format!("{format:?}") == name).unwrap();
@@ -85,7 +107,11 @@ fn refusals() {
     }
     let in_crate: Vec<_> = lines_of(ANSWERS, "numberOf").skip(1).collect();
     let here = Refusal::all().map(|refusal| (format!("{refusal:?}"), refusal.number().to_string()));
-    assert!(here.into_iter().eq(in_crate.iter().map(|(name, value)| (name.to_string(), value.to_string()))), "{in_crate:?}");
+    assert!(
+        here.into_iter()
+            .eq(in_crate.iter().map(|(name, value)| (name.to_string(), value.to_string()))),
+        "{in_crate:?}"
+    );
     assert_eq!(count("tone_answer"), 1 + Refusal::all().len());
 }
 
@@ -107,10 +133,14 @@ fn every_answer_is_taken() {
 #[test]
 fn sizes() {
     assert_eq!(number("LongestRecord"), tone::LONGEST_RECORD);
-    let (most, bytes, samples) = (number("MostPoints"), number("TableBytes"), number("FineSamples"));
+    let (most, bytes, samples) =
+        (number("MostPoints"), number("TableBytes"), number("FineSamples"));
     let mut table = vec![0; bytes];
     assert_eq!(tone::table(&vec![0; 2 * most], Kind::Linear, &mut table), Ok(()));
-    assert_eq!(tone::table(&vec![0; 2 * most + 2], Kind::Linear, &mut table), Err(Refusal::PointCount));
+    assert_eq!(
+        tone::table(&vec![0; 2 * most + 2], Kind::Linear, &mut table),
+        Err(Refusal::PointCount)
+    );
     assert_eq!(tone::table(&[], Kind::Linear, &mut table[1..]), Err(Refusal::OutputTooSmall));
     assert_eq!(tone::lookup(&vec![0.0; samples], &mut [0.0]), Ok(()));
     for wrong in [samples - 1, samples + 1] {
@@ -118,7 +148,14 @@ fn sizes() {
     }
     let (side, step) = (number("LargestSide") as u32, number("LargestStep"));
     let ask = |width: u32, height: u32, step: usize| {
-        tone::picture(&[0], Format::Gray8, width, height, Planes::one(&[], step), Outputs::one(&mut []))
+        tone::picture(
+            &[0],
+            Format::Gray8,
+            width,
+            height,
+            Planes::one(&[], step),
+            Outputs::one(&mut []),
+        )
     };
     assert_eq!(ask(side, 0, step), Ok(()));
     assert_eq!(ask(0, side, step), Ok(()));

@@ -46,10 +46,12 @@ fn p12_of_document_01() {
 fn a_set_tones_by_colour_into_tight_rows() {
     let plane: Vec<u8> = (10..30).collect();
     let mut out = [99; 14];
-    tone::picture(&RECORD, Format::Rgb24, 2, 2, Planes::one(&plane, 9), Outputs::one(&mut out)).unwrap();
+    tone::picture(&RECORD, Format::Rgb24, 2, 2, Planes::one(&plane, 9), Outputs::one(&mut out))
+        .unwrap();
     assert_eq!(out, [245, 7, 0, 242, 7, 0, 236, 7, 0, 233, 7, 0, 99, 99]);
     let mut out = [99; 9];
-    tone::picture(&RECORD, Format::Rgba, 1, 2, Planes::one(&plane, 9), Outputs::one(&mut out)).unwrap();
+    tone::picture(&RECORD, Format::Rgba, 1, 2, Planes::one(&plane, 9), Outputs::one(&mut out))
+        .unwrap();
     assert_eq!(out, [245, 7, 0, 13, 236, 7, 0, 22, 99]);
 }
 
@@ -57,11 +59,13 @@ fn a_set_tones_by_colour_into_tight_rows() {
 fn a_set_tones_grey_and_luma_by_the_master() {
     let plane = [1, 2, 3, 4];
     let mut out = [99; 5];
-    tone::picture(&RECORD, Format::Gray8, 2, 2, Planes::one(&plane, 2), Outputs::one(&mut out)).unwrap();
+    tone::picture(&RECORD, Format::Gray8, 2, 2, Planes::one(&plane, 2), Outputs::one(&mut out))
+        .unwrap();
     assert_eq!(out, [7, 7, 7, 7, 99]);
     let (mut y, mut u, mut v) = ([99; 3], [99; 4], [99; 2]);
     let planes = Planes::three(&plane, 3, [&[5, 6, 8], &[9]]);
-    tone::picture(&RECORD, Format::Yuv420P, 1, 2, planes, Outputs::three(&mut y, [&mut u, &mut v])).unwrap();
+    tone::picture(&RECORD, Format::Yuv420P, 1, 2, planes, Outputs::three(&mut y, [&mut u, &mut v]))
+        .unwrap();
     assert_eq!((y, u, v), ([7, 7, 99], [5, 6, 8, 99], [9, 99]));
 }
 
@@ -70,13 +74,28 @@ fn refusals_of_the_one_table_call_come_in_order() {
     let mut plane = [8; 10];
     let table = negative();
     let unknown = FormatNumber(12);
-    assert_eq!(tone::plane(&table, unknown, 4097, 1, &mut plane, 40_000), Err(Refusal::UnsupportedFormat));
-    assert_eq!(tone::plane(&table, Format::Gray8, 4097, 1, &mut plane, 40_000), Err(Refusal::PictureTooLarge));
-    assert_eq!(tone::plane(&table, Format::Gray8, 1, 5000, &mut plane, 40_000), Err(Refusal::PictureTooLarge));
+    assert_eq!(
+        tone::plane(&table, unknown, 4097, 1, &mut plane, 40_000),
+        Err(Refusal::UnsupportedFormat)
+    );
+    assert_eq!(
+        tone::plane(&table, Format::Gray8, 4097, 1, &mut plane, 40_000),
+        Err(Refusal::PictureTooLarge)
+    );
+    assert_eq!(
+        tone::plane(&table, Format::Gray8, 1, 5000, &mut plane, 40_000),
+        Err(Refusal::PictureTooLarge)
+    );
     assert_eq!(tone::plane(&table, Format::Gray8, 1, 0, &mut plane, 32_769), Err(Refusal::RowStep));
     assert_eq!(tone::plane(&table, Format::Rgb24, 4, 1, &mut plane, 11), Err(Refusal::RowStep));
-    assert_eq!(tone::plane(&table, Format::Rgb24, 4, 1, &mut plane, 12), Err(Refusal::PlaneTooShort));
-    assert_eq!(tone::plane(&table, Format::Gray8, 3, 3, &mut plane, 4), Err(Refusal::PlaneTooShort));
+    assert_eq!(
+        tone::plane(&table, Format::Rgb24, 4, 1, &mut plane, 12),
+        Err(Refusal::PlaneTooShort)
+    );
+    assert_eq!(
+        tone::plane(&table, Format::Gray8, 3, 3, &mut plane, 4),
+        Err(Refusal::PlaneTooShort)
+    );
     assert_eq!(plane, [8; 10]);
     tone::plane(&table, Format::Gray8, 2, 3, &mut plane, 4).unwrap();
     tone::plane(&table, Format::Gray8, 0, 4096, &mut [], 32_768).unwrap();
@@ -88,7 +107,14 @@ fn refusals_of_the_set_call_come_in_order() {
     let (mut y, mut u, mut v) = ([9; 5], [9; 1], [9; 1]);
     let mut ask = |record: &[u8], format: u8, size: (u32, u32), count: usize, step: usize| {
         let planes = Planes { count, first: &plane, step, chroma: [&[1, 2], &[3]] };
-        tone::picture(record, FormatNumber(format), size.0, size.1, planes, Outputs::three(&mut y, [&mut u, &mut v]))
+        tone::picture(
+            record,
+            FormatNumber(format),
+            size.0,
+            size.1,
+            planes,
+            Outputs::three(&mut y, [&mut u, &mut v]),
+        )
     };
     assert_eq!(ask(&[0x80], 1, (5000, 1), 0, 0), Err(Refusal::ReservedBit));
     assert_eq!(ask(&RECORD[..10], 1, (5000, 1), 0, 0), Err(Refusal::RecordTruncated));

@@ -1,4 +1,5 @@
-//! Tables and lookups through the wrapper: document 01's examples, refusals in their order, memory left alone.
+//! Tables and lookups through the wrapper: document 01's examples, refusals in their
+//! order, memory left alone.
 use tone::{Kind, KindNumbers, Refusal};
 
 const STRAIGHT: [u8; 4] = [0, 0, 255, 255];
@@ -21,7 +22,11 @@ fn examples_of_document_01() {
     assert_eq!(table(&[0, 0, 2, 1], Kind::Linear)[1], 1, "P4");
     assert_eq!(table(&STRAIGHT, Kind::NaturalCubic), straight_table(), "P5");
     assert_eq!(table(&STRAIGHT, Kind::Cardinal { tension: 255 })[51], 27, "P6");
-    assert_eq!(table(&STRAIGHT, Kind::ClampedCubic { start_slope: 256, end_slope: 256 }), straight_table(), "P7");
+    assert_eq!(
+        table(&STRAIGHT, Kind::ClampedCubic { start_slope: 256, end_slope: 256 }),
+        straight_table(),
+        "P7"
+    );
 }
 
 #[test]

@@ -1,4 +1,5 @@
-//! "Checks run in this order, as far as they touch the call": what the calls of the boundary must answer, from numbers alone.
+//! "Checks run in this order, as far as they touch the call": what the calls of the boundary must
+//! answer, from numbers alone.
 use crate::{Format, Refusal};
 
 pub type Answer = Result<(), Refusal>;
@@ -80,14 +81,20 @@ impl Shape {
     /// The set call behind the record: 8, 9, 10, 11, 12, 13.
     pub fn picture_answer(&self) -> Answer {
         let format = self.known().ok_or(Refusal::UnsupportedFormat)?;
-        unless(matches!(format, Format::Ya8 | Format::Cmyk | Format::CmykInverted), Refusal::UnsupportedFormat)?;
+        unless(
+            matches!(format, Format::Ya8 | Format::Cmyk | Format::CmykInverted),
+            Refusal::UnsupportedFormat,
+        )?;
         self.sides()?;
         unless(self.planes < if format.is_yuv() { 3 } else { 1 }, Refusal::MissingPlane)?;
         self.rows(format)?;
         let [y, u, v] = self.outputs;
         unless((y as u64) < self.written(format), Refusal::OutputTooSmall)?;
         // only YUV writes chroma, each plane whole
-        unless(format.is_yuv() && (u < self.chroma[0] || v < self.chroma[1]), Refusal::OutputTooSmall)
+        unless(
+            format.is_yuv() && (u < self.chroma[0] || v < self.chroma[1]),
+            Refusal::OutputTooSmall,
+        )
     }
 
     fn sides(&self) -> Answer {

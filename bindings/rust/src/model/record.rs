@@ -9,7 +9,8 @@ pub struct Set {
     pub kind: Kind,
 }
 
-/// "Inside a record 2 to 5 run field by field [..] then 6, and only then 2 for tension or slopes", and 7 at the end.
+/// "Inside a record 2 to 5 run field by field [..] then 6, and only then 2 for tension or
+/// slopes", and 7 at the end.
 pub fn read(record: &[u8]) -> Result<Set, Refusal> {
     let mut left = record;
     let map = take(&mut left, 1)?[0];
@@ -17,7 +18,8 @@ pub fn read(record: &[u8]) -> Result<Set, Refusal> {
     if stands(7) {
         return Err(Refusal::ReservedBit);
     }
-    // "Bit 0 off: empty master; 1 to 3 off: absent colour, a count of 0 being an empty one; 4 off: default kind."
+    // "Bit 0 off: empty master; 1 to 3 off: absent colour, a count of 0 being an empty
+    // one; 4 off: default kind."
     let mut set = Set::default();
     if stands(0) {
         set.master = list(&mut left, 1)?;

@@ -34,8 +34,9 @@ const MARGIN: usize = 32;
 
 static LOANS: AtomicUsize = AtomicUsize::new(0);
 
-/// Memory to lend, with canaries before and behind it, and what it held before. Every fourth loan stands alone in its memory, so that a tool that watches
-/// the memory's ends sees what is read beside it.
+/// Memory to lend, with canaries before and behind it, and what it held before. Every
+/// fourth loan stands alone in its memory, so that a tool that watches the memory's ends
+/// sees what is read beside it.
 pub struct Lent<T> {
     all: Vec<T>,
     before: Vec<T>,
@@ -45,7 +46,8 @@ pub struct Lent<T> {
 
 impl<T: Element> Lent<T> {
     pub fn new(contents: &[T]) -> Lent<T> {
-        let margin = if LOANS.fetch_add(1, Ordering::Relaxed).is_multiple_of(4) { 0 } else { MARGIN };
+        let margin =
+            if LOANS.fetch_add(1, Ordering::Relaxed).is_multiple_of(4) { 0 } else { MARGIN };
         // so that not every loan starts at a multiple of 16
         let start = if margin > 0 { margin + contents.len() % 17 } else { 0 };
         let end = start + contents.len();
@@ -64,10 +66,12 @@ impl<T: Element> Lent<T> {
         &self.all[self.start..self.end]
     }
 
-    /// How many elements changed that lie outside the first `written` of what was lent, canaries included.
+    /// How many elements changed that lie outside the first `written` of what was
+    /// lent, canaries included.
     pub fn strayed(&self, written: usize) -> u64 {
         let free = self.start + written;
-        differing(&self.all[..self.start], &self.before[..self.start]) + differing(&self.all[free..], &self.before[free..])
+        differing(&self.all[..self.start], &self.before[..self.start])
+            + differing(&self.all[free..], &self.before[free..])
     }
 }
 

@@ -3,7 +3,8 @@ use super::Random;
 use crate::model::record::rises;
 use crate::{Kind, KindNumbers};
 
-/// A table to build: x, y pairs and a kind, with a tension and slopes that other kinds must not read.
+/// A table to build: x, y pairs and a kind, with a tension and slopes that
+/// other kinds must not read.
 #[derive(Clone, Debug, PartialEq, Eq)]
 pub struct Question {
     pub points: Vec<u8>,
@@ -28,7 +29,12 @@ impl Question {
 
 /// The kind of a number, with a tension and slopes that are often extreme.
 pub fn kind(number: u8, random: &mut Random) -> KindNumbers {
-    KindNumbers { number, tension: tension(random), start_slope: slope(random), end_slope: slope(random) }
+    KindNumbers {
+        number,
+        tension: tension(random),
+        start_slope: slope(random),
+        end_slope: slope(random),
+    }
 }
 
 fn tension(random: &mut Random) -> u8 {
@@ -57,10 +63,14 @@ pub fn any_list(random: &mut Random) -> Vec<u8> {
         // x often equal
         2 => {
             let (from, width) = (random.byte(), 1 + random.below(40));
-            pairs(random.below(65), || (from.saturating_add(random.below(width) as u8), random.byte()))
+            pairs(random.below(65), || {
+                (from.saturating_add(random.below(width) as u8), random.byte())
+            })
         }
         // the ends of both ranges
-        3 => pairs(random.below(17), || (random.of(&[0, 1, 2, 3, 252, 253, 254, 255]), random.of(&[0, 1, 254, 255]))),
+        3 => pairs(random.below(17), || {
+            (random.of(&[0, 1, 2, 3, 252, 253, 254, 255]), random.of(&[0, 1, 254, 255]))
+        }),
         // rising in x
         4 => rising(random, |_, y| y),
         // rising in x and y

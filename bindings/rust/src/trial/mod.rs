@@ -1,4 +1,5 @@
-//! What the programs beside the library share: random questions, lent memory with canaries around it, options.
+//! What the programs beside the library share: random questions, lent memory with
+//! canaries around it, options.
 use std::env;
 
 mod lent;

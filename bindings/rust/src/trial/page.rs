@@ -39,7 +39,8 @@ pub fn statements() -> Vec<Statement> {
     let text = std::fs::read_to_string(PAGE).unwrap_or_else(|e| panic!("{PAGE}: {e}"));
     let lines = text.lines().filter(|l| !l.starts_with("--"));
     let code = lines.map(|l| format!("{l}\n")).collect::<String>();
-    let named: HashMap<&str, &str> = code.lines().filter(|l| l.ends_with("[]")).filter_map(|l| l.split_once(" = ")).collect();
+    let named: HashMap<&str, &str> =
+        code.lines().filter(|l| l.ends_with("[]")).filter_map(|l| l.split_once(" = ")).collect();
     let stated = code.split("\npub ").skip(1);
     stated.map(|s| statement(s.split("\nunfolding").next().unwrap(), &named)).collect()
 }
@@ -65,7 +66,13 @@ fn statement(text: &str, named: &HashMap<&str, &str>) -> Statement {
     let question = Question { points: words.points(), numbers };
     let places = words.numbers().into_iter().map(|v| v as usize).collect();
     words.expect("≡");
-    let statement = Statement { name: name.trim().to_owned(), question, places, of_bits: form == "bits", values: words.numbers() };
+    let statement = Statement {
+        name: name.trim().to_owned(),
+        question,
+        places,
+        of_bits: form == "bits",
+        values: words.numbers(),
+    };
     assert!(["entries", "entryOf", "bits"].contains(&&*form), "{text}: no form of the page");
     assert_eq!(words.0.len(), 0, "{text}: more than a statement");
     assert_eq!(statement.places.len(), statement.values.len(), "{text}");
@@ -121,8 +128,12 @@ impl Words {
             self.expect("(");
         }
         let name = self.next();
-        let number = Kind::NAMES.iter().position(|n| *n == name).unwrap_or_else(|| panic!("{name}: no kind"));
-        let mut kind = KindNumbers { number: number as u8, tension: 0, start_slope: 0, end_slope: 0 };
+        let number = Kind::NAMES
+            .iter()
+            .position(|n| *n == name)
+            .unwrap_or_else(|| panic!("{name}: no kind"));
+        let mut kind =
+            KindNumbers { number: number as u8, tension: 0, start_slope: 0, end_slope: 0 };
         match &*name {
             "Cardinal" => kind.tension = u8::try_from(self.number()).unwrap(),
             "ClampedCubic" => (kind.start_slope, kind.end_slope) = (self.integer(), self.integer()),

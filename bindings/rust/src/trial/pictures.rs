@@ -3,7 +3,8 @@ use super::Random;
 use crate::model::checks::Shape;
 use crate::Format;
 
-/// A picture that both calls take, where they take its format: odd and even sizes, empty ones, up to 4,096 wide or high, rows with and without padding.
+/// A picture that both calls take, where they take its format: odd and even sizes, empty ones, up
+/// to 4,096 wide or high, rows with and without padding.
 pub fn shape(format: Format, random: &mut Random) -> Shape {
     let (width, height) = size(random);
     let row = width as usize * format.bytes_a_pixel();
@@ -21,7 +22,8 @@ pub fn shape(format: Format, random: &mut Random) -> Shape {
         shape.planes = random.of(&[1, 1, 2, 3]);
     }
     shape.first = shape.needed(format) as usize + spare(random);
-    shape.outputs = [shape.written(format) as usize, shape.chroma[0], shape.chroma[1]].map(|n| n + spare(random));
+    shape.outputs = [shape.written(format) as usize, shape.chroma[0], shape.chroma[1]]
+        .map(|n| n + spare(random));
     shape
 }
 
@@ -68,7 +70,8 @@ fn spare(random: &mut Random) -> usize {
     }
 }
 
-/// The same picture with some of its numbers bad or at a limit, the bytes lent with it too few or not.
+/// The same picture with some of its numbers bad or at a limit, the bytes
+/// lent with it too few or not.
 pub fn damaged(mut shape: Shape, random: &mut Random) -> Shape {
     const SIDES: [u32; 6] = [0, 4096, 4097, 5000, 1 << 31, u32::MAX];
     if random.once_in(5) {
@@ -84,7 +87,16 @@ pub fn damaged(mut shape: Shape, random: &mut Random) -> Shape {
         shape.planes = random.below(4);
     }
     if random.once_in(4) {
-        shape.step = random.of(&[0, 1, shape.step.wrapping_sub(1), shape.step + 1, 32_767, 32_768, 32_769, usize::MAX]);
+        shape.step = random.of(&[
+            0,
+            1,
+            shape.step.wrapping_sub(1),
+            shape.step + 1,
+            32_767,
+            32_768,
+            32_769,
+            usize::MAX,
+        ]);
     }
     if random.once_in(4) {
         shape.first = fewer(shape.first, random);

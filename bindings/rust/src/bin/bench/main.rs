@@ -1,18 +1,21 @@
 //! Times of the port beside those of the Rust original, in one process.
 //!
-//! `cargo run --release --bin bench -- --rounds 400 --lists 256 --picture-rounds 40`: a line a case. Port and original take turns on the same inputs,
-//! in short blocks; the best block of each counts. A ratio is the port's time over the original's. `--only tables`, `lookups`, `pictures` or `records`
-//! leaves the others out.
+//! `cargo run --release --bin bench -- --rounds 400 --lists 256 --picture-rounds 40`: a line a
+//! case. Port and original take turns on the same inputs, in short blocks; the best block of each
+//! counts. A ratio is the port's time over the original's. `--only tables`, `lookups`, `pictures`
+//! or `records` leaves the others out.
 //!
-//! Tables: both start from a given list, which for the original means `Curve::new` and then the table. The last columns have the original's table
-//! alone, from a curve made before. A block goes through so many lists. With few (16), the processor learns their branches by heart; a guide builds a
-//! list once, so 256 is the rule. The original runs with the root in place of `powf`, as it is compared; the two kinds that call `powf` are timed as
-//! published too.
+//! Tables: both start from a given list, which for the original means `Curve::new` and then the
+//! table. The last columns have the original's table alone, from a curve made before. A block goes
+//! through so many lists. With few (16), the processor learns their branches by heart; a guide
+//! builds a list once, so 256 is the rule. The original runs with the root in place of `powf`, as
+//! it is compared; the two kinds that call `powf` are timed as published too.
 //!
-//! Pictures: the one-table call tones the plane where it stands. In the set call both build their tables within the call, the port from a record, the
-//! original from a set made before; the port fills outputs that are there, the original allocates and zeroes its own, as it does for every caller, and
-//! drops them. The last columns have `memcpy` of the same bytes, the floor: into memory that is there, and into fresh memory, which shows what the
-//! allocation takes.
+//! Pictures: the one-table call tones the plane where it stands. In the set call both build their
+//! tables within the call, the port from a record, the original from a set made before; the port
+//! fills outputs that are there, the original allocates and zeroes its own, as it does for every
+//! caller, and drops them. The last columns have `memcpy` of the same bytes, the floor: into memory
+//! that is there, and into fresh memory, which shows what the allocation takes.
 //!
 //! Records have no original: the port's times alone.
 #[cfg(original)]

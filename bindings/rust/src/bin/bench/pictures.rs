@@ -10,7 +10,10 @@ use tone::{Format, Kind, Outputs, Planes};
 const SIZES: [(u32, u32); 2] = [(1920, 1080), (4096, 4096)];
 
 pub fn all(rounds: u64, random: &mut Random) {
-    println!("{:<28}{:>12}{:>10}{:>10}{:>7}{:>12}{:>14}", "picture", "size", "port, us", "Rust, us", "ratio", "memcpy, us", "to fresh, us");
+    println!(
+        "{:<28}{:>12}{:>10}{:>10}{:>7}{:>12}{:>14}",
+        "picture", "size", "port, us", "Rust, us", "ratio", "memcpy, us", "to fresh, us"
+    );
     for format in [Format::Gray8, Format::Ya8, Format::Rgb24, Format::Rgba, Format::Yuv420P] {
         for size in SIZES {
             one_table(rounds, format, size, random);
@@ -23,8 +26,8 @@ pub fn all(rounds: u64, random: &mut Random) {
     }
 }
 
-/// Brightness turned round, so that the plane does not run out of values in many turns. Both tone the same memory: where its pages lie counts for more
-/// than the two differ.
+/// Brightness turned round, so that the plane does not run out of values in many turns. Both tone
+/// the same memory: where its pages lie counts for more than the two differ.
 fn one_table(rounds: u64, format: Format, (width, height): (u32, u32), random: &mut Random) {
     let table: [u8; 256] = std::array::from_fn(|v| 255 - v as u8);
     let row = width as usize * format.bytes_a_pixel();
@@ -52,16 +55,25 @@ fn one_table(rounds: u64, format: Format, (width, height): (u32, u32), random: &
 /// Four lists of 8 points, all colours present, the default kind.
 fn by_set(rounds: u64, format: Format, (width, height): (u32, u32), random: &mut Random) {
     let mut list = || rising_list(random, 8);
-    let set = Set { master: list(), colours: [Some(list()), Some(list()), Some(list())], kind: Kind::default() };
+    let set = Set {
+        master: list(),
+        colours: [Some(list()), Some(list()), Some(list())],
+        kind: Kind::default(),
+    };
     let record = write(&set);
     let row = width as usize * format.bytes_a_pixel();
     let bytes = random.bytes(row * height as usize);
-    let chroma = if format.is_yuv() { random.bytes((width / 2) as usize * (height / 2) as usize) } else { Vec::new() };
+    let chroma = if format.is_yuv() {
+        random.bytes((width / 2) as usize * (height / 2) as usize)
+    } else {
+        Vec::new()
+    };
     let (mut y, mut u, mut v) = (bytes.clone(), chroma.clone(), chroma.clone());
     let mut port = |_: usize| {
         let planes = Planes::three(black_box(&bytes), row, [&chroma, &chroma]);
         let outputs = Outputs::three(&mut y, [&mut u, &mut v]);
-        tone::picture(black_box(&record), black_box(format), width, height, planes, outputs).unwrap();
+        tone::picture(black_box(&record), black_box(format), width, height, planes, outputs)
+            .unwrap();
         black_box((&y, &u, &v));
     };
     let curves = curves::set(&set);
@@ -86,7 +98,13 @@ fn by_set(rounds: u64, format: Format, (width, height): (u32, u32), random: &mut
 
 /// A line: the port's time, the original's and the ratio, then the copies.
 fn case(name: &str, width: u32, height: u32, times: &[f64]) {
-    print!("{name:<28}{:>12}{:>10.0}{:>10.0}{:>7.2}", format!("{width}x{height}"), times[0] / 1e3, times[1] / 1e3, times[0] / times[1]);
+    print!(
+        "{name:<28}{:>12}{:>10.0}{:>10.0}{:>7.2}",
+        format!("{width}x{height}"),
+        times[0] / 1e3,
+        times[1] / 1e3,
+        times[0] / times[1]
+    );
     for (copy, columns) in times[2..].iter().zip([12, 14]) {
         print!("{:>columns$.0}", copy / 1e3);
     }

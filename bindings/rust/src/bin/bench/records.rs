@@ -6,7 +6,10 @@ use tone::trial::{rising_list, Random};
 use tone::Kind;
 
 pub fn all(rounds: u64, records: usize, random: &mut Random) {
-    println!("{:<35}{:>7}{:>16}{:>16}{:>16}", "record of four lists, Linear", "points", "its table, ns", "a copy, ns", "table alone, ns");
+    println!(
+        "{:<35}{:>7}{:>16}{:>16}{:>16}",
+        "record of four lists, Linear", "points", "its table, ns", "a copy, ns", "table alone, ns"
+    );
     for count in [2, 8, 64] {
         let sets: Vec<Set> = (0..records).map(|_| set(count, random)).collect();
         let records: Vec<Vec<u8>> = sets.iter().map(write).collect();

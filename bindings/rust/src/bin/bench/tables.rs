@@ -8,7 +8,10 @@ use tone::{Kind, KindNumbers};
 const VALUES: usize = 1_000_000;
 
 pub fn all(rounds: u64, lists: usize, random: &mut Random) {
-    println!("{:<35}{:>7}{:>10}{:>10}{:>7}{:>12}{:>7}", "table", "points", "port, ns", "Rust, ns", "ratio", "curve made", "ratio");
+    println!(
+        "{:<35}{:>7}{:>10}{:>10}{:>7}{:>12}{:>7}",
+        "table", "points", "port, ns", "Rust, ns", "ratio", "curve made", "ratio"
+    );
     for number in 0..10 {
         let numbers = KindNumbers { number, tension: 100, start_slope: 256, end_slope: -300 };
         for count in [2, 8, 64] {
@@ -35,12 +38,20 @@ fn tables(rounds: u64, lists: &[Vec<u8>], kind: Kind) {
     let mut table_alone = |i: usize| {
         black_box(curves::byte_table(black_box(&made[i]), black_box(kind)));
     };
-    case(&format!("{name}, 256 bytes"), count, &best(rounds, lists.len(), &mut [&mut port, &mut original, &mut table_alone]));
+    case(
+        &format!("{name}, 256 bytes"),
+        count,
+        &best(rounds, lists.len(), &mut [&mut port, &mut original, &mut table_alone]),
+    );
     if number == 5 || number == 6 {
         let mut original = |i: usize| {
             black_box(published::byte_table(&published::curve(list(i)), black_box(kind)));
         };
-        case(&format!("{name}, with powf"), count, &best(rounds, lists.len(), &mut [&mut port, &mut original]));
+        case(
+            &format!("{name}, with powf"),
+            count,
+            &best(rounds, lists.len(), &mut [&mut port, &mut original]),
+        );
     }
     for samples in [256, 4096] {
         let mut table = vec![0.0; samples];
@@ -59,10 +70,14 @@ fn tables(rounds: u64, lists: &[Vec<u8>], kind: Kind) {
     }
 }
 
-/// A million values through a fine table. Each turn begins with fresh values, whose copying is timed alone, as the floor, and taken off.
+/// A million values through a fine table. Each turn begins with fresh values, whose copying is
+/// timed alone, as the floor, and taken off.
 pub fn lookups(rounds: u64, random: &mut Random) {
-    let table = curves::fine_table(&curves::curve(&rising_list(random, 8)), Kind::MonotoneCubic, 4096);
-    for (name, from, width) in [("lookup, values in 0..1", 0.0, 1.0), ("lookup, values in -0.5..1.5", -0.5, 2.0)] {
+    let table =
+        curves::fine_table(&curves::curve(&rising_list(random, 8)), Kind::MonotoneCubic, 4096);
+    for (name, from, width) in
+        [("lookup, values in 0..1", 0.0, 1.0), ("lookup, values in -0.5..1.5", -0.5, 2.0)]
+    {
         let fresh: Vec<f32> = (0..VALUES).map(|_| from + width * random.unit()).collect();
         let (mut a, mut b, mut c) = (fresh.clone(), fresh.clone(), fresh.clone());
         let mut port = |_: usize| {

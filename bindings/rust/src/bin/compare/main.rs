@@ -1,13 +1,17 @@
 //! Compares the port with the Rust original on random inputs, bit for bit; all NaN count as equal.
 //!
-//! `cargo run --release --bin compare -- --seed 1 --seconds 60`: a line for each section, the totals, the refusals by number, and the count of
-//! differences last; exit code 1 if there are any. The seconds are shared by the sections of random inputs. Before these come all records of up to three
-//! bytes and the largest pictures, some ten seconds more; `--quick`, for a run under valgrind, has records of up to two bytes and leaves the pictures out.
+//! `cargo run --release --bin compare -- --seed 1 --seconds 60`: a line for each section, the
+//! totals, the refusals by number, and the count of differences last; exit code 1 if there are any.
+//! The seconds are shared by the sections of random inputs. Before these come all records of up to
+//! three bytes and the largest pictures, some ten seconds more; `--quick`, for a run under
+//! valgrind, has records of up to two bytes and leaves the pictures out.
 //!
-//! `cargo run --release --bin compare -- --exhaustive`: the straight segments instead, each width with each pair of ends, a minute or two.
+//! `cargo run --release --bin compare -- --exhaustive`: the straight segments instead, each width
+//! with each pair of ends, a minute or two.
 //!
-//! Where the original has nothing to compare with, records and the checks before a call's work, the answer expected is that of a second reading of
-//! document 01 (`model`). Every slice is lent with canaries around it, and a refused call must leave all that it was lent as it was.
+//! Where the original has nothing to compare with, records and the checks before a call's work, the
+//! answer expected is that of a second reading of document 01 (`model`). Every slice is lent with
+//! canaries around it, and a refused call must leave all that it was lent as it was.
 #[cfg(original)]
 mod pictures;
 #[cfg(original)]

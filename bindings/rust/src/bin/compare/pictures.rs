@@ -38,7 +38,11 @@ pub fn refused(t: &mut Trial) {
     let shape = damaged(shape, &mut t.random);
     tone_plane(t, shape);
     let set = any_set(&mut t.random);
-    let record = if t.random.once_in(4) { any_record(&mut t.random) } else { legal_record(&set, &mut t.random) };
+    let record = if t.random.once_in(4) {
+        any_record(&mut t.random)
+    } else {
+        legal_record(&set, &mut t.random)
+    };
     tone_picture(t, &record, shape);
 }
 
@@ -47,26 +51,47 @@ pub fn at_the_limits(t: &mut Trial) {
     let set = any_set(&mut t.random);
     let record = legal_record(&set, &mut t.random);
     for format in Format::ALL {
-        for (width, height, step) in [(4096, 4096, 0), (4096, 3, 32_768), (4096, 1, 0), (1, 4096, 0), (7, 300, 32_768)] {
+        for (width, height, step) in
+            [(4096, 4096, 0), (4096, 3, 32_768), (4096, 1, 0), (1, 4096, 0), (7, 300, 32_768)]
+        {
             at_the_limit(t, &record, format, width, height, step);
         }
     }
     at_the_limit(t, &record, Format::Gray8, 5, 4096, 32_768);
 }
 
-fn at_the_limit(t: &mut Trial, record: &[u8], format: Format, width: u32, height: u32, step: usize) {
+fn at_the_limit(
+    t: &mut Trial,
+    record: &[u8],
+    format: Format,
+    width: u32,
+    height: u32,
+    step: usize,
+) {
     let step = step.max(width as usize * format.bytes_a_pixel());
-    let mut shape = Shape { format: format.number(), width, height, step, planes: 3, first: 0, chroma: [12, 13], outputs: [0, 12, 13] };
+    let mut shape = Shape {
+        format: format.number(),
+        width,
+        height,
+        step,
+        planes: 3,
+        first: 0,
+        chroma: [12, 13],
+        outputs: [0, 12, 13],
+    };
     shape.first = shape.needed(format) as usize;
     shape.outputs[0] = shape.written(format) as usize;
     tone_plane(t, shape);
     tone_picture(t, record, shape);
 }
 
-/// Whether the original runs on a picture that is not refused. At width 0 it takes the empty part at the start of each row, where the plane may have
-/// ended; but its set call goes through grey and luma byte by byte, and so takes none.
+/// Whether the original runs on a picture that is not refused. At width 0 it takes the empty part
+/// at the start of each row, where the plane may have ended; but its set call goes through grey and
+/// luma byte by byte, and so takes none.
 fn runs_there(shape: &Shape, by_rows: bool) -> bool {
-    shape.width > 0 || !by_rows || u64::from(shape.height.saturating_sub(1)) * shape.step as u64 <= shape.first as u64
+    shape.width > 0
+        || !by_rows
+        || u64::from(shape.height.saturating_sub(1)) * shape.step as u64 <= shape.first as u64
 }
 
 fn tone_plane(t: &mut Trial, shape: Shape) {
@@ -75,7 +100,14 @@ fn tone_plane(t: &mut Trial, shape: Shape) {
     let mut plane = Lent::new(&contents);
     let mut lent = Lent::new(&table);
     let of_256: &[u8; 256] = (&*lent.lend()).try_into().expect("256 bytes");
-    let answer = tone::plane(of_256, FormatNumber(shape.format), shape.width, shape.height, plane.lend(), shape.step);
+    let answer = tone::plane(
+        of_256,
+        FormatNumber(shape.format),
+        shape.width,
+        shape.height,
+        plane.lend(),
+        shape.step,
+    );
     let expected = shape.plane_answer();
     t.answered(answer, expected, &shape);
     t.kept(&lent, 0, &shape);
@@ -115,7 +147,9 @@ fn tone_picture(t: &mut Trial, record: &[u8], shape: Shape) {
     }
     let by_rows = matches!(shape.known(), Some(Format::Rgb24 | Format::Rgba));
     match (read, expected) {
-        (Ok(set), Ok(())) if runs_there(&shape, by_rows) => same_picture(t, &set, &shape, contents, &outputs),
+        (Ok(set), Ok(())) if runs_there(&shape, by_rows) => {
+            same_picture(t, &set, &shape, contents, &outputs)
+        }
         _ => {
             t.tally.beyond += u64::from(expected.is_ok());
             let written = written(&shape, expected);
@@ -125,7 +159,13 @@ fn tone_picture(t: &mut Trial, record: &[u8], shape: Shape) {
     refused_there(t, &shape, answer);
 }
 
-fn call(shape: &Shape, record: &[u8], first: &[u8], chroma: [&mut [u8]; 2], outputs: &mut [Lent<u8>; 3]) -> Answer {
+fn call(
+    shape: &Shape,
+    record: &[u8],
+    first: &[u8],
+    chroma: [&mut [u8]; 2],
+    outputs: &mut [Lent<u8>; 3],
+) -> Answer {
     let [u, v] = chroma;
     let planes = Planes { count: shape.planes, first, step: shape.step, chroma: [u, v] };
     let [y, u, v] = outputs;
@@ -144,12 +184,24 @@ fn written(shape: &Shape, expected: Answer) -> [usize; 3] {
     }
 }
 
-fn same_picture(t: &mut Trial, set: &Set, shape: &Shape, contents: Contents, outputs: &[Lent<u8>; 3]) {
+fn same_picture(
+    t: &mut Trial,
+    set: &Set,
+    shape: &Shape,
+    contents: Contents,
+    outputs: &[Lent<u8>; 3],
+) {
     let format = shape.known().expect("a format not refused");
     let [u, v] = contents.chroma;
     let planes = [(contents.first, shape.step), (u, 1), (v, 2)].into_iter().take(shape.planes);
-    let params = VideoStreamParams { format: pixel_format(format), width: shape.width, height: shape.height };
-    let toned = curves::set(set).apply_pixels(&frame(planes), params).expect("a picture that the original takes");
+    let params = VideoStreamParams {
+        format: pixel_format(format),
+        width: shape.width,
+        height: shape.height,
+    };
+    let toned = curves::set(set)
+        .apply_pixels(&frame(planes), params)
+        .expect("a picture that the original takes");
     let written = written(shape, Ok(()));
     for (k, output) in outputs.iter().enumerate() {
         if let Some(plane) = toned.planes.get(k) {
@@ -162,7 +214,9 @@ fn same_picture(t: &mut Trial, set: &Set, shape: &Shape, contents: Contents, out
 
 /// The original says no too where the format or the number of planes is refused.
 fn refused_there(t: &mut Trial, shape: &Shape, answer: Answer) {
-    if let (Err(Refusal::UnsupportedFormat | Refusal::MissingPlane), Some(format)) = (answer, shape.known()) {
+    if let (Err(Refusal::UnsupportedFormat | Refusal::MissingPlane), Some(format)) =
+        (answer, shape.known())
+    {
         let params = VideoStreamParams { format: pixel_format(format), width: 0, height: 0 };
         let planes = (0..shape.planes.min(3)).map(|_| (Vec::new(), 0));
         if curves::set(&Set::default()).apply_pixels(&frame(planes), params).is_ok() {

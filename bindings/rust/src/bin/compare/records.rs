@@ -13,7 +13,8 @@ pub fn any(t: &mut Trial) {
     judge(t, &record);
 }
 
-/// Every record of up to so many bytes. Few are accepted, so all but the accepted share one set of loans.
+/// Every record of up to so many bytes. Few are accepted, so all but the
+/// accepted share one set of loans.
 pub fn short(t: &mut Trial, most: usize) {
     judge(t, &[]);
     let mut walk = Walk::new();
@@ -89,11 +90,14 @@ fn copy(t: &mut Trial, record: &[u8], read: &Result<Set, Refusal>) {
 fn copied(record: &[u8], out: &mut [u8], before: usize) -> (Answer, usize) {
     let mut written = before;
     // SAFETY: both slices pass as their pointer and length, the length as its pointer.
-    let answer = unsafe { tone_record_copy(record.as_ptr(), record.len(), out.as_mut_ptr(), out.len(), &mut written) };
+    let answer = unsafe {
+        tone_record_copy(record.as_ptr(), record.len(), out.as_mut_ptr(), out.len(), &mut written)
+    };
     (Refusal::check(answer), written)
 }
 
-/// Loans for calls that are refused, so that nothing may change: outputs are looked at from time to time and at the end.
+/// Loans for calls that are refused, so that nothing may change: outputs are looked at from
+/// time to time and at the end.
 struct Walk {
     /// A record between canaries.
     record: [u8; 24],
@@ -104,7 +108,12 @@ struct Walk {
 
 impl Walk {
     fn new() -> Walk {
-        Walk { record: [0xA5; 24], table: Lent::new(&[7; 256]), out: Lent::new(&[7; tone::LONGEST_RECORD]), calls: 0 }
+        Walk {
+            record: [0xA5; 24],
+            table: Lent::new(&[7; 256]),
+            out: Lent::new(&[7; tone::LONGEST_RECORD]),
+            calls: 0,
+        }
     }
 
     fn refused(&mut self, t: &mut Trial, record: &[u8], refusal: Refusal) {
@@ -118,7 +127,9 @@ impl Walk {
         let (answer, length) = copied(&lent[part], self.out.lend(), BEFORE);
         t.answered(answer, Err(refusal), &record);
         if length != BEFORE || lent != self.record {
-            t.differ(&format_args!("{length} for the length written, or the record changed: {record:?}"));
+            t.differ(&format_args!(
+                "{length} for the length written, or the record changed: {record:?}"
+            ));
         }
         self.calls += 1;
         if self.calls.is_multiple_of(1 << 16) {

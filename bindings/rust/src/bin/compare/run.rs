@@ -85,7 +85,8 @@ impl Trial {
     fn conclude(self) {
         println!("all, seed {}: {}", option("--seed", 1), since(Tally::default(), self.tally));
         let refusals = self.tally.refusals.iter().enumerate().skip(1);
-        let refusals: Vec<String> = refusals.map(|(number, count)| format!("{number}: {}", grouped(*count))).collect();
+        let refusals: Vec<String> =
+            refusals.map(|(number, count)| format!("{number}: {}", grouped(*count))).collect();
         println!("refusals by number: {}", refusals.join(", "));
         println!("{} differences", grouped(self.tally.differences));
         if self.tally.differences > 0 {
@@ -113,7 +114,11 @@ impl Trial {
     /// Counts the places where two rows differ.
     pub fn same<T: Element + Debug>(&mut self, port: &[T], original: &[T], what: &dyn Debug) {
         if port.len() != original.len() {
-            self.differ(&format_args!("{} elements here, {} there: {what:?}", port.len(), original.len()));
+            self.differ(&format_args!(
+                "{} elements here, {} there: {what:?}",
+                port.len(),
+                original.len()
+            ));
         }
         for (i, (a, b)) in port.iter().zip(original).enumerate() {
             if a.bits() != b.bits() && !(a.is_nan() && b.is_nan()) {

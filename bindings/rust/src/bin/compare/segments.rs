@@ -27,10 +27,15 @@ pub fn all(t: &mut Trial) {
         segments += next as u64;
         places += seen.iter().filter(|s| **s).count() as u64;
     }
-    println!("{} segments, each width with each pair of ends; {} of 32,640 widths and places", grouped(segments), grouped(places));
+    println!(
+        "{} segments, each width with each pair of ends; {} of 32,640 widths and places",
+        grouped(segments),
+        grouped(places)
+    );
 }
 
-/// A row in which each pair of bytes stands once as neighbours, when its end is joined to its start (de Bruijn 1946).
+/// A row in which each pair of bytes stands once as neighbours, when its end is joined to
+/// its start (de Bruijn 1946).
 fn heights() -> Vec<u8> {
     let from = |a: u8| std::iter::once(a).chain((a..255).flat_map(move |b| [a, b + 1]));
     (0..=255).flat_map(from).collect()
@@ -39,7 +44,8 @@ fn heights() -> Vec<u8> {
 /// A list of `count` segments of one width, its heights from the row.
 fn compare(t: &mut Trial, heights: &[u8], first: usize, start: usize, width: usize, count: usize) {
     let height = |k: usize| heights[(first + k) % heights.len()];
-    let points: Vec<u8> = (0..=count).flat_map(|k| [(start + k * width) as u8, height(k)]).collect();
+    let points: Vec<u8> =
+        (0..=count).flat_map(|k| [(start + k * width) as u8, height(k)]).collect();
     let mut table = [0; 256];
     let answer = tone::table(&points, Kind::Linear, &mut table);
     t.answered(answer, Ok(()), &points);

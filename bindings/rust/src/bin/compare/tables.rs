@@ -68,7 +68,18 @@ fn table_to_look_in(t: &mut Trial) -> Vec<f32> {
 }
 
 fn value(random: &mut Random) -> f32 {
-    const ENDS: [f32; 10] = [f32::NAN, f32::INFINITY, f32::NEG_INFINITY, 0.0, -0.0, 1.0, 0.99999994, 1.0000001, f32::MIN_POSITIVE, -1e-45];
+    const ENDS: [f32; 10] = [
+        f32::NAN,
+        f32::INFINITY,
+        f32::NEG_INFINITY,
+        0.0,
+        -0.0,
+        1.0,
+        0.99999994,
+        1.0000001,
+        f32::MIN_POSITIVE,
+        -1e-45,
+    ];
     match random.below(5) {
         0 => random.float(),
         1 => random.of(&ENDS),
@@ -111,7 +122,11 @@ fn refused_table(t: &mut Trial, question: &Question, listed: Answer) {
 }
 
 fn refused_fine_table(t: &mut Trial, question: &Question, listed: Answer) {
-    let samples = if t.random.once_in(4) { t.random.below(5000) } else { t.random.of(&[0, 1, 2, 255, 256, 257, 4095, 4096, 4097]) };
+    let samples = if t.random.once_in(4) {
+        t.random.below(5000)
+    } else {
+        t.random.of(&[0, 1, 2, 255, 256, 257, 4095, 4096, 4097])
+    };
     let expected = listed.and(checks::fine_length(samples));
     let mut points = Lent::new(&question.points);
     let mut table = Lent::new(&vec![t.random.float(); samples]);
@@ -133,7 +148,13 @@ fn refused_lookup(t: &mut Trial) {
 }
 
 /// Holds an answer to the one expected, and what was lent to what the call may write.
-fn judged<T: Element>(t: &mut Trial, answer: Answer, expected: Answer, lent: &Lent<T>, written: usize) {
+fn judged<T: Element>(
+    t: &mut Trial,
+    answer: Answer,
+    expected: Answer,
+    lent: &Lent<T>,
+    written: usize,
+) {
     t.answered(answer, expected, &"refusals");
     t.kept(lent, if expected.is_ok() { written } else { 0 }, &expected);
 }

@@ -1,7 +1,9 @@
-//! Stores samples of the Rust original's answers for the programs `replay` and `replay_pictures` of the gate.
+//! Stores samples of the Rust original's answers for the programs `replay` and
+//! `replay_pictures` of the gate.
 //!
-//! `cargo run --release --bin store` writes their files `stdin`, the questions, and `stdout`, what the original answers. The port has no part in it.
-//! With `--check` it writes nothing, and fails where a file is not what it would write.
+//! `cargo run --release --bin store` writes their files `stdin`, the questions, and `stdout`, what
+//! the original answers. The port has no part in it. With `--check` it writes nothing, and fails
+//! where a file is not what it would write.
 #[cfg(original)]
 mod pictures;
 #[cfg(original)]
@@ -40,7 +42,8 @@ impl Sample {
 impl Sample {
     /// The files of a program, and what is in them.
     fn files(&self, program: &str) -> [(std::path::PathBuf, &str); 2] {
-        let folder = std::path::Path::new(env!("CARGO_MANIFEST_DIR")).join("../../crates").join(program);
+        let folder =
+            std::path::Path::new(env!("CARGO_MANIFEST_DIR")).join("../../crates").join(program);
         [(folder.join("stdin"), &self.asked), (folder.join("stdout"), &self.answered)]
     }
 }
@@ -61,7 +64,10 @@ fn check(program: &str, sample: Sample) {
             std::process::exit(1);
         }
     }
-    println!("{program}: {} questions are stored with the original's answers", sample.asked.lines().count());
+    println!(
+        "{program}: {} questions are stored with the original's answers",
+        sample.asked.lines().count()
+    );
 }
 
 #[cfg(original)]

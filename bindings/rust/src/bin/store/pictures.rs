@@ -1,10 +1,12 @@
 //! Pictures toned by both calls.
 //!
-//! A question is a line of 363 bytes in hexadecimal. The first eleven are the call (0 by the table of the record's master, 1 by the set), the format,
-//! the width, the height, the row step, the number of planes, and the lengths of the record, of the first plane, of the two chroma planes and of the
-//! tight rows. Then come the record (64 bytes), the first plane (240) and the chroma planes (24 each), zeros past the lengths. The answer is a line in
-//! hexadecimal: the whole plane of the call by one table; the tight rows of the set call and, of a YUV format, behind a space each, the chroma planes;
-//! or the word `refused`, where the original has the set call fail.
+//! A question is a line of 363 bytes in hexadecimal. The first eleven are the call (0 by the table
+//! of the record's master, 1 by the set), the format, the width, the height, the row step, the
+//! number of planes, and the lengths of the record, of the first plane, of the two chroma planes
+//! and of the tight rows. Then come the record (64 bytes), the first plane (240) and the chroma
+//! planes (24 each), zeros past the lengths. The answer is a line in hexadecimal: the whole plane
+//! of the call by one table; the tight rows of the set call and, of a YUV format, behind a space
+//! each, the chroma planes; or the word `refused`, where the original has the set call fail.
 use super::{hex, Sample};
 use tone::model::record::{encode, Set};
 use tone::original::{curves, frame, pixel_format, tonal_lut, PixelFilter, VideoStreamParams};
@@ -44,7 +46,8 @@ pub fn sample() -> Sample {
     sample
 }
 
-/// A picture of up to 8 by 8 whose plane has at most 240 bytes and, at width 0 too, reaches to the start of every row: else the original panics.
+/// A picture of up to 8 by 8 whose plane has at most 240 bytes and, at width 0 too, reaches to the
+/// start of every row: else the original panics.
 fn question(by_set: bool, format: Format, planes: usize, random: &mut Random) -> Question {
     loop {
         let (width, height) = (random.below(9), random.below(9));
@@ -81,7 +84,9 @@ fn bytes_of(question: &Question) -> Vec<u8> {
     let lengths = [record.len(), plane(0).len(), plane(1).len(), plane(2).len(), tight];
     let mut bytes = vec![u8::from(question.by_set), question.format.number()];
     let numbers = [question.width, question.height, question.step, question.planes.len()];
-    bytes.extend(numbers.into_iter().chain(lengths).map(|n| u8::try_from(n).expect("a small picture")));
+    bytes.extend(
+        numbers.into_iter().chain(lengths).map(|n| u8::try_from(n).expect("a small picture")),
+    );
     for (part, room) in [(&record[..], 64), (plane(0), 240), (plane(1), 24), (plane(2), 24)] {
         let end = bytes.len() + room;
         bytes.extend(part);

@@ -1,9 +1,11 @@
 //! Tables and lookups: random lists of every kind, then the lists of the page `Kinds.antt` of
 //! `examples`, on which a slip in a kind's formula shows.
 //!
-//! A question is a line of 135 bytes in hexadecimal: the kind's number, the tension, the start slope and the end slope (two bytes each, low byte
-//! first), the count of points, and 64 x, y pairs, zeros past the count. The answer is a line: the 256 entries of the byte table in hexadecimal, and
-//! FNV-1a digests (64 bits, over the bit patterns, low byte first) of the table of 256 samples, of that of 4,096 samples, and of 256 lookups in the latter.
+//! A question is a line of 135 bytes in hexadecimal: the kind's number, the tension, the start
+//! slope and the end slope (two bytes each, low byte first), the count of points, and 64 x, y
+//! pairs, zeros past the count. The answer is a line: the 256 entries of the byte table in
+//! hexadecimal, and FNV-1a digests (64 bits, over the bit patterns, low byte first) of the table of
+//! 256 samples, of that of 4,096 samples, and of 256 lookups in the latter.
 use super::{hex, Sample};
 use tone::original::{curves, lookup};
 use tone::trial::{any_list, kind, page_questions, Question, Random};
