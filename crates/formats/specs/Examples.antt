@@ -25,7 +25,7 @@ use Rattle.formats.specs.declared.PixelFormat.the-variants.{
   YuvJ444P,
 }
 use Rattle.formats.specs.declared.Lengths.{Lengths}
-use Rattle.formats.specs.Formats.{formatOf, bytesAPixel, keptOf, planesRead, byColour}
+use Rattle.formats.specs.Formats.{formatOf, bytesAPixel, alphaOf, planesRead, byColour}
 use Rattle.formats.specs.Checks.{lutAnswer, pictureAnswer}
 
 -- ---- the formats
@@ -51,7 +51,7 @@ bytes-a-pixel = (refl, refl)
 
 -- "alpha of Ya8 and Rgba, chroma and padding unchanged; Cmyk tones all four inks": alpha is the
 -- channel after grey, 1, or after the colours, 3; elsewhere the number of channels stands for none
-pub alpha-kept : (others keptOf ≡ 1 ∷ 1 ∷ 3 ∷ 3 ∷ 4 ∷ 4 ∷ []) × (yuv keptOf ≡ replicate 6 1)
+pub alpha-kept : (others alphaOf ≡ 1 ∷ 1 ∷ 3 ∷ 3 ∷ 4 ∷ 4 ∷ []) × (yuv alphaOf ≡ replicate 6 1)
 alpha-kept = (refl, refl)
 
 -- "only the first is read, or the first three for YUV"; none of a format that is answered with 8

@@ -4,7 +4,7 @@ use mathlib.Core.Logic.{inl, inr}
 use Prim.Native.Nat.{ℕ, _*_, _≤_}
 use native.Mathlib.Omega.{arith}
 use Rattle.rows.specs.Places.{mul-bound}
-use Rattle.rows.specs.Rows.{InPlace, Tight, alphaOf}
+use Rattle.rows.specs.Rows.{InPlace, Tight, tightAlpha}
 use Rattle.formats.specs.declared.PixelFormat.{PixelFormat}
 use Rattle.formats.specs.declared.PixelFormat.the-variants.{
   Gray8,
@@ -20,7 +20,7 @@ use Rattle.formats.specs.declared.PixelFormat.the-variants.{
   YuvJ422P,
   YuvJ444P,
 }
-use Rattle.formats.specs.Formats.{bytesAPixel, keptOf}
+use Rattle.formats.specs.Formats.{bytesAPixel, alphaOf}
 use Rattle.formats.specs.Checks.{Supported}
 
 few-bytes : (f : PixelFormat) → bytesAPixel f ≤ 4
@@ -41,7 +41,7 @@ few-bytes YuvJ444P = omega arith
 pub row-small : (f : PixelFormat) (w : ℕ) → w ≤ 4096 → w * bytesAPixel f ≤ 4096 * 4
 row-small f w wide = mul-bound w (bytesAPixel f) 4096 4 wide (few-bytes f)
 
-pub in-place : (f : PixelFormat) → InPlace (bytesAPixel f) (keptOf f)
+pub in-place : (f : PixelFormat) → InPlace (bytesAPixel f) (alphaOf f)
 in-place Gray8 = inl (omega arith, omega arith)
 in-place Ya8 = inr (inl (refl, refl))
 in-place Rgb24 = inl (omega arith, omega arith)
@@ -55,8 +55,8 @@ in-place YuvJ420P = inl (omega arith, omega arith)
 in-place YuvJ422P = inl (omega arith, omega arith)
 in-place YuvJ444P = inl (omega arith, omega arith)
 
-pub tight : (f : PixelFormat) → Supported f → Tight (bytesAPixel f) × (alphaOf (bytesAPixel f) ≡ keptOf f)
-unfolding alphaOf
+pub tight : (f : PixelFormat) → Supported f → Tight (bytesAPixel f) × (tightAlpha (bytesAPixel f) ≡ alphaOf f)
+unfolding tightAlpha
 tight Gray8 s = (inl refl, refl)
 tight Ya8 s = absurd (s refl)
 tight Rgb24 s = (inr (inl refl), refl)

@@ -43,19 +43,19 @@ bytesAPixel YuvJ422P = 1
 bytesAPixel YuvJ444P = 1
 
 -- "alpha of Ya8 and Rgba": the channel that no table tones; the number of channels where there is none
-abbrev pub keptOf : PixelFormat → ℕ
-keptOf Gray8 = 1
-keptOf Ya8 = 1
-keptOf Rgb24 = 3
-keptOf Rgba = 3
-keptOf Cmyk = 4
-keptOf CmykInverted = 4
-keptOf Yuv420P = 1
-keptOf Yuv422P = 1
-keptOf Yuv444P = 1
-keptOf YuvJ420P = 1
-keptOf YuvJ422P = 1
-keptOf YuvJ444P = 1
+abbrev pub alphaOf : PixelFormat → ℕ
+alphaOf Gray8 = 1
+alphaOf Ya8 = 1
+alphaOf Rgb24 = 3
+alphaOf Rgba = 3
+alphaOf Cmyk = 4
+alphaOf CmykInverted = 4
+alphaOf Yuv420P = 1
+alphaOf Yuv422P = 1
+alphaOf Yuv444P = 1
+alphaOf YuvJ420P = 1
+alphaOf YuvJ422P = 1
+alphaOf YuvJ444P = 1
 
 -- "only the first is read, or the first three for YUV"; 0 for a format that the set call refuses
 abbrev pub planesRead : PixelFormat → ℕ

@@ -1,6 +1,6 @@
 // The twelve formats, and the checks of the picture calls.
 ghost use mathlib.Core.Path.{_≡_};
-ghost use Rattle.formats.specs.Formats.{formatOf, bytesAPixel, keptOf, planesRead, byColour};
+ghost use Rattle.formats.specs.Formats.{formatOf, bytesAPixel, alphaOf, planesRead, byColour};
 
 pub mod checks;
 
@@ -72,8 +72,8 @@ impl PixelFormat {
     }
 
     // The channel that no table tones, alpha; the number of channels where there is none.
-    pub fn kept(self) -> usize
-        ensures { λ r. ⌜ r ≡ keptOf self ⌝ }
+    pub fn alpha(self) -> usize
+        ensures { λ r. ⌜ r ≡ alphaOf self ⌝ }
     {
         match self {
             PixelFormat::Gray8 => 1,

@@ -16,7 +16,7 @@ use Rattle.sets.specs.declared.Colour.the-variants.{Red, Green, Blue}
 use Rattle.sets.specs.Sets.{View, colourOf, channelOf, curveAnswer, channelAnswer, chosen, ownOrMaster}
 use Rattle.sets.specs.Legal.{passed-count}
 use Rattle.rows.specs.Bytes.{three, rowByte}
-use Rattle.rows.specs.Rows.{tightByte, alphaOf}
+use Rattle.rows.specs.Rows.{tightByte, tightAlpha}
 use Rattle.formats.specs.declared.PixelFormat.{PixelFormat}
 use Rattle.formats.specs.Formats.{bytesAPixel, byColour}
 use Rattle.formats.specs.Checks.{Supported}
@@ -44,7 +44,7 @@ channelTable by v c = byteTable (v .kind) (cond by (ownOrMaster (colourOf c v) (
 pub tight-rows-by : (f : PixelFormat) (v : View) (w h step : ℕ) (plane out : List ℕ) {by : Bool} {p : ℕ} {red green blue new : List ℕ}
     → Supported f → by ≡ byColour f → p ≡ bytesAPixel f
     → red ≡ channelTable by v Red → green ≡ channelTable by v Green → blue ≡ channelTable by v Blue
-    → new ≡ filled (h * (w * p)) (tightByte (w * p) step (rowByte p (alphaOf p) (three red green blue)) plane) out
+    → new ≡ filled (h * (w * p)) (tightByte (w * p) step (rowByte p (tightAlpha p) (three red green blue)) plane) out
     → new ≡ tightRows f w h step (tablesOf f v) plane out
 tight-rows-by f v w h step plane out s by-is p-is red-is green-is blue-is e =
     rw (red-is, green-is, blue-is, by-is, p-is, tight f s .1) at e

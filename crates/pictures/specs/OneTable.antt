@@ -10,12 +10,12 @@ use Rattle.lists.specs.Each.{each}
 use Rattle.rows.specs.Bytes.{same, rowByte}
 use Rattle.rows.specs.Rows.{planeByte}
 use Rattle.formats.specs.declared.PixelFormat.{PixelFormat}
-use Rattle.formats.specs.Formats.{bytesAPixel, keptOf}
+use Rattle.formats.specs.Formats.{bytesAPixel, alphaOf}
 use Rattle.formats.specs.Checks.{lutAnswer}
 
 -- "The one-table call tones all 12 formats within the plane: alpha of Ya8 and Rgba, chroma and padding unchanged; Cmyk tones all four inks"
 abbrev pub tonedWithin : PixelFormat → ℕ → ℕ → ℕ → List ℕ → List ℕ → List ℕ
-tonedWithin f w h step table plane = each (planeByte (w * bytesAPixel f) h step (rowByte (bytesAPixel f) (keptOf f) (same table))) plane
+tonedWithin f w h step table plane = each (planeByte (w * bytesAPixel f) h step (rowByte (bytesAPixel f) (alphaOf f) (same table))) plane
 
 -- the answer a, and the plane: toned, or on a refusal unchanged
 pub record LutCall (f : PixelFormat) (w h step : ℕ) (table old : List ℕ) (a : Answer) (new : List ℕ) : Type 0 where

@@ -23,7 +23,7 @@ use Rattle.rows.specs.Rows.{tightByte}
 use Rattle.formats.specs.declared.PixelFormat.{PixelFormat}
 use Rattle.formats.specs.declared.Lengths.{Lengths}
 use Rattle.pictures.specs.declared.Toned.{Toned}
-use Rattle.formats.specs.Formats.{bytesAPixel, keptOf, byColour}
+use Rattle.formats.specs.Formats.{bytesAPixel, alphaOf, byColour}
 use Rattle.formats.specs.Checks.{chromaRead, pictureChecks}
 
 -- "A plane is its bytes together with its row step"
@@ -132,7 +132,7 @@ tonedBy f v (suc (suc j)) = listFor f v Blue
 -- "tight rows" at the front of an output, alpha copied; "Output bytes past that are unchanged"
 abbrev pub tightRows : PixelFormat → ℕ → ℕ → ℕ → (ℕ → List ℕ) → List ℕ → List ℕ → List ℕ
 tightRows f w h step tables plane out =
-    filled (h * (w * bytesAPixel f)) (tightByte (w * bytesAPixel f) step (rowByte (bytesAPixel f) (keptOf f) tables) plane) out
+    filled (h * (w * bytesAPixel f)) (tightByte (w * bytesAPixel f) step (rowByte (bytesAPixel f) (alphaOf f) tables) plane) out
 
 module _ (r : Run) where
   abbrev pub accepted : Bool

@@ -69,7 +69,7 @@ pub fn apply_tone_lut(
             w,
             h,
             format.bytes_a_pixel(),
-            format.kept(),
+            format.alpha(),
             &table,
         );
     }

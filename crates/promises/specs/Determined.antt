@@ -17,7 +17,7 @@ use Rattle.single.specs.RuleLaws.{by-test}
 use Rattle.tables.specs.Tables.{entryOf}
 use Rattle.rows.specs.Rows.{inRow}
 use Rattle.formats.specs.declared.PixelFormat.{PixelFormat}
-use Rattle.formats.specs.Formats.{bytesAPixel, keptOf}
+use Rattle.formats.specs.Formats.{bytesAPixel, alphaOf}
 use Rattle.pictures.specs.Runs.{Run, size, rowBytes, hasChroma}
 use Rattle.promises.specs.Words.{
   Call,
@@ -56,7 +56,7 @@ inputOf r p = getD (r .plane .bytes) (inPlane r p) 0
 -- ---- a picture: of two runs on the same, by what is said of its bytes
 module _ (a b : Call) (same : a .given ≡ b .given) (c : ExactPicture a) (d : ExactPicture b) where
   one-byte : (p : Place) → Within (a .given) p → output a p ≡ output b p
-  one-byte p w = elim (ℕ-discrete (p .channel) (keptOf (a .given .format))) [
+  one-byte p w = elim (ℕ-discrete (p .channel) (alphaOf (a .given .format))) [
     | yes alpha ↦
         c .alpha p w alpha ∙ ap (λ (r : Run). inputOf r p) same
         ∙ sym (d .alpha p (rw (← same) w) (rw (← same) alpha))
@@ -130,7 +130,7 @@ one-plane f w h step table old a b c d =
     let x = place .1 in
     let j = place .2 in
     let index = place .6 in
-    elim (ℕ-discrete j (keptOf f)) [
+    elim (ℕ-discrete j (alphaOf f)) [
       | yes alpha ↦
           rw index at (c .alpha y x j (place .3) (place .4) (place .5) alpha)
           ∙ sym (rw index at (d .alpha y x j (place .3) (place .4) (place .5) alpha))

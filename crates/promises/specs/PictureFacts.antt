@@ -34,7 +34,7 @@ use Rattle.rows.specs.Rows.{inRow, tightByte}
 use Rattle.rows.specs.Places.{mul-room, place-row, place-in}
 use Rattle.rows.specs.Laws.{toned-through, toned-kept, rows-inside, tight-pixel}
 use Rattle.formats.specs.declared.PixelFormat.{PixelFormat}
-use Rattle.formats.specs.Formats.{bytesAPixel, keptOf}
+use Rattle.formats.specs.Formats.{bytesAPixel, alphaOf}
 use Rattle.pictures.specs.Runs.{Run, PlaneOf, rowBytes, size, hasChroma, accepted, tablesOf, first, chroma, stepOf}
 use Rattle.pictures.specs.RunLaws as Checked
 use Rattle.promises.specs.Words.{
@@ -144,18 +144,18 @@ module _ (c : Call) (ok : Accepted c) where
 
   out-filled : c .out ≡ filled (size (c .given))
       (tightByte (rowBytes (c .given)) (c .given .plane .step)
-      (rowByte (bytesAPixel (c .given .format)) (keptOf (c .given .format)) (tablesIn (c .given)))
+      (rowByte (bytesAPixel (c .given .format)) (alphaOf (c .given .format)) (tablesIn (c .given)))
       (c .given .plane .bytes)) (c .given .out)
   unfolding first
   out-filled = c .contract .out-is ∙ rw not-refused
 
   -- what stands at a place
   at-place : (p : Place) → Within (c .given) p
-      → output c p ≡ toned (keptOf (c .given .format)) (tablesIn (c .given)) (p .channel) (input c p)
+      → output c p ≡ toned (alphaOf (c .given .format)) (tablesIn (c .given)) (p .channel) (input c p)
   at-place p w =
       let r = c .given in
       rw out-filled
-      (tight-pixel (r .width) (r .height) (r .plane .step) (bytesAPixel (r .format)) (keptOf (r .format)) (tablesIn r)
+      (tight-pixel (r .width) (r .height) (r .plane .step) (bytesAPixel (r .format)) (alphaOf (r .format)) (tablesIn r)
       (r .plane .bytes) (r .out) (p .row) (p .column) (p .channel) (w .row) (w .column) (w .channel))
 
   -- it lies in the plane and in the output
@@ -175,13 +175,13 @@ module _ (c : Call) (ok : Accepted c) where
   toned-entry p t =
       let r = c .given in
       at-place p (t .within)
-      ∙ toned-through (keptOf (r .format)) (p .channel) (tablesIn r) (input c p) (t .not-alpha)
+      ∙ toned-through (alphaOf (r .format)) (p .channel) (tablesIn r) (input c p) (t .not-alpha)
       ∙ toning-table (r .format) (viewOf (r .set)) (p .channel) (input c p) (input-byte c p)
 
   alpha-copied : (p : Place) → Within (c .given) p → IsAlpha (c .given) p → output c p ≡ input c p
   alpha-copied p w alpha =
       let r = c .given in
-      at-place p w ∙ toned-kept (keptOf (r .format)) (p .channel) (tablesIn r) (input c p) alpha
+      at-place p w ∙ toned-kept (alphaOf (r .format)) (p .channel) (tablesIn r) (input c p) alpha
 
   written-long : length (written c) ≡ size (c .given)
   written-long = length-take-le (size (c .given)) (c .out) (omega (arith, out-long, passed-checks .room))
@@ -228,7 +228,7 @@ module _ (c : Call) (ok : Accepted c) where
 
   pub alpha-and-chroma : PassedThrough c
   alpha-and-chroma = record {
-    alpha = λ p w not-toned. elim (ℕ-discrete (p .channel) (keptOf (c .given .format))) [
+    alpha = λ p w not-toned. elim (ℕ-discrete (p .channel) (alphaOf (c .given .format))) [
       | yes alpha ↦ alpha-copied p w alpha
       | no other ↦ absurd (not-toned (record { within = w; not-alpha = other }))
     ];
@@ -281,10 +281,10 @@ by-input-alone a b a-ok b-ok kind p q a-toned b-toned list byte =
     toned-entry a a-ok p a-toned ∙ entry-alike kind list byte ∙ sym (toned-entry b b-ok q b-toned)
 
 toned-alike : {f g : PixelFormat} {v w : View} {x y : ℕ} (j : ℕ) → f ≡ g → v ≡ w → x ≡ y
-    → toned (keptOf f) (tablesOf f v) j x ≡ toned (keptOf g) (tablesOf g w) j y
+    → toned (alphaOf f) (tablesOf f v) j x ≡ toned (alphaOf g) (tablesOf g w) j y
 toned-alike {g = g} {v = v} {w = w} {x = x} j format view e =
-    ap (λ (k : PixelFormat). toned (keptOf k) (tablesOf k v) j x) format ∙ ap (λ (u : View). toned (keptOf g) (tablesOf g u) j x) view
-    ∙ ap (toned (keptOf g) (tablesOf g w) j) e
+    ap (λ (k : PixelFormat). toned (alphaOf k) (tablesOf k v) j x) format ∙ ap (λ (u : View). toned (alphaOf g) (tablesOf g u) j x) view
+    ∙ ap (toned (alphaOf g) (tablesOf g w) j) e
 
 module _ (a b : Call) (share : Share a b) where
   same-size : size (a .given) ≡ size (b .given)

@@ -29,7 +29,7 @@ use Rattle.rows.specs.Bytes.{same, rowByte}
 use Rattle.rows.specs.Rows.{planeByte}
 use Rattle.rows.specs.Laws.{toned-through, toned-kept, plane-pixel, padding-stays}
 use Rattle.formats.specs.declared.PixelFormat.{PixelFormat}
-use Rattle.formats.specs.Formats.{bytesAPixel, keptOf}
+use Rattle.formats.specs.Formats.{bytesAPixel, alphaOf}
 use Rattle.formats.specs.CheckLaws.{lut-done}
 use Rattle.pictures.specs.OneTable.{tonedWithin, LutCall}
 use Rattle.promises.specs.Results.{ExactPlane}
@@ -57,13 +57,13 @@ apply-tone-lut-tones {f} {w} {h} {step} {table} {old} {new} {r} call zero =
     let rows = lut-done f w h step (length old) (sym (call .answer-is) ∙ number-unique r Done zero) .rows in
     let is : new ≡ tonedWithin f w h step table old = rw zero at (call .plane-is) in
     let p = bytesAPixel f in
-    let pixel = plane-pixel w h step p (keptOf f) (same table) old in
+    let pixel = plane-pixel w h step p (alphaOf f) (same table) old in
     record {
       plane-is = is;
-      toned = λ y x j below left channel other. rw is (pixel y x j rows below left channel ∙ toned-through (keptOf f) j (same table) _ other);
-      alpha = λ y x j below left channel alpha. rw is (pixel y x j rows below left channel ∙ toned-kept (keptOf f) j (same table) _ alpha);
-      padding = λ k out. rw is (padding-stays (w * p) h step (rowByte p (keptOf f) (same table)) old k out);
-      long = rw is (length-each (planeByte (w * p) h step (rowByte p (keptOf f) (same table))) old);
+      toned = λ y x j below left channel other. rw is (pixel y x j rows below left channel ∙ toned-through (alphaOf f) j (same table) _ other);
+      alpha = λ y x j below left channel alpha. rw is (pixel y x j rows below left channel ∙ toned-kept (alphaOf f) j (same table) _ alpha);
+      padding = λ k out. rw is (padding-stays (w * p) h step (rowByte p (alphaOf f) (same table)) old k out);
+      long = rw is (length-each (planeByte (w * p) h step (rowByte p (alphaOf f) (same table))) old);
     }
 
 -- ---- records

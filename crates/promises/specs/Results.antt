@@ -17,7 +17,7 @@ use Rattle.spline.specs.Segments.{splinePiece}
 use Rattle.spline.specs.Second.{secondAt}
 use Rattle.rows.specs.Rows.{inRow}
 use Rattle.formats.specs.declared.PixelFormat.{PixelFormat}
-use Rattle.formats.specs.Formats.{bytesAPixel, keptOf}
+use Rattle.formats.specs.Formats.{bytesAPixel, alphaOf}
 use Rattle.pictures.specs.OneTable.{tonedWithin}
 
 -- ---- sample v of S of the curve of the list l
@@ -67,8 +67,8 @@ at f step y x j = y * step + (x * bytesAPixel f + j)
 -- it is the plane of the definition; and byte by byte
 pub record ExactPlane (f : PixelFormat) (w h step : ℕ) (table old new : List ℕ) : Type 0 where
   pub plane-is : new ≡ tonedWithin f w h step table old
-  pub toned : (y x j : ℕ) → y < h → x < w → j < bytesAPixel f → (j ≡ keptOf f → ⊥)
+  pub toned : (y x j : ℕ) → y < h → x < w → j < bytesAPixel f → (j ≡ alphaOf f → ⊥)
       → getD new (at f step y x j) 0 ≡ getD table (getD old (at f step y x j) 0) 0
-  pub alpha : (y x j : ℕ) → y < h → x < w → j < bytesAPixel f → j ≡ keptOf f → getD new (at f step y x j) 0 ≡ getD old (at f step y x j) 0
+  pub alpha : (y x j : ℕ) → y < h → x < w → j < bytesAPixel f → j ≡ alphaOf f → getD new (at f step y x j) 0 ≡ getD old (at f step y x j) 0
   pub padding : (k : ℕ) → inRow (w * bytesAPixel f) h step k ≡ false → getD new k 0 ≡ getD old k 0
   pub long : length new ≡ length old

@@ -17,7 +17,7 @@ use Rattle.sets.specs.Sets.{viewOf}
 use Rattle.sets.specs.Same.{Same}
 use Rattle.rows.specs.Rows.{inRow}
 use Rattle.pictures.specs.declared.Toned.{Toned}
-use Rattle.formats.specs.Formats.{bytesAPixel, keptOf}
+use Rattle.formats.specs.Formats.{bytesAPixel, alphaOf}
 use Rattle.pictures.specs.Runs.{Run, EveryList, rowBytes, size, hasChroma, answer, tonedBy, first, chroma, SetCall}
 
 -- ---- runs
@@ -76,7 +76,7 @@ output c p = getD (c .out) (inOutput (c .given) p) 0
 
 -- the channel "alpha", where the format has one
 abbrev pub IsAlpha : Run → Place → Type 0
-IsAlpha r p = p .channel ≡ keptOf (r .format)
+IsAlpha r p = p .channel ≡ alphaOf (r .format)
 
 -- "Toned bytes are those sent through a table": at every place of the picture but alpha
 pub record TonedAt (r : Run) (p : Place) : Type 0 where

@@ -8,7 +8,7 @@ use lib.Dec.{lit≤}
 use Rattle.lists.specs.Each.{each}
 use Rattle.lists.specs.Tabulate.{tabulate, filled}
 use Rattle.rows.specs.Bytes.{same, three, toned, rowByte}
-use Rattle.rows.specs.Rows.{inRow, planeByte, tightByte, needed, Rows, alphaOf}
+use Rattle.rows.specs.Rows.{inRow, planeByte, tightByte, needed, Rows, tightAlpha}
 
 abbrev more : ℕ → List ℕ
 more n = tabulate 256 (λ x. x + n)
@@ -46,6 +46,6 @@ rows-at-edges = (
 )
 
 -- of 4 bytes the last is kept, of 1 or 3 none
-pub kept-of-four : (alphaOf 1 ≡ 1) × (alphaOf 3 ≡ 3) × (alphaOf 4 ≡ 3)
-unfolding alphaOf
+pub kept-of-four : (tightAlpha 1 ≡ 1) × (tightAlpha 3 ≡ 3) × (tightAlpha 4 ≡ 3)
+unfolding tightAlpha
 kept-of-four = (refl, refl, refl)

@@ -39,5 +39,5 @@ abbrev pub Tight : ℕ → Type 0
 Tight p = (p ≡ 1) ⊎ ((p ≡ 3) ⊎ (p ≡ 4))
 
 -- the channel that these keep: the last of 4, else none
-unfoldable pub alphaOf : ℕ → ℕ
-alphaOf p = cond (eqb p 4) 3 p
+unfoldable pub tightAlpha : ℕ → ℕ
+tightAlpha p = cond (eqb p 4) 3 p

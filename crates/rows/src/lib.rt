@@ -10,7 +10,7 @@ ghost use Rattle.lists.specs.Each.{each};
 ghost use Rattle.lists.specs.Tabulate.{filled};
 ghost use Rattle.lists.specs.Replaced.{Replaced};
 ghost use Rattle.rows.specs.Bytes.{same, three, through, rowByte, plainByte, pixelByte};
-ghost use Rattle.rows.specs.Rows.{planeByte, tightByte, Rows, InPlace, Tight, alphaOf};
+ghost use Rattle.rows.specs.Rows.{planeByte, tightByte, Rows, InPlace, Tight, tightAlpha};
 
 // A byte through a table.
 fn look(table: &[u8; 256], x: u8) -> u8
@@ -206,7 +206,10 @@ fn tone_block_into(
     dst: &mut [u8],
 )
     requires { ⌜ Tight p × (length (now src) ≡ w * p) × (length (now dst) ≡ w * p) ⌝ }
-    ensures { λ _. ⌜ now (dst .exit) ≡ each (rowByte p (alphaOf p) (three (now (red .entry)) (now (green .entry)) (now (blue .entry)))) (now (src .entry)) ⌝ }
+    ensures { λ _. ⌜ now (dst .exit)
+        ≡ each (rowByte p (tightAlpha p)
+        (three (now (red .entry)) (now (green .entry)) (now (blue .entry))))
+        (now (src .entry)) ⌝ }
 {
     copy_bytes(src, dst);
     if p == 1 {
@@ -238,7 +241,10 @@ fn tone_row_into(
     dst: &mut [u8],
 )
     requires { ⌜ Tight p × (length (now src) ≡ w * p) × (length (now dst) ≡ w * p) ⌝ }
-    ensures { λ _. ⌜ now (dst .exit) ≡ each (rowByte p (alphaOf p) (three (now (red .entry)) (now (green .entry)) (now (blue .entry)))) (now (src .entry)) ⌝ }
+    ensures { λ _. ⌜ now (dst .exit)
+        ≡ each (rowByte p (tightAlpha p)
+        (three (now (red .entry)) (now (green .entry)) (now (blue .entry))))
+        (now (src .entry)) ⌝ }
 {
     let mut x = 0;
     while x < w {
@@ -263,7 +269,12 @@ pub fn tone_rows_into(
     dst: &mut [u8],
 )
     requires { ⌜ Tight p × Rows w h (w * p) step (length (now plane)) × (h * (w * p) ≤ length (now dst)) ⌝ }
-    ensures { λ _. ⌜ now (dst .exit) ≡ filled (h * (w * p)) (tightByte (w * p) step (rowByte p (alphaOf p) (three (now (red .entry)) (now (green .entry)) (now (blue .entry)))) (now (plane .entry))) (now (dst .entry)) ⌝ }
+    ensures { λ _. ⌜ now (dst .exit)
+        ≡ filled (h * (w * p))
+        (tightByte (w * p) step
+        (rowByte p (tightAlpha p) (three (now (red .entry)) (now (green .entry)) (now (blue .entry))))
+        (now (plane .entry)))
+        (now (dst .entry)) ⌝ }
 {
     if w == 0 {
         return;

@@ -18,16 +18,16 @@ tone-rows-requires : tie.Need-tone-rows-requires
 tone-rows-requires c κs =
     let p-is = c .before .before .bytes-a-pixel .ensures in
     let k = c .before .before .before .before in
-    (rw (p-is, c .before .kept .ensures) (in-place (k .before .before .before .before .args .format)), rw p-is (good k .rows))
+    (rw (p-is, c .before .alpha .ensures) (in-place (k .before .before .before .before .args .format)), rw p-is (good k .rows))
 
 returns : tie.Need-returns
 returns c =
     let toned = c .before .before in
-    let kept = toned .before .before in
-    let k = kept .before .before .before in
+    let alpha = toned .before .before in
+    let k = alpha .before .before .before in
     record {
       answer-is = k .before .before .lut-answer .ensures;
-      plane-is = rw (sym (k .before .is-done .ensures) ∙ k .if1 .taken, ← kept .before .bytes-a-pixel .ensures, ← kept .kept .ensures) (toned .tone-rows .ensures);
+      plane-is = rw (sym (k .before .is-done .ensures) ∙ k .if1 .taken, ← alpha .before .bytes-a-pixel .ensures, ← alpha .alpha .ensures) (toned .tone-rows .ensures);
     }
 
 returns-2 : tie.Need-returns-2

@@ -3,13 +3,13 @@ use native.Mathlib.Omega.{arith}
 use mathlib.Core.Path.{_∙_}
 use native.Mathlib.Nat.{mod-one}
 use Rattle.rows.specs.Bytes.{three, rowByte, plainByte}
-use Rattle.rows.specs.Rows.{alphaOf}
+use Rattle.rows.specs.Rows.{tightAlpha}
 use Rattle.rows.proofs.Walk.{plain-row, copied-each, four}
 use Rattle.rows.proofs.tone_block_into.Statement.{statement}
 use Rattle.rows.proofs.tone_block_into.Tie as tie
 
 returns : tie.Need-returns
-unfolding alphaOf
+unfolding tightAlpha
 returns c =
     let k = c .before .before in
     let test = k .before .before in
@@ -33,7 +33,7 @@ tone-colours-alpha-requires c κs =
     omega arith
 
 returns-2 : tie.Need-returns-2
-unfolding alphaOf
+unfolding tightAlpha
 returns-2 c =
     let k = c .before .before in
     let test = k .before .before in
@@ -44,7 +44,7 @@ returns-2 c =
     (copied-each (rowByte 3 3 tables) (given .src .now) (given .dst .now) (omega arith) (copy .copy-bytes .ensures) (k .tone-colours .ensures))
 
 returns-3 : tie.Need-returns-3
-unfolding alphaOf
+unfolding tightAlpha
 returns-3 c =
     let k = c .before .before in
     let test = k .before .before in

@@ -4,7 +4,7 @@ use Prim.Native.Nat.{_≤_, _-_, _*_}
 use Rattle.lists.specs.Replaced.{replacing}
 use Rattle.lists.specs.Stored.{Stored, stored-none, stored-end}
 use Rattle.rows.specs.Bytes.{three, rowByte}
-use Rattle.rows.specs.Rows.{alphaOf}
+use Rattle.rows.specs.Rows.{tightAlpha}
 use Rattle.rows.specs.Places.{mul-part, mul-last}
 use Rattle.rows.proofs.Walk.{block-next, block-done}
 use Rattle.rows.proofs.tone_row_into.Statement.{statement}
@@ -12,7 +12,7 @@ use Rattle.rows.proofs.tone_row_into.Tie as tie
 
 abbrev Inv-loop : tie.InvT-loop
 Inv-loop src w p red green blue dst₀ x₀ dst x =
-    (x ≤ w) × Stored (replacing 0 (rowByte p (alphaOf p) (three red green blue)) src) 0 (x * p) dst₀ dst
+    (x ≤ w) × Stored (replacing 0 (rowByte p (tightAlpha p) (three red green blue)) src) 0 (x * p) dst₀ dst
 
 abbrev μ-loop : tie.MeasureT-loop
 μ-loop src w p red green blue dst₀ x₀ dst x = w - x
@@ -46,7 +46,7 @@ loop-again c =
     let tables = three (given .red .now) (given .green .now) (given .blue .now) in
     let start = here .before .before .loop in (
       omega arith,
-      block-next (given .p) (alphaOf (given .p)) tables (given .src .now) (start .x) (here .block-size .result) (part-tone-block-into-end here)
+      block-next (given .p) (tightAlpha (given .p)) tables (given .src .now) (start .x) (here .block-size .result) (part-tone-block-into-end here)
           (part-tone-block-into-end-2 (k .before .before)) (start .inv .1) (k .tone-block-into .ensures),
     )
 
@@ -54,7 +54,7 @@ returns : tie.Need-returns Inv-loop μ-loop
 returns c =
     let given = c .before .before .before .before .args in
     let all = mul-last (c .before .loop .x) (given .w) (given .p) (omega arith) (omega arith) in
-    let rule = rowByte (given .p) (alphaOf (given .p)) (three (given .red .now) (given .green .now) (given .blue .now)) in
+    let rule = rowByte (given .p) (tightAlpha (given .p)) (three (given .red .now) (given .green .now) (given .blue .now)) in
     block-done rule (given .src .now) (c .before .loop .inv .1) (omega arith) (omega arith)
 
 pub tone-row-into-spec : {M : Type 1} → statement M

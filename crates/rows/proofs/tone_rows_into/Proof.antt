@@ -5,7 +5,7 @@ use Prim.Native.Nat.{_≤_, _-_, _*_}
 use native.Mathlib.Nat.{zero-mul, mul-zero}
 use Rattle.lists.specs.Stored.{Stored, stored-none, stored-end, stored-front}
 use Rattle.rows.specs.Bytes.{three, rowByte}
-use Rattle.rows.specs.Rows.{tightByte, alphaOf}
+use Rattle.rows.specs.Rows.{tightByte, tightAlpha}
 use Rattle.rows.specs.Places.{mul-room, mul-last}
 use Rattle.rows.specs.Laws.{rows-inside}
 use Rattle.rows.proofs.Walk.{tight-next, filled-none}
@@ -15,7 +15,7 @@ use Rattle.rows.proofs.tone_rows_into.Tie as tie
 abbrev Inv-loop : tie.InvT-loop
 Inv-loop plane step w h p red green blue dst₀ row y₀ dst y =
     (y ≤ h) × (row ≡ w * p)
-    × Stored (tightByte (w * p) step (rowByte p (alphaOf p) (three red green blue)) plane) 0 (y * (w * p)) dst₀ dst
+    × Stored (tightByte (w * p) step (rowByte p (tightAlpha p) (three red green blue)) plane) 0 (y * (w * p)) dst₀ dst
 
 abbrev μ-loop : tie.MeasureT-loop
 μ-loop plane step w h p red green blue dst₀ row y₀ dst y = h - y
@@ -23,7 +23,7 @@ abbrev μ-loop : tie.MeasureT-loop
 returns : tie.Need-returns Inv-loop μ-loop
 returns c =
     let given = c .before .before .before .args in
-    let rule = rowByte (given .p) (alphaOf (given .p)) (three (given .red .now) (given .green .now) (given .blue .now)) in
+    let rule = rowByte (given .p) (tightAlpha (given .p)) (three (given .red .now) (given .green .now) (given .blue .now)) in
     filled-none (given .h * (given .w * given .p)) (tightByte (given .w * given .p) (given .step) rule (given .plane .now)) (given .dst .now)
     (rw (c .if1 .taken, zero-mul) (mul-zero _))
 
@@ -59,7 +59,7 @@ loop-again c =
     let k = c .before .before in
     let here = k .before .before .before in
     let given = here .before .before .before .before .before .args in
-    let rule = rowByte (given .p) (alphaOf (given .p)) (three (given .red .now) (given .green .now) (given .blue .now)) in (
+    let rule = rowByte (given .p) (tightAlpha (given .p)) (three (given .red .now) (given .green .now) (given .blue .now)) in (
       omega arith,
       omega arith,
       tight-next (given .w * given .p) (given .step) rule (given .plane .now) (here .before .loop .y) (part-tone-row-into-end here)
