@@ -1,8 +1,9 @@
--- The twelve formats: bytes a pixel, the channel that no table tones, the planes that the set call reads. Definitions only.
+-- The twelve formats: their numbers, and the layout of each. Definitions only.
 use Prim.Native.Nat.{ℕ}
 use mathlib.Core.Bool.{Bool, true, false}
 use mathlib.Core.List.{List, [], _∷_}
 use lib.ListN.{getD}
+use Rattle.formats.specs.declared.Layout.{Layout}
 use Rattle.formats.specs.declared.PixelFormat.{PixelFormat}
 use Rattle.formats.specs.declared.PixelFormat.the-variants.{
   Gray8,
@@ -27,62 +28,39 @@ inOrder = Gray8 ∷ Ya8 ∷ Rgb24 ∷ Rgba ∷ Cmyk ∷ CmykInverted ∷ Yuv420P
 unfoldable pub formatOf : ℕ → PixelFormat
 formatOf n = getD inOrder n Gray8
 
+-- the columns of the table below: bytes, alpha, planes, by colour
+abbrev pub newLayout : ℕ → ℕ → ℕ → Bool → Layout
+newLayout bytes alpha planes byColour =
+    record { bytes = bytes; alpha = alpha; planes = planes; «by_colour» = byColour }
+
+abbrev pub layoutOf : PixelFormat → Layout
+layoutOf Gray8 = newLayout 1 1 1 false
+layoutOf Ya8 = newLayout 2 1 0 false
+layoutOf Rgb24 = newLayout 3 3 1 true
+layoutOf Rgba = newLayout 4 3 1 true
+layoutOf Cmyk = newLayout 4 4 0 false
+layoutOf CmykInverted = newLayout 4 4 0 false
+layoutOf Yuv420P = newLayout 1 1 3 false
+layoutOf Yuv422P = newLayout 1 1 3 false
+layoutOf Yuv444P = newLayout 1 1 3 false
+layoutOf YuvJ420P = newLayout 1 1 3 false
+layoutOf YuvJ422P = newLayout 1 1 3 false
+layoutOf YuvJ444P = newLayout 1 1 3 false
+
 -- "width times 1 (Gray8, luma), 2 (Ya8), 3 (Rgb24), 4 (Rgba, Cmyk, CmykInverted)"
 abbrev pub bytesAPixel : PixelFormat → ℕ
-bytesAPixel Gray8 = 1
-bytesAPixel Ya8 = 2
-bytesAPixel Rgb24 = 3
-bytesAPixel Rgba = 4
-bytesAPixel Cmyk = 4
-bytesAPixel CmykInverted = 4
-bytesAPixel Yuv420P = 1
-bytesAPixel Yuv422P = 1
-bytesAPixel Yuv444P = 1
-bytesAPixel YuvJ420P = 1
-bytesAPixel YuvJ422P = 1
-bytesAPixel YuvJ444P = 1
+bytesAPixel f = layoutOf f .bytes
 
--- "alpha of Ya8 and Rgba": the channel that no table tones; the number of channels where there is none
+-- "alpha of Ya8 and Rgba": the channel that no table tones; the number of channels where there is
+-- none
 abbrev pub alphaOf : PixelFormat → ℕ
-alphaOf Gray8 = 1
-alphaOf Ya8 = 1
-alphaOf Rgb24 = 3
-alphaOf Rgba = 3
-alphaOf Cmyk = 4
-alphaOf CmykInverted = 4
-alphaOf Yuv420P = 1
-alphaOf Yuv422P = 1
-alphaOf Yuv444P = 1
-alphaOf YuvJ420P = 1
-alphaOf YuvJ422P = 1
-alphaOf YuvJ444P = 1
+alphaOf f = layoutOf f .alpha
 
 -- "only the first is read, or the first three for YUV"; 0 for a format that the set call refuses
 abbrev pub planesRead : PixelFormat → ℕ
-planesRead Gray8 = 1
-planesRead Ya8 = 0
-planesRead Rgb24 = 1
-planesRead Rgba = 1
-planesRead Cmyk = 0
-planesRead CmykInverted = 0
-planesRead Yuv420P = 3
-planesRead Yuv422P = 3
-planesRead Yuv444P = 3
-planesRead YuvJ420P = 3
-planesRead YuvJ422P = 3
-planesRead YuvJ444P = 3
+planesRead f = layoutOf f .planes
 
--- "In Rgb24 and Rgba the list that tones a byte is its colour's where present": whether a format is toned by colour
+-- "In Rgb24 and Rgba the list that tones a byte is its colour's where present": whether a format is
+-- toned by colour
 abbrev pub byColour : PixelFormat → Bool
-byColour Gray8 = false
-byColour Ya8 = false
-byColour Rgb24 = true
-byColour Rgba = true
-byColour Cmyk = false
-byColour CmykInverted = false
-byColour Yuv420P = false
-byColour Yuv422P = false
-byColour Yuv444P = false
-byColour YuvJ420P = false
-byColour YuvJ422P = false
-byColour YuvJ444P = false
+byColour f = layoutOf f .«by_colour»

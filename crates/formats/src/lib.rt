@@ -1,6 +1,7 @@
 // The twelve formats, and the checks of the picture calls.
 ghost use mathlib.Core.Path.{_≡_};
-ghost use Rattle.formats.specs.Formats.{formatOf, bytesAPixel, alphaOf, planesRead, byColour};
+ghost use Rattle.formats.specs.Formats.{formatOf, newLayout, layoutOf};
+ghost use Rattle.formats.specs.Formats.{bytesAPixel, alphaOf, planesRead, byColour};
 
 pub mod checks;
 
@@ -44,7 +45,32 @@ pub fn format_of(n: u8) -> PixelFormat
     }
 }
 
-// What the kernels and the checks are told of a format.
+// What the kernels and the checks need to know of a format.
+pub struct Layout {
+    // of a pixel
+    pub bytes: usize,
+    // the channel that no table tones; the number of channels where there is none
+    pub alpha: usize,
+    // how many the set call reads; 0 where it refuses the format
+    pub planes: usize,
+    // whether the set call tones each colour by its own table
+    pub by_colour: bool,
+}
+
+impl Layout {
+    // By position, so that `PixelFormat::layout` reads as a table.
+    fn new(bytes: usize, alpha: usize, planes: usize, by_colour: bool) -> Layout
+        ensures { λ r. ⌜ r ≡ newLayout bytes alpha planes «by_colour» ⌝ }
+    {
+        Layout {
+            bytes,
+            alpha,
+            planes,
+            by_colour,
+        }
+    }
+}
+
 impl PixelFormat {
     // The limits of 9 and 11: the largest width and height of a picture, and the largest row step
     // of a plane.
@@ -52,83 +78,47 @@ impl PixelFormat {
 
     pub const LARGEST_STEP: usize = 32768;
 
+    pub fn layout(self) -> Layout
+        ensures { λ r. ⌜ r ≡ layoutOf self ⌝ }
+    {
+        match self {
+            PixelFormat::Gray8 => Layout::new(1, 1, 1, false),
+            PixelFormat::Ya8 => Layout::new(2, 1, 0, false),
+            PixelFormat::Rgb24 => Layout::new(3, 3, 1, true),
+            PixelFormat::Rgba => Layout::new(4, 3, 1, true),
+            PixelFormat::Cmyk => Layout::new(4, 4, 0, false),
+            PixelFormat::CmykInverted => Layout::new(4, 4, 0, false),
+            PixelFormat::Yuv420P => Layout::new(1, 1, 3, false),
+            PixelFormat::Yuv422P => Layout::new(1, 1, 3, false),
+            PixelFormat::Yuv444P => Layout::new(1, 1, 3, false),
+            PixelFormat::YuvJ420P => Layout::new(1, 1, 3, false),
+            PixelFormat::YuvJ422P => Layout::new(1, 1, 3, false),
+            PixelFormat::YuvJ444P => Layout::new(1, 1, 3, false),
+        }
+    }
+
     pub fn bytes_a_pixel(self) -> usize
         ensures { λ r. ⌜ r ≡ bytesAPixel self ⌝ }
     {
-        match self {
-            PixelFormat::Gray8 => 1,
-            PixelFormat::Ya8 => 2,
-            PixelFormat::Rgb24 => 3,
-            PixelFormat::Rgba => 4,
-            PixelFormat::Cmyk => 4,
-            PixelFormat::CmykInverted => 4,
-            PixelFormat::Yuv420P => 1,
-            PixelFormat::Yuv422P => 1,
-            PixelFormat::Yuv444P => 1,
-            PixelFormat::YuvJ420P => 1,
-            PixelFormat::YuvJ422P => 1,
-            PixelFormat::YuvJ444P => 1,
-        }
+        self.layout().bytes
     }
 
-    // The channel that no table tones, alpha; the number of channels where there is none.
     pub fn alpha(self) -> usize
         ensures { λ r. ⌜ r ≡ alphaOf self ⌝ }
     {
-        match self {
-            PixelFormat::Gray8 => 1,
-            PixelFormat::Ya8 => 1,
-            PixelFormat::Rgb24 => 3,
-            PixelFormat::Rgba => 3,
-            PixelFormat::Cmyk => 4,
-            PixelFormat::CmykInverted => 4,
-            PixelFormat::Yuv420P => 1,
-            PixelFormat::Yuv422P => 1,
-            PixelFormat::Yuv444P => 1,
-            PixelFormat::YuvJ420P => 1,
-            PixelFormat::YuvJ422P => 1,
-            PixelFormat::YuvJ444P => 1,
-        }
+        self.layout().alpha
     }
 
-    // How many planes the set call reads; 0 where it refuses the format.
     pub fn planes_read(self) -> usize
         ensures { λ r. ⌜ r ≡ planesRead self ⌝ }
     {
-        match self {
-            PixelFormat::Gray8 => 1,
-            PixelFormat::Ya8 => 0,
-            PixelFormat::Rgb24 => 1,
-            PixelFormat::Rgba => 1,
-            PixelFormat::Cmyk => 0,
-            PixelFormat::CmykInverted => 0,
-            PixelFormat::Yuv420P => 3,
-            PixelFormat::Yuv422P => 3,
-            PixelFormat::Yuv444P => 3,
-            PixelFormat::YuvJ420P => 3,
-            PixelFormat::YuvJ422P => 3,
-            PixelFormat::YuvJ444P => 3,
-        }
+        self.layout().planes
     }
 
-    // Whether the set call tones each colour by its own table.
     pub fn by_colour(self) -> bool
         ensures { λ r. ⌜ r ≡ byColour self ⌝ }
     {
-        match self {
-            PixelFormat::Gray8 => false,
-            PixelFormat::Ya8 => false,
-            PixelFormat::Rgb24 => true,
-            PixelFormat::Rgba => true,
-            PixelFormat::Cmyk => false,
-            PixelFormat::CmykInverted => false,
-            PixelFormat::Yuv420P => false,
-            PixelFormat::Yuv422P => false,
-            PixelFormat::Yuv444P => false,
-            PixelFormat::YuvJ420P => false,
-            PixelFormat::YuvJ422P => false,
-            PixelFormat::YuvJ444P => false,
-        }
+        self.layout().by_colour
     }
 }
 
