@@ -4,8 +4,8 @@
 use mathlib.Core.Path.{_≡_, refl}
 use mathlib.Core.Bool.{Bool, true, false}
 use mathlib.Core.List.{List, [], _∷_, _++_}
-use Prim.Native.Nat.{ℕ}
-use lib.ListN.{replicate}
+use Prim.Native.Nat.{ℕ, _+_}
+use lib.ListN.{length, replicate}
 use Rattle.answers.specs.Numbers.{numberOf}
 use Rattle.lists.specs.Tabulate.{tabulate}
 use Rattle.rows.specs.Rows.{needed}
@@ -25,7 +25,8 @@ use Rattle.formats.specs.declared.PixelFormat.the-variants.{
   YuvJ444P,
 }
 use Rattle.formats.specs.declared.Lengths.{Lengths}
-use Rattle.formats.specs.Formats.{formatOf, bytesAPixel, alphaOf, planesRead, byColour}
+use Rattle.formats.specs.Formats.{inOrder, lastFormat, formatOf}
+use Rattle.formats.specs.Formats.{bytesAPixel, alphaOf, planesRead, byColour}
 use Rattle.formats.specs.Checks.{lutAnswer, pictureAnswer}
 
 -- ---- the formats
@@ -40,9 +41,10 @@ others rule =
     rule Gray8 ∷ rule Ya8 ∷ rule Rgb24 ∷ rule Rgba ∷ rule Cmyk ∷ rule CmykInverted ∷ []
 
 -- the numbers from 0 to 11 at the C boundary, as `bindings/c/tone.h` has them
-pub numbered : tabulate 12 formatOf ≡ others (λ f. f) ++ yuv (λ f. f)
+pub numbered : (tabulate 12 formatOf ≡ others (λ f. f) ++ yuv (λ f. f))
+    × (lastFormat + 1 ≡ 12) × (lastFormat + 1 ≡ length inOrder)
 unfolding tabulate formatOf
-numbered = refl
+numbered = (refl, refl, refl)
 
 -- "width times 1 (Gray8, luma), 2 (Ya8), 3 (Rgb24), 4 (Rgba, Cmyk, CmykInverted)"
 pub bytes-a-pixel : (others bytesAPixel ≡ 1 ∷ 2 ∷ 3 ∷ 4 ∷ 4 ∷ 4 ∷ [])

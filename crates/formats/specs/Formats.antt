@@ -24,6 +24,10 @@ use Rattle.formats.specs.declared.PixelFormat.the-variants.{
 abbrev pub inOrder : List PixelFormat
 inOrder = Gray8 ∷ Ya8 ∷ Rgb24 ∷ Rgba ∷ Cmyk ∷ CmykInverted ∷ Yuv420P ∷ Yuv422P ∷ Yuv444P ∷ YuvJ420P ∷ YuvJ422P ∷ YuvJ444P ∷ []
 
+-- the number of the last
+abbrev pub lastFormat : ℕ
+lastFormat = 11
+
 -- a greater number is none: it is refused before anything is asked of its format
 unfoldable pub formatOf : ℕ → PixelFormat
 formatOf n = getD inOrder n Gray8

@@ -20,7 +20,7 @@ pub enum PixelFormat {
     YuvJ444P,
 }
 
-// The format of a number, 0 to 11. A greater one is none: whoever asks has refused it.
+// The format of a number. One above the last is none: whoever asks has refused it.
 pub fn format_of(n: u8) -> PixelFormat
     ensures { λ r. ⌜ r ≡ formatOf n ⌝ }
 {
@@ -38,7 +38,7 @@ pub fn format_of(n: u8) -> PixelFormat
         PixelFormat::YuvJ422P,
         PixelFormat::YuvJ444P,
     ];
-    if n < 12 {
+    if n <= PixelFormat::LAST {
         in_order[n as usize]
     } else {
         PixelFormat::Gray8
@@ -72,6 +72,9 @@ impl Layout {
 }
 
 impl PixelFormat {
+    // The last format's number.
+    pub const LAST: u8 = 11;
+
     // The limits of 9 and 11: the largest width and height of a picture, and the largest row step
     // of a plane.
     pub const LARGEST_SIDE: usize = 4096;

@@ -17,7 +17,7 @@ use Rattle.tables.specs.Kinds.{kindOf}
 use Rattle.tables.specs.Tables.{byteTable, fineTable, lengthCheck}
 use Rattle.sets.specs.Sets.{View}
 use Rattle.formats.specs.declared.Lengths.{Lengths}
-use Rattle.formats.specs.Formats.{formatOf}
+use Rattle.formats.specs.Formats.{formatOf, lastFormat}
 use Rattle.formats.specs.Checks.{chromaRead, lutChecks, pictureChecks}
 use Rattle.records.specs.declared.RecordRead.{RecordRead}
 use Rattle.records.specs.Format.{pointBytes, pairs, kindCheck, readRecord}
@@ -41,9 +41,9 @@ pairsOf points = pairs (countOf points) points
 abbrev pub givenChecks : List ℕ → ℕ → List Check
 givenChecks points kind = countCheck (countOf points) ∷ kindCheck kind ∷ []
 
--- a format's number: 8 where no format has it, which is above 11
+-- a format's number: 8 where no format has it
 abbrev pub formatCheck : ℕ → Check
-formatCheck n = UnsupportedFormat when ltb 11 n
+formatCheck n = UnsupportedFormat when ltb lastFormat n
 
 -- the set that a record holds
 abbrev pub setOf : List ℕ → View

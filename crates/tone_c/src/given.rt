@@ -7,6 +7,7 @@ ghost use Rattle.answers.specs.Checks.{firstRefusal};
 ghost use Rattle.tone_c.specs.Boundary.{countOf, pairsOf, givenChecks, formatCheck};
 use answers::Answer;
 use answers::first_of;
+use formats::PixelFormat;
 use points::Curve;
 use points::check_count;
 use records::check_kind;
@@ -33,7 +34,7 @@ pub fn curve_of(points: &[u8]) -> Curve
 pub fn format_answer(n: u8) -> Answer
     ensures { λ r. ⌜ r ≡ firstRefusal (formatCheck n ∷ []) ⌝ }
 {
-    if 11 < n {
+    if PixelFormat::LAST < n {
         Answer::UnsupportedFormat
     } else {
         Answer::Done
