@@ -2,23 +2,27 @@
 -- no value of the format. So a bound r / e that the format holds (`Rep f r e`) bounds a result where it bounds the exact result. Operands have
 -- either sign.
 use mathlib.Core.Path.{_≡_, refl, sym, _∙_}
-use Prim.Native.Nat.{ℕ, _+_, _-_, _*_, _≤_, _<_}
-use native.Mathlib.Nat.{lt-of-lt-of-le, le-trans, le-of-eq, mul-comm, mul-mul-mul-comm, mul-pos, mul-le-mul, mul-le-mul-right}
+use mathlib.Core.Logic.{inl}
+use Prim.Native.Nat.{ℕ, _+_, _-_, _*_, _^_, _≤_, _<_, zero-le}
+use native.Mathlib.Nat.{lt-of-lt-of-le, le-trans, le-of-eq, zero-add}
+use native.Mathlib.Nat.{mul-comm, mul-mul-mul-comm, mul-pos, mul-le-mul, mul-le-mul-right}
 use native.Mathlib.Omega.{arith}
 use mathlib.Core.Bool.{Bool, true, false, true≢false, _&&_, cond, Bool·beq}
 use lib.Dec.{T, ltb, lit<}
-use lib.Ieee.{Float, nan, inf, fin, Format, up, down, unlike, round, neg, sum, add, sub, mul, div, lt, le}
+use lib.Ieee.{Float, nan, inf, fin, Format, binary32, up, down, unlike, round}
+use lib.Ieee.{neg, sum, add, sub, mul, div, lt, le}
 use lib.Ieee.Fits.{down-pos}
 use lib.Ieee.Exact.{HasValue}
 use lib.Ieee.Order.{round-mono}
 use lib.Ieee.Scale.{finite}
 use lib.Ieee.Positive.{num, den, den-pos, first-pos, through}
 use borrow.Author.Tests.{ltb-false}
-use Rattle.floats.specs.Value.{Is, own, is-of-pos, is-of-le, Apart, size-is, sign, unsigned, absolute}
+use Rattle.floats.specs.Notation.{_⊖_, _⊗_}
+use Rattle.floats.specs.Value.{Is, top, bot, own, is-of-pos, is-of-le, Apart, size-is, sign, unsigned, absolute}
 use Rattle.floats.specs.Order.{over-top}
-use Rattle.floats.specs.Round.{round-neg, round-unsigned}
-use Rattle.floats.specs.Exact.{Rep, round-rep}
-use Rattle.floats.specs.Ops.{add-is, sub-is, mul-is, div-is}
+use Rattle.floats.specs.Round.{Rounds, over, under, round-neg, round-unsigned}
+use Rattle.floats.specs.Exact.{Rep, rep-whole, round-rep}
+use Rattle.floats.specs.Ops.{add-is, sub-is, mul-is, div-is, sub-rounds}
 
 -- |x| ≤ a / c
 pub record AtMost (a c : ℕ) (x : Float) : Type 0 where
@@ -207,3 +211,48 @@ at-least-guarded {a} {c} {x = fin s m k} {guard = fin false n i} p u h e =
       unit = h .unit;
       least = through a (n * up i) (m * up k) c (down i) (down k) (down-pos i) (h .least) (ltb-false (m * up k * down i) (n * up i * down k) e);
     }
+
+-- ---- bounds that are whole numbers, in single precision
+pub whole-most : (x : Float) {n : ℕ} → Is x n 0 1 → AtMost n 1 x
+whole-most x {n} i = at-most-is x n 0 1 n (lit< tt) i (inl (sym (zero-add n)))
+
+pub whole-least : (x : Float) {n : ℕ} → Is x n 0 1 → AtLeast n 1 x
+whole-least x {n} i =
+    let size = size-is x n 0 1 n i (inl (sym (zero-add n))) in
+    record { fin = i .0; unit = lit< tt; least = le-of-eq (sym size) }
+
+pub mul-most : {a b r : ℕ} {x y : Float} → Rep binary32 r 1 → AtMost a 1 x → AtMost b 1 y → a * b ≤ r
+    → AtMost r 1 (x ⊗ y)
+mul-most {r = r} rep h g l = at-most-mul binary32 r 1 (lit< tt) rep h g (omega arith)
+
+pub sub-most : {a b r : ℕ} {x y : Float} → Rep binary32 r 1 → AtMost a 1 x → AtMost b 1 y → a + b ≤ r
+    → AtMost r 1 (x ⊖ y)
+sub-most {r = r} rep h g l = at-most-sub binary32 r 1 (lit< tt) rep h g (omega arith)
+
+-- ---- a difference from below: n less what is at most a in size
+top-most : {a : ℕ} (x : Float) → AtMost a 1 x → top x ≤ a * den x
+top-most nan h = absurd (h .fin)
+top-most (inf s) h = absurd (h .fin)
+top-most (fin true m e) h = zero-le
+top-most (fin false m e) h = omega (arith, h .most)
+
+pub sub-least : (x : Float) {y : Float} {n a : ℕ} (b : ℕ) → b + a ≤ n → n + a < 2 ^ 24 → Is x n 0 1
+    → AtMost a 1 y → AtLeast b 1 (x ⊖ y)
+sub-least x {y} {n} {a} b l s i h =
+    let y-is = own y (h .fin) in
+    go (sub-rounds binary32 x y n 0 1 (top y) (bot y) (den y) (lit< tt) (den-pos y) i y-is)
+  where
+    u : ℕ
+    u = 1 * den y
+
+    least : (t : Bool) (c : ℕ) → x ⊖ y ≡ round binary32 t c u → b * u ≤ c → AtLeast b 1 (x ⊖ y)
+    least t c z g =
+        let f = sub-most (rep-whole (n + a) s) (whole-most x i) h (omega arith) .fin in
+        let U : 0 < u = omega (arith, den-pos y) in
+        let rep = rep-whole b (omega arith) in
+        rw z (round-at-least binary32 t c u b 1 U (lit< tt) rep (omega arith) (rw z at f))
+
+    go : Rounds binary32 (x ⊖ y) (n * den y + bot y * 1) (0 * den y + top y * 1) u
+        → AtLeast b 1 (x ⊖ y)
+    go (over c e z) = least false c z (omega (arith, mul-le-mul-right (den y) l, top-most y h))
+    go (under c e z) = least true c z (omega (arith, mul-le-mul-right (den y) l, top-most y h))

@@ -7,7 +7,7 @@ use native.Mathlib.Nat.{mul-assoc, mul-lt-mul-of-pos-right, zero-mul, one-mul, e
 use native.Mathlib.Omega.{arith}
 use mathlib.Core.Bool.{Bool, true, false}
 use lib.IntN.{ℤ, pos, negsuc}
-use lib.Dec.{T, ltb, leb, ltb→lt, leb→le, lit<}
+use lib.Dec.{T, ltb, leb, ltb→lt, leb→le, lit<, lit≤}
 use lib.Pow.{pow-add, pow-pos, pow-mono, pow-lt, shl-lt}
 use lib.Ieee.{Float, nan, inf, fin, Format, binary32, prec, emax, low, up, down, round, fits}
 use lib.Ieee.Digits.{back}
@@ -63,6 +63,25 @@ rep-dyadic a i h s = record {
   where
     room : (i : ℕ) → 24 + (149 - i) ≤ 277
     room i = omega arith
+
+-- a whole number below 2 ^ 24
+pub rep-whole : (a : ℕ) → a < 2 ^ 24 → Rep binary32 a 1
+rep-whole a s = rep-dyadic a 0 (lit≤ tt) s
+
+-- and such a number times a power of two
+pub rep-times : (a k : ℕ) → a < 2 ^ 24 → k ≤ 104 → Rep binary32 (a * 2 ^ k) 1
+rep-times a k s h =
+    let room : 24 + (k + 149) ≤ 277 = omega arith in
+    record {
+      q = a;
+      j = k + 149;
+      small = s;
+      fine = lt-of-lt-of-le (shl-lt 24 (k + 149) s) (pow-mono room);
+      same = rw (pow-add 2 k 149) (same (2 ^ k) (2 ^ 149));
+    }
+  where
+    same : (b u : ℕ) → a * b * u ≡ a * (b * u) * 1
+    same b u = omega arith
 
 -- and the powers of two up to 2 ^ 276 of its smallest values
 pub rep-power : (k : ℕ) → k ≤ 276 → Rep binary32 (2 ^ k) (2 ^ 149)

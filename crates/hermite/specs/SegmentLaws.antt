@@ -10,10 +10,10 @@ use lib.Dec.{T, lit<}
 use lib.Ieee.{Float, binary32, fits, lt, le}
 use lib.Ieee.Scale.{finite}
 use lib.Ieee.Positive.{den}
+use Rattle.lists.specs.Test.{by-test}
 use Rattle.floats.specs.Value.{Is, top, bot, own, is-of-le, not-below}
 use Rattle.floats.specs.Order.{le-trans, above-equal, le-numbers, le-of-lt, le-of-not-lt, not-lt-of-le}
 use Rattle.single.specs.Constants.{𝟎, 𝟐𝟓𝟓, 𝟎-is}
-use Rattle.single.specs.RuleLaws.{by-test}
 use Rattle.hermite.specs.Segments.{seek, segment}
 use Rattle.points.specs.Knots.{at}
 use Rattle.hermite.specs.Rows.{Rows, x-le, from-first, to-last, knot-low, knot-high}

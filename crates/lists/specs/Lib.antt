@@ -1,3 +1,4 @@
+pub mod Test
 pub mod Tabulate
 pub mod Each
 pub mod Stored

@@ -5,13 +5,13 @@ use Prim.Native.Nat.{_+_, _≤_}
 use native.Mathlib.Omega.{arith}
 use lib.Dec.{T, lit<}
 use lib.Ieee.{Float, binary32, isNan, lt, le, mul, ofBits}
+use Rattle.lists.specs.Test.{by-test}
 use Rattle.floats.specs.Notation.{_⊗_}
 use Rattle.floats.specs.Ops.{mul-commutes}
 use Rattle.floats.specs.Order.{le-numbers, le-of-not-lt, finite-between}
 use Rattle.floats.specs.Mono.{mul-mono-left}
 use Rattle.single.specs.Constants.{𝟎, 𝟏, 𝟒𝟎𝟗𝟓, 𝟎-is, 𝟏-is, 𝟒𝟎𝟗𝟓-is}
 use Rattle.single.specs.Rules.{floorOf}
-use Rattle.single.specs.RuleLaws.{by-test}
 use Rattle.single.specs.ByteLaws.{floor-small}
 use Rattle.lookup.specs.Lookup.{clampedUnit, position}
 

@@ -6,7 +6,7 @@ use lib.Dec.{lit<}
 use mir.Val.{Val}
 use denote.Shadow.{shadow}
 use denote.Struct.Field.{Field}
-use Rattle.single.specs.RuleLaws.{by-test}
+use Rattle.lists.specs.Test.{by-test}
 use Rattle.points.specs.declared.Curve.{Curve}
 use Rattle.points.specs.Points.{listOf}
 use Rattle.points.specs.Order.{All, Bytes, all-take}

@@ -12,7 +12,7 @@ use lib.IntN.{ℤ}
 use lib.ListN.{length, drop}
 use lib.Ieee.{Float}
 use Rattle.lists.specs.Tabulate.{tabulate}
-use Rattle.single.specs.RuleLaws.{by-test}
+use Rattle.lists.specs.Test.{by-test}
 use Rattle.tables.specs.Kinds.{kindOf}
 use Rattle.tables.specs.Tables.{byteTable, fineTable}
 use Rattle.lookup.specs.Lookup.{lookupChecks, looked, lookedUp}

@@ -12,8 +12,8 @@ use lib.Dec.{ltb}
 use lib.ListN.{length, getD, take}
 use lib.Seq.{getD-take, ext-getD}
 use borrow.Author.Tests.{ltb-true}
+use Rattle.lists.specs.Test.{by-test}
 use Rattle.answers.specs.declared.Answer.the-variants.{Done}
-use Rattle.single.specs.RuleLaws.{by-test}
 use Rattle.tables.specs.Tables.{entryOf}
 use Rattle.rows.specs.Rows.{inRow}
 use Rattle.formats.specs.declared.PixelFormat.{PixelFormat}

@@ -8,9 +8,9 @@ use lib.ListN.{length, replicate}
 use lib.Ieee.{Float, nan, lt}
 use borrow.Author.Tests.{eqb-true}
 use Rattle.lists.specs.Tabulate.{getD-filled}
+use Rattle.lists.specs.Test.{by-test}
 use Rattle.single.specs.Constants.{𝟎}
 use Rattle.single.specs.Rules.{clamped}
-use Rattle.single.specs.RuleLaws.{by-test}
 use Rattle.points.specs.declared.Point.{Point}
 use Rattle.points.specs.Points.{kept}
 use Rattle.points.specs.Knots.{rest, knots, at}

@@ -5,7 +5,7 @@ use mathlib.Core.Logic.{inl, inr}
 use mathlib.Core.List.{List}
 use mathlib.Core.Option.{Option, none, some}
 use Rattle.lists.specs.Tabulate.{getD-tabulate}
-use Rattle.single.specs.RuleLaws.{by-test}
+use Rattle.lists.specs.Test.{by-test}
 use Rattle.points.specs.declared.Point.{Point}
 use Rattle.tables.specs.declared.CurveInterpolation.{CurveInterpolation}
 use Rattle.tables.specs.declared.CurveInterpolation.the-variants.{

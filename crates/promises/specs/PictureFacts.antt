@@ -11,9 +11,9 @@ use lib.ListN.{length, getD, take, drop, length-append, length-drop, List·getD-
 use lib.Seq.{take-append-seam, getD-append-add, getD-drop, length-take-le, getD-take, ext-getD}
 use borrow.Author.Tests.{lt-ltb}
 use Rattle.lists.specs.Tabulate.{filled, length-filled, getD-filled-rest}
+use Rattle.lists.specs.Test.{by-test}
 use Rattle.floats.specs.Frac.{frac}
 use Rattle.floats.specs.Nearest as Whole
-use Rattle.single.specs.RuleLaws.{by-test}
 use Rattle.points.specs.declared.Point.{Point}
 use Rattle.points.specs.Points.{kept}
 use Rattle.points.specs.Knots.{OnLine}

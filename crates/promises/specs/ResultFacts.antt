@@ -8,10 +8,10 @@ use lib.ListN.{length, drop}
 use lib.Ieee.{Float}
 use Rattle.lists.specs.Each.{length-each}
 use Rattle.lists.specs.Tabulate.{tabulate}
+use Rattle.lists.specs.Test.{by-test}
 use Rattle.answers.specs.declared.Answer.{Answer}
 use Rattle.answers.specs.declared.Answer.the-variants.{Done}
 use Rattle.answers.specs.Numbers.{numberOf, number-unique}
-use Rattle.single.specs.RuleLaws.{by-test}
 use Rattle.points.specs.declared.Curve.{Curve}
 use Rattle.points.specs.declared.Sorted.{Sorted}
 use Rattle.points.specs.Points.{listOf, kept, SortedFrom}

@@ -8,9 +8,9 @@ use lib.Dec.{ltb, eqb}
 use lib.ListN.{length, take, drop, length-take}
 use lib.Seq.{take-all, take-nil, getD-take}
 use borrow.Author.Tests.{le-ltb, ltb-true, ltb-false}
+use Rattle.lists.specs.Test.{by-test}
 use Rattle.answers.specs.declared.Answer.{Answer}
 use Rattle.answers.specs.declared.Answer.the-variants.{RecordTruncated, PointCount, PointsNotRising, UnknownKind, FieldMismatch, TrailingBytes}
-use Rattle.single.specs.RuleLaws.{by-test}
 use Rattle.points.specs.declared.Point.{Point}
 use Rattle.points.specs.Points.{limit, rises}
 use Rattle.tables.specs.declared.CurveInterpolation.{CurveInterpolation}

@@ -5,8 +5,8 @@ use mathlib.Core.Path.{_≡_}
 use mathlib.Core.List.{List}
 use mathlib.Core.Bool.{cond}
 use lib.ListN.{length}
+use Rattle.lists.specs.Test.{by-test}
 use Rattle.answers.specs.declared.Answer.the-variants.{Done}
-use Rattle.single.specs.RuleLaws.{by-test}
 use Rattle.records.specs.Format.{readRecord}
 use Rattle.writing.specs.Encode.{encode}
 use Rattle.record_facts.specs.Canonical.{namesDefault, accepted-length}

@@ -12,9 +12,9 @@ use lib.IntN.{pos}
 use lib.ListN.{length, getD, drop}
 use lib.Seq.{getD-drop}
 use lib.Signed.{mag}
+use Rattle.lists.specs.Test.{by-test}
 use Rattle.answers.specs.declared.Answer.the-variants.{RecordTruncated}
 use Rattle.answers.specs.Checks.{_when_}
-use Rattle.single.specs.RuleLaws.{by-test}
 use Rattle.points.specs.declared.Point.{Point}
 use Rattle.points.specs.Points.{limit, risesFrom}
 use Rattle.tables.specs.declared.CurveInterpolation.{CurveInterpolation}

@@ -6,11 +6,11 @@ use mathlib.Core.List.{List, [], _∷_}
 use lib.Dec.{ltb, lit≤}
 use lib.ListN.{length}
 use borrow.Author.Tests.{le-ltb}
+use Rattle.lists.specs.Test.{by-test}
 use Rattle.answers.specs.declared.Answer.{Answer}
 use Rattle.answers.specs.declared.Answer.the-variants.{OutputTooSmall}
 use Rattle.answers.specs.Numbers.{numberOf, isDone, firstOf, done-is}
 use Rattle.answers.specs.Checks.{Check, roomCheck, first-append}
-use Rattle.single.specs.RuleLaws.{by-test}
 use Rattle.points.specs.declared.Curve.{Curve}
 use Rattle.points.specs.Points.{limit, listOf, rises}
 use Rattle.sets.specs.declared.Curves.{Curves}

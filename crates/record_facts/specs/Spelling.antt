@@ -12,9 +12,9 @@ use lib.IntN.{pos}
 use lib.ListN.{length, getD, drop, length-append}
 use lib.Seq.{getD-append-add}
 use borrow.Author.Tests.{ltb-false, le-ltb, eqb-true, eqb-false, not-false}
+use Rattle.lists.specs.Test.{by-test}
 use Rattle.answers.specs.declared.Answer.the-variants.{Done, ReservedBit}
 use Rattle.answers.specs.Numbers.{isDone}
-use Rattle.single.specs.RuleLaws.{by-test}
 use Rattle.points.specs.declared.Point.{Point}
 use Rattle.points.specs.Points.{pt}
 use Rattle.tables.specs.declared.CurveInterpolation.{CurveInterpolation}

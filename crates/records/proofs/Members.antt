@@ -4,8 +4,8 @@ use mathlib.Core.Option.{none}
 use Prim.Native.Nat.{ℕ}
 use native.Mathlib.Omega.{arith}
 use lib.ListN.{length}
+use Rattle.lists.specs.Test.{by-test}
 use Rattle.answers.specs.declared.Answer.the-variants.{Done}
-use Rattle.single.specs.RuleLaws.{by-test}
 use Rattle.points.specs.declared.Curve.{Curve}
 use Rattle.tables.specs.declared.CurveInterpolation.{CurveInterpolation}
 use Rattle.points.specs.Points.{limit}

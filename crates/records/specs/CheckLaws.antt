@@ -7,6 +7,7 @@ use mathlib.Core.List.{List, [], _∷_, _++_}
 use lib.Dec.{ltb, eqb}
 use lib.ListN.{length, getD, drop}
 use borrow.Author.Tests.{le-ltb}
+use Rattle.lists.specs.Test.{by-test}
 use Rattle.answers.specs.declared.Answer.{Answer}
 use Rattle.answers.specs.declared.Answer.the-variants.{
   Done,
@@ -26,7 +27,6 @@ use Rattle.answers.specs.Checks.{
   AllPassed,
   all-passed,
 }
-use Rattle.single.specs.RuleLaws.{by-test}
 use Rattle.tables.specs.declared.CurveInterpolation.the-variants.{Cardinal}
 use Rattle.tables.specs.Kinds.{kindNumber}
 use Rattle.sets.specs.declared.Colour.the-variants.{Red, Green, Blue}

@@ -13,9 +13,9 @@ use lib.ListN.{length, getD, set, length-set, getD-replicate}
 use lib.Seq.{getD-set-same, getD-set-other}
 use Rattle.lists.specs.Tabulate.{tabulate, is-tabulate}
 use Rattle.lists.specs.Stored.{Stored, stored-inside, stored-below, stored-above}
+use Rattle.lists.specs.Test.{by-test}
 use Rattle.single.specs.Rules.{clamped}
 use Rattle.single.specs.ByteLaws.{floor-small}
-use Rattle.single.specs.RuleLaws.{by-test}
 use Rattle.floats.specs.Notation.{_⊘_}
 use Rattle.hermite.specs.Segments.{step, sampleAt, seek, segment}
 use Rattle.points.specs.Knots.{at}

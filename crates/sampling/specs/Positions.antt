@@ -5,9 +5,9 @@ use Prim.Native.Nat.{ℕ, _≤_}
 use native.Mathlib.Omega.{arith}
 use lib.Dec.{T}
 use lib.Ieee.{Float, lt}
+use Rattle.lists.specs.Test.{by-test}
 use Rattle.floats.specs.Order as Order
 use Rattle.floats.specs.Order.{le-numbers, le-of-lt, le-of-not-lt, not-lt-of-le}
-use Rattle.single.specs.RuleLaws.{by-test}
 use Rattle.hermite.specs.Segments.{step, sampleAt}
 use Rattle.hermite.specs.Samples.{sample-le}
 

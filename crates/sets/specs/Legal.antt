@@ -7,11 +7,11 @@ use mathlib.Core.Bool.{true}
 use mathlib.Core.Option.{Option, none, some}
 use lib.ListN.{length, length-take}
 use borrow.Author.Tests.{ltb-false, not-false}
+use Rattle.lists.specs.Test.{by-test}
 use Rattle.answers.specs.declared.Answer.{Answer}
 use Rattle.answers.specs.declared.Answer.the-variants.{Done}
 use Rattle.answers.specs.Numbers.{firstOf, both-done}
 use Rattle.answers.specs.Checks.{Check, firstRefusal, first-append, all-passed}
-use Rattle.single.specs.RuleLaws.{by-test}
 use Rattle.points.specs.declared.Point.{Point}
 use Rattle.points.specs.declared.Curve.{Curve}
 use Rattle.points.specs.Points.{listOf, rises}

@@ -10,6 +10,7 @@ use lib.Ieee.{Float, nan, inf, fin, binary32, up, down, isNan, lt, le, ofInt, of
 use lib.Ieee.Back.{unsigned-back}
 use lib.Ieee.Fits.{down-pos}
 use lib.Ieee.Scale.{finite}
+use Rattle.lists.specs.Test.{by-test}
 use Rattle.floats.specs.Notation.{_⊕_, _⊖_}
 use Rattle.floats.specs.Value.{Is, own, unsigned, is-same, is-of-le}
 use Rattle.floats.specs.Round.{round-unsigned}
@@ -18,7 +19,7 @@ use Rattle.floats.specs.Whole.{nearest-whole}
 use Rattle.single.specs.Constants.{𝟎, ½, 𝟐²³, ½-is}
 use Rattle.single.specs.Rules.{float, held, wholeBy, byteOf, floorOf}
 use Rattle.floats.specs.Order.{le-numbers, le-of-lt, le-of-not-lt}
-use Rattle.single.specs.RuleLaws.{by-test, lt-true, lt-false, float-is, float-le, 𝟎-float}
+use Rattle.single.specs.RuleLaws.{lt-true, lt-false, float-is, float-le, 𝟎-float}
 use Rattle.single.specs.ByteLaws.{Rule, whole-float, whole-low, whole-high, byte-nearest, floor-quotient}
 
 -- ---- x kept to 0..top

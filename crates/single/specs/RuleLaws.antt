@@ -11,6 +11,7 @@ use lib.Ieee.{Float, nan, inf, fin, binary32, up, down, isNan, lt, le, ofInt, of
 use lib.Ieee.Back.{round-whole}
 use lib.Ieee.Fits.{down-pos}
 use lib.Ieee.Scale.{finite}
+use Rattle.lists.specs.Test.{by-test}
 use Rattle.floats.specs.Notation.{_⊘_}
 use Rattle.floats.specs.Signed.{Le, Lt}
 use Rattle.floats.specs.Value.{Is, absolute, is-of-pos, of-lt, of-le, le-of-nlt, is-of-le, le-of-is}
@@ -18,11 +19,6 @@ use Rattle.single.specs.Constants.{𝟎, 𝟏, 𝟐𝟓𝟓, 𝟒𝟎�
 use Rattle.single.specs.Rules.{float, clamped, guardedQuotient}
 use Rattle.floats.specs.Order as Order
 use Rattle.floats.specs.Order.{le-numbers, le-of-lt, le-of-not-lt, not-lt-of-le}
-
--- by the outcome of a test
-pub by-test {ℓ} : {X : Type ℓ} (b : Bool) → (b ≡ true → X) → (b ≡ false → X) → X
-by-test true f g = f refl
-by-test false f g = g refl
 
 -- ---- tests, by any fractions that the two floats equal
 module _ (x y : Float) (p n c q m d : ℕ) (C : 0 < c) (D : 0 < d) (i : Is x p n c) (j : Is y q m d) where

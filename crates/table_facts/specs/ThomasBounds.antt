@@ -1,27 +1,21 @@
 -- The Thomas solve of the splines' systems does not overflow. On the diagonal a row of an inner
 -- knot has twice the sum of what is beside it, so a swept row has the bound of the one before it.
 -- Only the last row may be larger, once. Segments are less than 256 wide.
-use mathlib.Core.Path.{_≡_, sym}
-use mathlib.Core.Logic.{inl}
-use mathlib.Core.Bool.{Bool, true, false}
-use Prim.Native.Nat.{ℕ, zero, suc, _+_, _-_, _*_, _/_, _^_, _≤_, _<_, zero-le}
+use mathlib.Core.Path.{_≡_}
+use Prim.Native.Nat.{ℕ, zero, suc, _+_, _-_, _*_, _/_, _^_, _≤_, _<_}
 use native.Mathlib.Decide.{ℕ-discrete}
-use native.Mathlib.Nat.{le-trans, le-of-eq, lt-of-lt-of-le, lt-of-not-le, not-le-of-lt, ne-of-gt}
-use native.Mathlib.Nat.{zero-add, mul-le-mul, mul-le-mul-left, mul-le-mul-right}
+use native.Mathlib.Nat.{le-trans, lt-of-not-le, not-le-of-lt, ne-of-gt}
+use native.Mathlib.Nat.{mul-le-mul, mul-le-mul-left, mul-le-mul-right}
 use native.Mathlib.Nat.{le-of-mul-le-mul-right, div-mul-le-self, lt-div-mul-add}
 use native.Mathlib.Omega.{arith}
 use borrow.Author.Tests.{ne-eqb}
 use lib.Dec.{lit<, lit≤}
-use lib.Pow.{pow-add, pow-pos, pow-mono, shl-lt}
-use lib.Ieee.{Float, nan, inf, fin, binary32, round, lt}
-use lib.Ieee.Positive.{den, den-pos}
-use Rattle.floats.specs.Notation.{_⊖_, _⊗_}
-use Rattle.floats.specs.Value.{Is, top, bot, own, size-is, absolute}
-use Rattle.floats.specs.Round.{Rounds, over, under}
-use Rattle.floats.specs.Ops.{sub-rounds}
-use Rattle.floats.specs.Exact.{Rep, rep-dyadic}
-use Rattle.floats.specs.Bound.{AtMost, AtLeast, at-most-is, at-most-more, at-most-cond}
-use Rattle.floats.specs.Bound.{round-at-least, at-most-sub, at-most-mul, at-most-div}
+use lib.Pow.{pow-pos, pow-mono}
+use lib.Ieee.{Float, binary32, lt}
+use Rattle.floats.specs.Value.{Is, absolute}
+use Rattle.floats.specs.Exact.{rep-dyadic, rep-whole, rep-times}
+use Rattle.floats.specs.Bound.{AtMost, AtLeast, at-most-more, at-most-cond, at-most-mul, at-most-div}
+use Rattle.floats.specs.Bound.{whole-most, whole-least, mul-most, sub-most, sub-least}
 use Rattle.single.specs.Constants.{𝟎, 𝟏, pico, 𝟎-is, 𝟏-is}
 use Rattle.single.specs.Rules.{guardedQuotient}
 use Rattle.spline.specs.declared.Row.{Row}
@@ -41,69 +35,6 @@ pub record Bounded (s : Swept) : Type 0 where
 pub steady-bounded : {s : Swept} → Steady s → Bounded s
 steady-bounded h =
     record { above = h .above; right = at-most-more (2 ^ 58) 1 (lit< tt) (lit≤ tt) (h .right) }
-
--- ---- whole numbers
-whole-most : (x : Float) {n : ℕ} → Is x n 0 1 → AtMost n 1 x
-whole-most x {n} i = at-most-is x n 0 1 n (lit< tt) i (inl (sym (zero-add n)))
-
-whole-least : (x : Float) {n : ℕ} → Is x n 0 1 → AtLeast n 1 x
-whole-least x {n} i =
-    let size = size-is x n 0 1 n i (inl (sym (zero-add n))) in
-    record { fin = i .0; unit = lit< tt; least = le-of-eq (sym size) }
-
-rep-whole : (a : ℕ) → a < 2 ^ 24 → Rep binary32 a 1
-rep-whole a s = rep-dyadic a 0 (lit≤ tt) s
-
--- the format holds a number of 24 digits times a power of two
-rep-times : (a k : ℕ) → a < 2 ^ 24 → k ≤ 104 → Rep binary32 (a * 2 ^ k) 1
-rep-times a k s h =
-    let room : 24 + (k + 149) ≤ 277 = omega arith in
-    record {
-      q = a;
-      j = k + 149;
-      small = s;
-      fine = lt-of-lt-of-le (shl-lt 24 (k + 149) s) (pow-mono room);
-      same = rw (pow-add 2 k 149) (same (2 ^ k) (2 ^ 149));
-    }
-  where
-    same : (b u : ℕ) → a * b * u ≡ a * (b * u) * 1
-    same b u = omega arith
-
-mul-most : {a b r : ℕ} {x y : Float} → Rep binary32 r 1 → AtMost a 1 x → AtMost b 1 y → a * b ≤ r
-    → AtMost r 1 (x ⊗ y)
-mul-most {r = r} rep h g l = at-most-mul binary32 r 1 (lit< tt) rep h g (omega arith)
-
-sub-most : {a b r : ℕ} {x y : Float} → Rep binary32 r 1 → AtMost a 1 x → AtMost b 1 y → a + b ≤ r
-    → AtMost r 1 (x ⊖ y)
-sub-most {r = r} rep h g l = at-most-sub binary32 r 1 (lit< tt) rep h g (omega arith)
-
--- ---- a difference from below: n less what is at most a in size
-top-most : {a : ℕ} (x : Float) → AtMost a 1 x → top x ≤ a * den x
-top-most nan h = absurd (h .fin)
-top-most (inf s) h = absurd (h .fin)
-top-most (fin true m e) h = zero-le
-top-most (fin false m e) h = omega (arith, h .most)
-
-sub-least : (x : Float) {y : Float} {n a : ℕ} (b : ℕ) → b + a ≤ n → n + a < 2 ^ 24 → Is x n 0 1
-    → AtMost a 1 y → AtLeast b 1 (x ⊖ y)
-sub-least x {y} {n} {a} b l s i h =
-    let y-is = own y (h .fin) in
-    go (sub-rounds binary32 x y n 0 1 (top y) (bot y) (den y) (lit< tt) (den-pos y) i y-is)
-  where
-    u : ℕ
-    u = 1 * den y
-
-    least : (t : Bool) (c : ℕ) → x ⊖ y ≡ round binary32 t c u → b * u ≤ c → AtLeast b 1 (x ⊖ y)
-    least t c z g =
-        let f = sub-most (rep-whole (n + a) s) (whole-most x i) h (omega arith) .fin in
-        let U : 0 < u = omega (arith, den-pos y) in
-        let rep = rep-whole b (omega arith) in
-        rw z (round-at-least binary32 t c u b 1 U (lit< tt) rep (omega arith) (rw z at f))
-
-    go : Rounds binary32 (x ⊖ y) (n * den y + bot y * 1) (0 * den y + top y * 1) u
-        → AtLeast b 1 (x ⊖ y)
-    go (over c e z) = least false c z (omega (arith, mul-le-mul-right (den y) l, top-most y h))
-    go (under c e z) = least true c z (omega (arith, mul-le-mul-right (den y) l, top-most y h))
 
 -- ---- the inverse of a pivot
 -- r / 2 ^ j is a value of the format, at least 1 / n, and hardly more

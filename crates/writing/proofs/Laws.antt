@@ -16,7 +16,7 @@ use Rattle.answers.specs.declared.Answer.the-variants.{Done}
 use Rattle.answers.specs.Numbers.{isDone, told-done}
 use Rattle.answers.specs.Checks.{firstRefusal, roomCheck, first-stops, first-goes-on}
 use Rattle.lists.specs.Tabulate.{tabulate, is-tabulate}
-use Rattle.single.specs.RuleLaws.{by-test}
+use Rattle.lists.specs.Test.{by-test}
 use Rattle.points.specs.declared.Point.{Point}
 use Rattle.points.specs.declared.Curve.{Curve}
 use Rattle.points.specs.Points.{pt, nth, listOf}

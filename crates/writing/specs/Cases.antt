@@ -6,11 +6,11 @@ use mathlib.Core.List.{List, [], _∷_, _++_}
 use lib.ListN as ListN
 use lib.ListN.{drop}
 use borrow.Author.Tests.{le-ltb}
+use Rattle.lists.specs.Test.{by-test}
 use Rattle.answers.specs.declared.Answer.{Answer}
 use Rattle.answers.specs.declared.Answer.the-variants.{Done}
 use Rattle.answers.specs.Numbers.{isDone, done-is}
 use Rattle.answers.specs.Checks.{Check, firstRefusal, roomCheck, first-goes-on, done-append, has-room}
-use Rattle.single.specs.RuleLaws.{by-test}
 use Rattle.sets.specs.declared.Curves.{Curves}
 use Rattle.sets.specs.Sets.{viewOf, curveChecks, setChecks, setAnswer}
 use Rattle.writing.specs.Encode.{encode, outcome, writeChecks, writeRecord}

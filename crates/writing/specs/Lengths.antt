@@ -6,6 +6,7 @@ use mathlib.Core.List.{List, [], _∷_}
 use mathlib.Core.Option.{Option, none, some}
 use lib.Dec.{lit≤}
 use lib.ListN.{length, length-append}
+use Rattle.lists.specs.Test.{by-test}
 use Rattle.points.specs.declared.Point.{Point}
 use Rattle.tables.specs.declared.CurveInterpolation.{CurveInterpolation}
 use Rattle.tables.specs.declared.CurveInterpolation.the-variants.{
@@ -20,7 +21,6 @@ use Rattle.tables.specs.declared.CurveInterpolation.the-variants.{
   ClampedCubic,
   NotAKnotCubic,
 }
-use Rattle.single.specs.RuleLaws.{by-test}
 use Rattle.sets.specs.Sets.{View}
 use Rattle.sets.specs.Legal.{LegalList, LegalColour, Legal}
 use Rattle.writing.specs.Encode.{pairBytes, fieldBytes, masterField, namesKind, kindBytes, carriedBytes, encode}

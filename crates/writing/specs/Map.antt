@@ -8,8 +8,8 @@ use mathlib.Core.Bool.{Bool, false}
 use mathlib.Core.Option.{Option}
 use lib.ListN.{length}
 use lib.Dec.{eqb, lit≤}
+use Rattle.lists.specs.Test.{by-test}
 use Rattle.points.specs.declared.Point.{Point}
-use Rattle.single.specs.RuleLaws.{by-test}
 use Rattle.tables.specs.declared.CurveInterpolation.{CurveInterpolation}
 use Rattle.tables.specs.Kinds.{kindNumber}
 use Rattle.records.specs.Format.{bit, carriedBits, kindBits}

@@ -3,7 +3,7 @@ use mathlib.Core.Path.{refl}
 use native.Mathlib.Omega.{arith}
 use lib.Dec.{ltb}
 use borrow.Author.Tests.{lt-ltb, le-ltb}
-use Rattle.single.specs.RuleLaws.{by-test}
+use Rattle.lists.specs.Test.{by-test}
 use Rattle.points.specs.Points.{limit}
 use Rattle.records.proofs.check_stored_count.Statement.{statement}
 use Rattle.records.proofs.check_stored_count.Tie as tie
