@@ -10,8 +10,7 @@ use Rattle.single.specs.Constants.{𝟎, nano}
 use Rattle.single.specs.Rules.{guardedQuotient, tiny}
 use Rattle.single.specs.Root.{rootOf}
 use Rattle.points.specs.declared.Knot.{Knot}
-use Rattle.points.specs.Knots.{knotAt, at}
-use Rattle.hermite.specs.CatmullRom.{before, after}
+use Rattle.points.specs.Knots.{knotAt, at, before, after}
 
 -- the distance of a and b
 unfoldable pub chord : Knot → Knot → Float

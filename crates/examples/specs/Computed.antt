@@ -10,9 +10,11 @@ use Rattle.single.specs.Root.{rootOf}
 use Rattle.points.specs.declared.Point.{Point}
 use Rattle.points.specs.Points.{risesFrom, firstAt, keptBelow, kept}
 use Rattle.points.specs.Knots.{rest, knots, xAt, yAt, xRow, yRow}
-use Rattle.hermite.specs.Segments.{step, sampleAt, seek, segment}
-use Rattle.hermite.specs.Pieces as Piece
-use Rattle.hermite.specs.CatmullRom.{slope, catmullRomAt, looseness, looseSlope, cardinalAt}
+use Rattle.segments.specs.Segments.{step, sampleAt, seek, segment}
+use Rattle.segments.specs.Straight as Straight
+use Rattle.hermite.specs.Hermite.{hermite}
+use Rattle.segments.specs.Straight.{slope}
+use Rattle.tangents.specs.CatmullRom.{catmullRomAt, looseness, looseSlope, cardinalAt}
 use Rattle.monotone.specs.Monotone.{secantAt, meanAt, boxed, circled, adjusted, reached, monotoneAt}
 use Rattle.chords.specs.Alpha.{chord, spacing, threeTerms, alphaTangent, alphaAt}
 use Rattle.spline.specs.Segments.{between, segmentAt, firstCoefficient, splinePiece, slopeOf}
@@ -35,8 +37,8 @@ use Rattle.records.specs.Format.{Read, pairs, readPoints, readList, readKind, r
 -- an entry of a byte table
 unfoldable pub entry : CurveInterpolation → List Point → ℕ → ℕ
 unfolding entryOf sampleOf sampled unclampedAt heightAt pieceHeight kept keptBelow firstAt knots
-    rest xRow yRow xAt yAt filled tabulate step sampleAt seek segment Piece.part Piece.straight
-    Piece.hermite slope catmullRomAt looseness looseSlope cardinalAt secantAt meanAt boxed circled
+    rest xRow yRow xAt yAt filled tabulate step sampleAt seek segment Straight.part Straight.straight
+    hermite slope catmullRomAt looseness looseSlope cardinalAt secantAt meanAt boxed circled
     adjusted reached monotoneAt chord spacing threeTerms alphaTangent alphaAt between segmentAt
     firstCoefficient splinePiece slopeOf secondAt naturalAt notAKnotAt endsRecovered recovered
     framed unknown rowAt solution substituted backward sweptRow swept sweep scaled guardedQuotient

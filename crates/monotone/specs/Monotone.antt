@@ -11,7 +11,7 @@ use Rattle.single.specs.Rules.{tiny}
 use Rattle.single.specs.Root.{rootOf}
 use Rattle.monotone.specs.declared.Tangents.{Tangents}
 use Rattle.points.specs.Knots.{knotAt, at}
-use Rattle.hermite.specs.CatmullRom.{slope}
+use Rattle.segments.specs.Straight.{slope}
 
 -- the secant of the segment i
 unfoldable pub secantAt : List Float → List Float → ℕ → Float

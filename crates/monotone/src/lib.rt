@@ -5,8 +5,8 @@ ghost use Prim.Native.Nat.{_-_, _≤_, _<_};
 ghost use Rattle.floats.specs.Notation.{_⊘_};
 ghost use Rattle.lists.specs.Stored.{Stored};
 ghost use Rattle.monotone.specs.Monotone as Monotone;
-use hermite::tangents::slope;
 use points::knot_at;
+use segments::slope;
 use single::root::sqrt;
 use single::tiny;
 

@@ -29,8 +29,8 @@ use Rattle.points.specs.declared.Curve.{Curve}
 use Rattle.points.specs.declared.Point.{Point}
 use Rattle.points.specs.Points.{pt, risesFrom, firstAt, keptBelow, kept}
 use Rattle.points.specs.Knots.{rest, knots, xAt, yAt, xRow, yRow}
-use Rattle.hermite.specs.Segments.{step, sampleAt, seek, segment}
-use Rattle.hermite.specs.Pieces.{part, straight}
+use Rattle.segments.specs.Segments.{step, sampleAt, seek, segment}
+use Rattle.segments.specs.Straight.{part, straight}
 use Rattle.sampling.specs.Pieces.{pieceHeight, heightAt, sampled}
 use Rattle.tables.specs.declared.CurveInterpolation.the-variants.{Linear}
 use Rattle.tables.specs.Tables.{unclampedAt, sampleOf, entryOf}

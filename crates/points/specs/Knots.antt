@@ -1,5 +1,5 @@
 -- The knots of a list, and its exact broken line, as document 01's section "Points" has them. Definitions only.
-use Prim.Native.Nat.{ℕ, suc, _+_, _-_, _*_, _≤_, _<_}
+use Prim.Native.Nat.{ℕ, suc, _+_, _-_, _*_, _≤_, _<_, min}
 use mathlib.Core.Path.{_≡_}
 use mathlib.Core.Bool.{Bool, cond}
 use mathlib.Core.List.{List, [], _∷_}
@@ -62,6 +62,13 @@ at row i = getD row i nan
 -- knot i of two rows
 abbrev pub knotAt : List Float → List Float → ℕ → Knot
 knotAt xs ys i = record { x = at xs i; y = at ys i }
+
+-- the knot before knot i and the one after it, of n: "a missing neighbour replaced by the knot"
+abbrev pub before : ℕ → ℕ
+before i = i - 1
+
+abbrev pub after : ℕ → ℕ → ℕ
+after n i = min (i + 1) (n - 1)
 
 -- whether a segment, with its knots at l and r, is too narrow to divide by its width: narrower than 1e-6
 abbrev pub narrow : Float → Float → Bool

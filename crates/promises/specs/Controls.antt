@@ -16,7 +16,7 @@ use Rattle.points.specs.declared.Point.{Point}
 use Rattle.points.specs.Points.{pt, straightCurve, firstAt, keptBelow, kept}
 use Rattle.points.specs.Knots.{rest, knots, OnLine}
 use Rattle.points.specs.Order.{NeverFalls}
-use Rattle.hermite.specs.CatmullRom.{slope}
+use Rattle.segments.specs.Straight.{slope}
 use Rattle.monotone.specs.Monotone.{secantAt, meanAt, boxed, adjusted, reached, monotoneAt}
 use Rattle.spline.specs.Second.{recovered, endsRecovered, notAKnotAt}
 use Rattle.tables.specs.declared.CurveInterpolation.{CurveInterpolation}

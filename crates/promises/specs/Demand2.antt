@@ -21,7 +21,7 @@ use Rattle.points.specs.declared.Curve.{Curve}
 use Rattle.points.specs.declared.Sorted.{Sorted}
 use Rattle.points.specs.Points.{listOf, kept, SortedFrom}
 use Rattle.points.specs.Order.{All, Bytes}
-use Rattle.hermite.specs.CatmullRom.{catmullRomAt, cardinalAt}
+use Rattle.tangents.specs.CatmullRom.{catmullRomAt, cardinalAt}
 use Rattle.monotone.specs.Monotone.{monotoneAt}
 use Rattle.chords.specs.Alpha.{alphaAt}
 use Rattle.spline.specs.declared.SplineBoundary.the-variants.{Natural, Clamped, NotAKnot}

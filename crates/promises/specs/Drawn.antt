@@ -14,7 +14,7 @@ use Rattle.single.specs.Rules.{clamped}
 use Rattle.points.specs.declared.Point.{Point}
 use Rattle.points.specs.Points.{kept}
 use Rattle.points.specs.Knots.{rest, knots, at}
-use Rattle.hermite.specs.Segments.{seek, segment}
+use Rattle.segments.specs.Segments.{seek, segment}
 use Rattle.sampling.specs.Pieces.{pieceHeight, heightAt, sampled}
 use Rattle.tables.specs.declared.CurveInterpolation.{CurveInterpolation}
 use Rattle.tables.specs.Kinds.{formOf, numbersAt, numbersRow}

@@ -10,8 +10,9 @@ use Rattle.points.specs.declared.Point.{Point}
 use Rattle.points.specs.declared.Knot.{Knot}
 use Rattle.points.specs.Points.{kept}
 use Rattle.points.specs.Knots.{knots, xRow, yRow, knotAt}
-use Rattle.hermite.specs.Segments.{step, sampleAt, segment}
-use Rattle.hermite.specs.Pieces.{part, straight, hermite}
+use Rattle.segments.specs.Segments.{step, sampleAt, segment}
+use Rattle.segments.specs.Straight.{part, straight}
+use Rattle.hermite.specs.Hermite.{hermite}
 use Rattle.spline.specs.declared.SplineBoundary.{SplineBoundary}
 use Rattle.spline.specs.Segments.{splinePiece}
 use Rattle.spline.specs.Second.{secondAt}

@@ -13,8 +13,8 @@ use Rattle.lists.specs.Stored.{Stored, stored-next, stored-end, stored-as, stor
 use Rattle.single.specs.Constants.{𝟎, 𝟐}
 use Rattle.single.specs.Rules.{clamped}
 use Rattle.floats.specs.Notation.{_⊘_}
-use Rattle.hermite.specs.Segments.{sampleAt}
-use Rattle.hermite.specs.Pieces.{part}
+use Rattle.segments.specs.Segments.{sampleAt}
+use Rattle.segments.specs.Straight.{part}
 use Rattle.spline.specs.Segments.{splinePiece, firstCoefficient, thirdCoefficient}
 use Rattle.points.specs.declared.Knot.{Knot}
 use Rattle.points.specs.Knots.{at, knotAt, narrow}

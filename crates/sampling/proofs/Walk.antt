@@ -17,7 +17,7 @@ use Rattle.lists.specs.Test.{by-test}
 use Rattle.single.specs.Rules.{clamped}
 use Rattle.single.specs.ByteLaws.{floor-small}
 use Rattle.floats.specs.Notation.{_⊘_}
-use Rattle.hermite.specs.Segments.{step, sampleAt, seek, segment}
+use Rattle.segments.specs.Segments.{step, sampleAt, seek, segment}
 use Rattle.points.specs.Knots.{at}
 use Rattle.sampling.specs.declared.Form.{Form}
 use Rattle.sampling.specs.declared.blocks.Place.{Place}

@@ -4,8 +4,9 @@ use mathlib.Core.List.{List}
 use lib.Ieee.{Float}
 use Rattle.single.specs.Rules.{clamped}
 use Rattle.points.specs.Knots.{knotAt, at}
-use Rattle.hermite.specs.Segments.{step, sampleAt, segment}
-use Rattle.hermite.specs.Pieces.{part, straight, hermite}
+use Rattle.segments.specs.Segments.{step, sampleAt, segment}
+use Rattle.segments.specs.Straight.{part, straight}
+use Rattle.hermite.specs.Hermite.{hermite}
 use Rattle.spline.specs.Segments.{splinePiece}
 use Rattle.sampling.specs.declared.Form.{Form}
 use Rattle.sampling.specs.declared.Form.the-variants.{Straight, Cubic, Spline}

@@ -8,8 +8,8 @@ use lib.Ieee.{Float, lt}
 use Rattle.lists.specs.Test.{by-test}
 use Rattle.floats.specs.Order as Order
 use Rattle.floats.specs.Order.{le-numbers, le-of-lt, le-of-not-lt, not-lt-of-le}
-use Rattle.hermite.specs.Segments.{step, sampleAt}
-use Rattle.hermite.specs.Samples.{sample-le}
+use Rattle.segments.specs.Segments.{step, sampleAt}
+use Rattle.segments.specs.Samples.{sample-le}
 
 -- S samples
 module _ (S : ℕ) (some : 2 ≤ S) (most : S ≤ 4096) where

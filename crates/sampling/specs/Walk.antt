@@ -12,8 +12,9 @@ use Rattle.lists.specs.Stored.{Stored}
 use Rattle.single.specs.Rules.{clamped, floorOf}
 use Rattle.points.specs.declared.Knot.{Knot}
 use Rattle.points.specs.Knots.{at, knotAt, narrow}
-use Rattle.hermite.specs.Segments.{step, sampleAt, seek, segment}
-use Rattle.hermite.specs.Pieces.{part, straight, hermite}
+use Rattle.segments.specs.Segments.{step, sampleAt, seek, segment}
+use Rattle.segments.specs.Straight.{part, straight}
+use Rattle.hermite.specs.Hermite.{hermite}
 use Rattle.spline.specs.Segments.{firstCoefficient, thirdCoefficient, polynomialFrom}
 use Rattle.sampling.specs.declared.Form.{Form}
 use Rattle.sampling.specs.declared.Piece.{Piece}

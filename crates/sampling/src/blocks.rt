@@ -3,7 +3,7 @@ ghost use mathlib.Core.Path.{_≡_};
 ghost use mathlib.Core.Bool.{false};
 ghost use Prim.Native.Nat.{_+_, _≤_, _<_, max};
 ghost use Rattle.points.specs.Knots.{at, narrow};
-ghost use Rattle.hermite.specs.Pieces as P;
+ghost use Rattle.segments.specs.Straight as Straight;
 ghost use Rattle.sampling.specs.Pieces.{pieceAt};
 ghost use Rattle.sampling.specs.Walk.{nextPlace, partsOf};
 use crate::Piece;
@@ -50,7 +50,7 @@ pub fn next(ends: &[u32; 66], p: Place) -> Place
 // The part of a piece that lies left of x. No guard: the piece is not narrow.
 fn part(piece: Piece, x: f32) -> f32
     requires { ⌜ narrow (piece .a .x) (piece .b .x) ≡ false ⌝ }
-    ensures { λ r. ⌜ r ≡ P.part (piece .a) (piece .b) x ⌝ }
+    ensures { λ r. ⌜ r ≡ Straight.part (piece .a) (piece .b) x ⌝ }
 {
     (x - piece.a.x) / (piece.b.x - piece.a.x)
 }

@@ -5,7 +5,7 @@ ghost use mathlib.Core.Path.{_≡_};
 ghost use Prim.Native.Nat.{_+_, _-_, _<_, _≤_};
 ghost use lib.ListN.{length};
 ghost use Rattle.lists.specs.Tabulate.{tabulate};
-ghost use Rattle.hermite.specs.Segments as S;
+ghost use Rattle.segments.specs.Segments as S;
 ghost use Rattle.sampling.specs.Pieces.{pieceAt, pieceHeight, heightAt, sampled};
 ghost use Rattle.sampling.specs.Walk.{Ends, State};
 use blocks::Place;
@@ -67,13 +67,13 @@ fn height(form: Form, piece: Piece, x: f32) -> f32
     ensures { λ r. ⌜ r ≡ pieceHeight form piece x ⌝ }
 {
     match form {
-        Form::Straight => hermite::straight(piece.a, piece.b, hermite::part(piece.a, piece.b, x)),
+        Form::Straight => segments::straight(piece.a, piece.b, segments::part(piece.a, piece.b, x)),
         Form::Cubic => hermite::hermite(
             piece.a,
             piece.b,
             piece.p,
             piece.q,
-            hermite::part(piece.a, piece.b, x),
+            segments::part(piece.a, piece.b, x),
         ),
         Form::Spline => spline::spline_piece(piece.a, piece.b, piece.p, piece.q, x),
     }

@@ -15,7 +15,7 @@ use crate::piece_at;
 fn sample(piece: Piece, t: f32) -> f32
     ensures { λ r. ⌜ r ≡ straightSample piece t ⌝ }
 {
-    let height = hermite::straight(piece.a, piece.b, t);
+    let height = segments::straight(piece.a, piece.b, t);
     single::clamp(height)
 }
 

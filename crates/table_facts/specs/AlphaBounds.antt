@@ -11,7 +11,7 @@ use Rattle.single.specs.Constants.{𝟎, 𝟎-is}
 use Rattle.single.specs.Rules.{tiny}
 use Rattle.points.specs.declared.Knot.{Knot}
 use Rattle.chords.specs.Alpha.{chord, spacing, over, threeTerms, alphaTangent, alphaAt}
-use Rattle.hermite.specs.Rows.{Rows}
+use Rattle.segments.specs.Rows.{Rows}
 use Rattle.table_facts.specs.Sizes.{nano-guard, passed, guarded-within, Small, run-within, rise-within, knot-small, before-small, after-small}
 use Rattle.table_facts.specs.RootBounds.{square-from-zero, sum-from-zero, root-from-zero}
 

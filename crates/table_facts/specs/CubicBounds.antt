@@ -13,11 +13,11 @@ use Rattle.floats.specs.Segment.{at-float}
 use Rattle.floats.specs.Within.{Within, widen, within-add, within-sub, within-mul}
 use Rattle.single.specs.Constants.{𝟎, 𝟏, 𝟎-is, 𝟏-is}
 use Rattle.points.specs.declared.Knot.{Knot}
-use Rattle.hermite.specs.Segments.{segment}
+use Rattle.segments.specs.Segments.{segment}
 use Rattle.points.specs.Knots.{at}
-use Rattle.hermite.specs.Pieces.{hermite}
-use Rattle.hermite.specs.Rows.{Rows, piece}
-use Rattle.hermite.specs.SegmentLaws.{InRange, nonnegative-is, segment-holds}
+use Rattle.hermite.specs.Hermite.{hermite}
+use Rattle.segments.specs.Rows.{Rows, piece}
+use Rattle.segments.specs.SegmentLaws.{InRange, nonnegative-is, segment-holds}
 use Rattle.table_facts.specs.StraightLaws.{part-plain}
 use Rattle.table_facts.specs.CubicLaws.{cubicAt}
 use Rattle.table_facts.specs.Sizes.{most-within, one-within, two-within, three-within, Small, run-within, knot-small}

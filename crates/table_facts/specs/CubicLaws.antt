@@ -15,9 +15,10 @@ use Rattle.floats.specs.Cubic.{left-stays, right-stays}
 use Rattle.single.specs.Constants.{𝟏, 𝟐, 𝟑, 𝟏-is, 𝟐-is, 𝟑-is}
 use Rattle.points.specs.declared.Knot.{Knot}
 use Rattle.points.specs.Knots.{knotAt, at}
-use Rattle.hermite.specs.Segments.{segment}
-use Rattle.hermite.specs.Pieces.{part, hermite}
-use Rattle.hermite.specs.Rows.{Rows, piece}
+use Rattle.segments.specs.Segments.{segment}
+use Rattle.segments.specs.Straight.{part}
+use Rattle.hermite.specs.Hermite.{hermite}
+use Rattle.segments.specs.Rows.{Rows, piece}
 use Rattle.table_facts.specs.StraightLaws.{part-plain, at-knots}
 
 -- the cubic piece in the segment s with the tangents of the row ms, at x

@@ -12,9 +12,9 @@ use Rattle.points.specs.Points.{kept}
 use Rattle.points.specs.Knots.{knots, xOf, xRow, yRow}
 use Rattle.points.specs.Order.{All, Bytes}
 use Rattle.points.specs.Kept.{kept-is-kept}
-use Rattle.hermite.specs.Segments.{step, sampleAt}
-use Rattle.hermite.specs.Samples.{sample-byte, sample-fine}
-use Rattle.hermite.specs.Rows.{Rows, fineHeight}
+use Rattle.segments.specs.Segments.{step, sampleAt}
+use Rattle.segments.specs.Samples.{sample-byte, sample-fine}
+use Rattle.segments.specs.Rows.{Rows, fineHeight}
 use Rattle.table_facts.specs.ListLaws.{straightOf, knot-rows}
 use Rattle.tables.specs.declared.CurveInterpolation.the-variants.{Linear}
 use Rattle.sampling.specs.Pieces.{pieceHeight, heightAt}

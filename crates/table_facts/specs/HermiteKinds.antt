@@ -9,11 +9,11 @@ use lib.Ieee.Scale.{finite}
 use Rattle.floats.specs.Value.{Is}
 use Rattle.floats.specs.Within.{Within, widen}
 use Rattle.points.specs.Knots.{at}
-use Rattle.hermite.specs.CatmullRom.{catmullRomAt, cardinalAt}
+use Rattle.tangents.specs.CatmullRom.{catmullRomAt, cardinalAt}
 use Rattle.monotone.specs.Monotone.{monotoneAt}
 use Rattle.chords.specs.Alpha.{alphaAt}
-use Rattle.hermite.specs.Rows.{Rows}
-use Rattle.hermite.specs.SegmentLaws.{InRange}
+use Rattle.segments.specs.Rows.{Rows}
+use Rattle.segments.specs.SegmentLaws.{InRange}
 use Rattle.table_facts.specs.CubicLaws.{cubicAt, cubic-at-knot}
 use Rattle.table_facts.specs.CubicBounds.{cubic-within}
 use Rattle.table_facts.specs.SlopeBounds.{catmull-rom-within, cardinal-within}

@@ -12,9 +12,9 @@ use Rattle.floats.specs.Value.{Is, is-of-le}
 use Rattle.points.specs.declared.Point.{Point}
 use Rattle.points.specs.Knots.{givenKnots, xOf, yOf, xRow, OnLine, at}
 use Rattle.points.specs.Order.{All, Bytes}
-use Rattle.hermite.specs.Rows.{fineHeight}
-use Rattle.hermite.specs.Segments.{segment}
-use Rattle.hermite.specs.SegmentLaws.{InRange, segment-holds}
+use Rattle.segments.specs.Rows.{fineHeight}
+use Rattle.segments.specs.Segments.{segment}
+use Rattle.segments.specs.SegmentLaws.{InRange, segment-holds}
 use Rattle.table_facts.specs.Given.{given-rows}
 
 -- "The exact broken line" of l at the position p / c is n / (256 * d): as `OnLine`, which is at a

@@ -15,8 +15,8 @@ use Rattle.points.specs.Points.{nth}
 use Rattle.points.specs.Knots.{knots, xOf, yOf, xRow, yRow}
 use Rattle.points.specs.Order.{NeverFalls, IsKept, mem-at, never-falls-to}
 use Rattle.points.specs.Shape.{knots-shape, knots-mem, knots-never-fall}
-use Rattle.hermite.specs.Rows.{Rows, fineHeight, rows-of}
-use Rattle.hermite.specs.SegmentLaws.{InRange}
+use Rattle.segments.specs.Rows.{Rows, fineHeight, rows-of}
+use Rattle.segments.specs.SegmentLaws.{InRange}
 use Rattle.table_facts.specs.StraightLaws.{straightAt, straight-at-knot, straight-order}
 use Rattle.table_facts.specs.CubicLaws.{cubicAt}
 use Rattle.table_facts.specs.HermiteKinds.{TangentRule, HermiteRule, MadeBy, kind-at-knot}

@@ -16,7 +16,7 @@ use Rattle.points.specs.declared.Point.{Point}
 use Rattle.points.specs.Points.{pt, firstAt, keptBelow, kept}
 use Rattle.points.specs.Knots.{rest, knots, xAt, yAt, xRow, yRow}
 use Rattle.points.specs.Order.{All, Bytes}
-use Rattle.hermite.specs.Segments.{step, sampleAt, seek, segment}
+use Rattle.segments.specs.Segments.{step, sampleAt, seek, segment}
 use Rattle.spline.specs.Segments.{between, segmentAt, firstCoefficient, splinePiece, slopeOf}
 use Rattle.spline.specs.Second.{rowAt, unknown, recovered, endsRecovered, framed}
 use Rattle.spline.specs.Second.{notAKnotAt, secondAt}

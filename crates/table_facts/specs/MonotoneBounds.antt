@@ -17,7 +17,7 @@ use Rattle.single.specs.Constants.{𝟎, 𝟑, 𝟗, nano, 𝟎-is}
 use Rattle.single.specs.Root.{rootOf}
 use Rattle.monotone.specs.declared.Tangents.{Tangents}
 use Rattle.monotone.specs.Monotone.{secantAt, meanAt, nonnegative, capped, boxed, circled, adjusted, reached, monotoneAt}
-use Rattle.hermite.specs.Rows.{Rows}
+use Rattle.segments.specs.Rows.{Rows}
 use Rattle.table_facts.specs.RootBounds.{FromZero, square-from-zero, sum-from-zero, term-beyond, above-guard, root-beyond, size-of}
 use Rattle.table_facts.specs.Sizes.{half-within, three-within, nano-guard, nine-guard, passed, knot-small}
 use Rattle.table_facts.specs.SlopeBounds.{slope-within}

@@ -23,9 +23,9 @@ use Rattle.points.specs.Points.{kept}
 use Rattle.points.specs.Knots.{knots, xOf, xRow, OnLine, at}
 use Rattle.points.specs.Order.{All, Bytes}
 use Rattle.table_facts.specs.BrokenLine.{line-width}
-use Rattle.hermite.specs.Rows.{fineHeight, x-most}
-use Rattle.hermite.specs.SegmentLaws.{InRange, nonnegative-is}
-use Rattle.hermite.specs.Samples.{sample-256, sample-4096}
+use Rattle.segments.specs.Rows.{fineHeight, x-most}
+use Rattle.segments.specs.SegmentLaws.{InRange, nonnegative-is}
+use Rattle.segments.specs.Samples.{sample-256, sample-4096}
 use Rattle.table_facts.specs.StraightLaws.{exactLine, straight-finite, straight-in-range, straight-close}
 use Rattle.table_facts.specs.ListLaws.{straightOf}
 use Rattle.tables.specs.declared.CurveInterpolation.the-variants.{Linear}

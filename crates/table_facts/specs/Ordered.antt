@@ -10,8 +10,8 @@ use Rattle.points.specs.declared.Point.{Point}
 use Rattle.points.specs.Points.{kept}
 use Rattle.points.specs.Order.{All, Bytes, NeverFalls}
 use Rattle.points.specs.Kept.{kept-is-kept}
-use Rattle.hermite.specs.SegmentLaws.{InRange}
-use Rattle.hermite.specs.Samples.{sample-256, sample-4096, sample-le}
+use Rattle.segments.specs.SegmentLaws.{InRange}
+use Rattle.segments.specs.Samples.{sample-256, sample-4096, sample-le}
 use Rattle.table_facts.specs.ListLaws.{straight-rises}
 use Rattle.tables.specs.declared.CurveInterpolation.the-variants.{Linear}
 use Rattle.sampling.specs.Pieces.{sampled}

@@ -15,9 +15,8 @@ use Rattle.floats.specs.Within.{Within, Beyond, beyond-of, within-is, within-ze
 use Rattle.single.specs.Constants.{𝟎, ½, 𝟏, 𝟐, 𝟑, 𝟗, micro, nano, 𝟎-is, ½-is, 𝟏-is, 𝟐-is, 𝟑-is}
 use Rattle.single.specs.Rules.{guardedQuotient}
 use Rattle.points.specs.declared.Knot.{Knot}
-use Rattle.points.specs.Knots.{knotAt}
-use Rattle.hermite.specs.CatmullRom.{before, after}
-use Rattle.hermite.specs.Rows.{Rows, x-most}
+use Rattle.points.specs.Knots.{knotAt, before, after}
+use Rattle.segments.specs.Rows.{Rows, x-most}
 
 -- ---- numbers that are not negative: p / c, p being at most b
 pub most-within : (x : Float) (p c b k : ℕ) → 0 < c → Is x p 0 c → p ≤ b → b * 2 ^ 149 ≤ 2 ^ k * c → Within x k

@@ -9,8 +9,9 @@ use Rattle.single.specs.Constants.{𝟐𝟓𝟓}
 use Rattle.single.specs.Rules.{float}
 use Rattle.single.specs.RuleLaws.{float-is}
 use Rattle.points.specs.declared.Knot.{Knot}
-use Rattle.hermite.specs.CatmullRom.{slope, catmullRomAt, looseness, looseSlope, cardinalAt}
-use Rattle.hermite.specs.Rows.{Rows}
+use Rattle.segments.specs.Straight.{slope}
+use Rattle.tangents.specs.CatmullRom.{catmullRomAt, looseness, looseSlope, cardinalAt}
+use Rattle.segments.specs.Rows.{Rows}
 use Rattle.table_facts.specs.Sizes.{most-within, one-within, micro-guard, guarded-within, Small, run-within, rise-within, before-small, after-small}
 
 pub slope-within : {l r : Knot} → Small l → Small r → Within (slope l r) 178

@@ -23,8 +23,8 @@ use Rattle.floats.specs.Frac.{total}
 use Rattle.floats.specs.Segment.{width-is, width-some}
 use Rattle.single.specs.Constants.{𝟎, 𝟐, 𝟔, pico, 𝟎-is, 𝟐-is, 𝟔-is}
 use Rattle.single.specs.Rules.{guardedQuotient}
-use Rattle.hermite.specs.CatmullRom.{slope}
-use Rattle.hermite.specs.Rows.{Rows, piece}
+use Rattle.segments.specs.Straight.{slope}
+use Rattle.segments.specs.Rows.{Rows, piece}
 use Rattle.spline.specs.declared.Row.{Row}
 use Rattle.spline.specs.declared.Segment.{Segment}
 use Rattle.spline.specs.declared.Swept.{Swept}

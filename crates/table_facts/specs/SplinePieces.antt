@@ -23,9 +23,9 @@ use Rattle.single.specs.Constants.{𝟎, 𝟐, 𝟔, 𝟐𝟓𝟓, 𝟐𝟓𝟔
 use Rattle.single.specs.RuleLaws.{float-is}
 use Rattle.points.specs.declared.Knot.{Knot}
 use Rattle.points.specs.Knots.{knotAt, at, narrow}
-use Rattle.hermite.specs.Segments.{segment}
-use Rattle.hermite.specs.Rows.{Rows}
-use Rattle.hermite.specs.SegmentLaws.{InRange, nonnegative-is, segment-holds}
+use Rattle.segments.specs.Segments.{segment}
+use Rattle.segments.specs.Rows.{Rows}
+use Rattle.segments.specs.SegmentLaws.{InRange, nonnegative-is, segment-holds}
 use Rattle.spline.specs.Segments.{between, segmentAt, firstCoefficient, splinePiece, slopeOf}
 use Rattle.table_facts.specs.Sizes.{most-within, two-within, Small, knot-small}
 use Rattle.table_facts.specs.SplineBounds.{least-beyond, Sized, width-within, sized}

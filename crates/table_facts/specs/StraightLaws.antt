@@ -22,10 +22,10 @@ use Rattle.floats.specs.Segment.{line-start, line-end, line-finite, line-near, 
 use Rattle.single.specs.Constants.{𝟎, 𝟐𝟓𝟓, micro, micro-is}
 use Rattle.single.specs.RuleLaws.{guarded-value}
 use Rattle.points.specs.Knots.{knotAt, at}
-use Rattle.hermite.specs.Segments.{segment}
-use Rattle.hermite.specs.Pieces.{part, straight}
-use Rattle.hermite.specs.Rows.{Rows, knot-low, knot-high, y-low, y-high, piece}
-use Rattle.hermite.specs.SegmentLaws.{InRange, Holds, segment-holds, between-holds, held-at-knot, held-between, held-order}
+use Rattle.segments.specs.Segments.{segment}
+use Rattle.segments.specs.Straight.{part, straight}
+use Rattle.segments.specs.Rows.{Rows, knot-low, knot-high, y-low, y-high, piece}
+use Rattle.segments.specs.SegmentLaws.{InRange, Holds, segment-holds, between-holds, held-at-knot, held-between, held-order}
 
 -- the straight piece in the segment s, at x
 abbrev pub straightIn : List Float → List Float → ℕ → Float → Float

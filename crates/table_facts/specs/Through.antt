@@ -24,8 +24,8 @@ use Rattle.points.specs.Points.{kept}
 use Rattle.points.specs.Knots.{knots, xRow, yRow, at}
 use Rattle.points.specs.Order.{All, Bytes, IsKept, all-mem}
 use Rattle.points.specs.Kept.{kept-is-kept}
-use Rattle.hermite.specs.SegmentLaws.{InRange}
-use Rattle.hermite.specs.Samples.{sample-256, sample-4096}
+use Rattle.segments.specs.SegmentLaws.{InRange}
+use Rattle.segments.specs.Samples.{sample-256, sample-4096}
 use Rattle.spline.specs.declared.SplineBoundary.{SplineBoundary}
 use Rattle.spline.specs.declared.SplineBoundary.the-variants.{Natural, Clamped, NotAKnot}
 use Rattle.spline.specs.Segments.{slopeOf}

@@ -8,7 +8,7 @@ use lib.ListN.{replicate}
 use lib.Ieee.{Float}
 use Rattle.lists.specs.Tabulate.{filled}
 use Rattle.single.specs.Constants.{𝟎}
-use Rattle.hermite.specs.CatmullRom.{catmullRomAt, cardinalAt}
+use Rattle.tangents.specs.CatmullRom.{catmullRomAt, cardinalAt}
 use Rattle.monotone.specs.Monotone.{monotoneAt}
 use Rattle.chords.specs.Alpha.{alphaAt}
 use Rattle.spline.specs.declared.SplineBoundary.the-variants.{Natural, Clamped, NotAKnot}

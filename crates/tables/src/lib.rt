@@ -11,7 +11,6 @@ ghost use Rattle.tables.specs.Tables.{fineTable, bytesOf, tableOf};
 ghost use Rattle.tables.specs.Tables.{isTableLength, lengthCheck, BuiltTable, BuiltLut};
 use answers::Answer;
 use answers::first_of;
-use hermite::tangents;
 use points::Curve;
 use sampling::Form;
 use spline::SplineBoundary;

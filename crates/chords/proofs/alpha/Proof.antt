@@ -11,8 +11,7 @@ use Rattle.floats.specs.Notation.{_⊕_}
 use Rattle.lists.specs.Stored.{Stored, stored-none, stored-next, stored-then, stored-inside, stored-end}
 use Rattle.single.specs.Constants.{𝟎}
 use Rattle.points.specs.declared.Knot.{Knot}
-use Rattle.points.specs.Knots.{knotAt, at}
-use Rattle.hermite.specs.CatmullRom.{after}
+use Rattle.points.specs.Knots.{knotAt, at, after}
 use Rattle.chords.specs.Alpha.{spacing, innerTangent, endTangent, alphaTangent, alphaAt, chordAt, spacingAt}
 use Rattle.chords.proofs.alpha.Statement.{statement}
 use Rattle.chords.proofs.alpha.Tie as tie

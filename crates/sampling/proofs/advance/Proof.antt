@@ -3,7 +3,7 @@ use native.Mathlib.Omega.{arith}
 use mathlib.Core.Path.{_≡_, refl, sym, _∙_}
 use Prim.Native.Nat.{_+_, _-_, _<_}
 use borrow.Author.Needs.{needs}
-use Rattle.hermite.specs.Segments.{seek}
+use Rattle.segments.specs.Segments.{seek}
 use Rattle.sampling.proofs.Walk.{seek-stays, seek-last, seek-on}
 use Rattle.sampling.proofs.advance.Statement.{statement}
 use Rattle.sampling.proofs.advance.Tie as tie

@@ -1,6 +1,6 @@
 -- `position`: the number of the sample times the step.
 use native.Mathlib.Omega.{arith}
-use Rattle.hermite.specs.Segments.{sampleAt}
+use Rattle.segments.specs.Segments.{sampleAt}
 use Rattle.sampling.proofs.position.Statement.{statement}
 use Rattle.sampling.proofs.position.Tie as tie
 

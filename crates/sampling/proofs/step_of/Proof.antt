@@ -1,6 +1,6 @@
 -- `step_of`: 255 over one less than the samples.
 use native.Mathlib.Omega.{arith}
-use Rattle.hermite.specs.Segments as S
+use Rattle.segments.specs.Segments as S
 use Rattle.sampling.proofs.step_of.Statement.{statement}
 use Rattle.sampling.proofs.step_of.Tie as tie
 

@@ -1,6 +1,6 @@
 -- `blocks::part`: a quotient that needs no guard.
 use Rattle.single.specs.Rules.{guardedQuotient}
-use Rattle.hermite.specs.Pieces.{part}
+use Rattle.segments.specs.Straight.{part}
 use Rattle.sampling.proofs.blocks.part.Statement.{statement}
 use Rattle.sampling.proofs.blocks.part.Tie as tie
 

@@ -8,8 +8,8 @@ use native.Mathlib.Nat.{add-zero}
 use lib.Ieee.{Float}
 use Rattle.lists.specs.Tabulate.{tabulate}
 use Rattle.points.specs.Knots.{narrow}
-use Rattle.hermite.specs.Segments.{sampleAt}
-use Rattle.hermite.specs.Pieces.{part}
+use Rattle.segments.specs.Segments.{sampleAt}
+use Rattle.segments.specs.Straight.{part}
 use Rattle.sampling.specs.declared.Piece.{Piece}
 use Rattle.sampling.specs.Walk.{partFrom, partsOf}
 use Rattle.sampling.proofs.blocks.parts.Statement.{statement}

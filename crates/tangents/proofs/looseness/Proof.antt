@@ -1,8 +1,8 @@
 -- `tangents::looseness`: the code is the formula.
 use native.Mathlib.Omega.{arith}
-use Rattle.hermite.specs.CatmullRom.{looseness}
-use Rattle.hermite.proofs.tangents.looseness.Statement.{statement}
-use Rattle.hermite.proofs.tangents.looseness.Tie as tie
+use Rattle.tangents.specs.CatmullRom.{looseness}
+use Rattle.tangents.proofs.looseness.Statement.{statement}
+use Rattle.tangents.proofs.looseness.Tie as tie
 
 returns : tie.Need-returns
 unfolding looseness

@@ -22,8 +22,8 @@ use Rattle.floats.specs.Small.{div-self}
 use Rattle.single.specs.Constants.{𝟎, 𝟐𝟓𝟓, 𝟐𝟓𝟓-is}
 use Rattle.single.specs.Rules.{float}
 use Rattle.single.specs.RuleLaws.{float-is, float-le}
-use Rattle.hermite.specs.Segments.{step, sampleAt}
-use Rattle.hermite.specs.SegmentLaws.{InRange, nonnegative-is}
+use Rattle.segments.specs.Segments.{step, sampleAt}
+use Rattle.segments.specs.SegmentLaws.{InRange, nonnegative-is}
 
 -- ---- of 256 samples, sample v stands at v
 pub sample-byte : (v : ℕ) → v ≤ 255 → sampleAt (step 256) v ≡ float v

@@ -14,9 +14,9 @@ use Rattle.lists.specs.Test.{by-test}
 use Rattle.floats.specs.Value.{Is, top, bot, own, is-of-le, not-below}
 use Rattle.floats.specs.Order.{le-trans, above-equal, le-numbers, le-of-lt, le-of-not-lt, not-lt-of-le}
 use Rattle.single.specs.Constants.{𝟎, 𝟐𝟓𝟓, 𝟎-is}
-use Rattle.hermite.specs.Segments.{seek, segment}
+use Rattle.segments.specs.Segments.{seek, segment}
 use Rattle.points.specs.Knots.{at}
-use Rattle.hermite.specs.Rows.{Rows, x-le, from-first, to-last, knot-low, knot-high}
+use Rattle.segments.specs.Rows.{Rows, x-le, from-first, to-last, knot-low, knot-high}
 
 -- where a curve has a height: at the floats of the format from 0 to 255
 pub record InRange (x : Float) : Type 0 where

@@ -1,24 +1,19 @@
-// The tangents of CatmullRom and Cardinal at the knots. n knots stand in the rows xs and ys; what stands behind them is not read.
-// The tangents go to the front of a lent row.
+// The tangents of CatmullRom and Cardinal at the knots. n knots stand in the rows xs and ys; what
+// stands behind them is not read. The tangents go to the front of a lent row.
 ghost use mathlib.Core.Path.{_≡_};
 ghost use Prim.Native.Nat.{_≤_, _<_};
 ghost use Rattle.lists.specs.Stored.{Stored};
-ghost use Rattle.hermite.specs.CatmullRom as CatmullRom;
+ghost use Rattle.points.specs.Knots as K;
+ghost use Rattle.tangents.specs.CatmullRom as CatmullRom;
 use points::Knot;
 use points::knot_at;
+use segments::slope;
 use single::byte_to_float;
 use single::guarded_quotient;
 
-// The rise from l to r over the run.
-pub fn slope(l: Knot, r: Knot) -> f32
-    ensures { λ m. ⌜ m ≡ CatmullRom.slope l r ⌝ }
-{
-    guarded_quotient(r.y - l.y, r.x - l.x, 0.000001)
-}
-
 // The knot before knot i, or i where there is none.
 fn before(i: usize) -> usize
-    ensures { λ r. ⌜ r ≡ CatmullRom.before i ⌝ }
+    ensures { λ r. ⌜ r ≡ K.before i ⌝ }
 {
     if i == 0 { 0 } else { i - 1 }
 }
@@ -26,7 +21,7 @@ fn before(i: usize) -> usize
 // The knot after knot i of n, or i where there is none.
 fn after(n: usize, i: usize) -> usize
     requires { ⌜ i < n ⌝ }
-    ensures { λ r. ⌜ r ≡ CatmullRom.after n i ⌝ }
+    ensures { λ r. ⌜ r ≡ K.after n i ⌝ }
 {
     if i + 1 == n { i } else { i + 1 }
 }

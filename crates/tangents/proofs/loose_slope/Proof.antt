@@ -1,8 +1,8 @@
 -- `tangents::loose_slope`: a guarded quotient.
 use native.Mathlib.Omega.{arith}
-use Rattle.hermite.specs.CatmullRom.{looseSlope}
-use Rattle.hermite.proofs.tangents.loose_slope.Statement.{statement}
-use Rattle.hermite.proofs.tangents.loose_slope.Tie as tie
+use Rattle.tangents.specs.CatmullRom.{looseSlope}
+use Rattle.tangents.proofs.loose_slope.Statement.{statement}
+use Rattle.tangents.proofs.loose_slope.Tie as tie
 
 returns : tie.Need-returns
 unfolding looseSlope

@@ -3,9 +3,9 @@ use Prim.Native.Nat.{_≤_, _-_}
 use native.Mathlib.Omega.{arith}
 use borrow.Author.Needs.{needs}
 use Rattle.lists.specs.Stored.{Stored, stored-none, stored-next, stored-end}
-use Rattle.hermite.specs.CatmullRom.{catmullRomAt}
-use Rattle.hermite.proofs.tangents.catmull_rom.Statement.{statement}
-use Rattle.hermite.proofs.tangents.catmull_rom.Tie as tie
+use Rattle.tangents.specs.CatmullRom.{catmullRomAt}
+use Rattle.tangents.proofs.catmull_rom.Statement.{statement}
+use Rattle.tangents.proofs.catmull_rom.Tie as tie
 
 abbrev Inv-loop : tie.InvT-loop
 Inv-loop xs ys n tangents₀ i₀ tangents i = (i ≤ n) × Stored (catmullRomAt xs ys n) 0 i tangents₀ tangents

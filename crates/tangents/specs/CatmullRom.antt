@@ -1,23 +1,13 @@
 -- The tangents of CatmullRom and Cardinal (Catmull and Rom, "A class of local interpolating splines", 1974), as document 01 has them. Definitions only.
-use Prim.Native.Nat.{ℕ, _+_, _-_, min}
+use Prim.Native.Nat.{ℕ}
 use mathlib.Core.List.{List}
 use lib.Ieee.{Float}
 use Rattle.floats.specs.Notation.{_⊖_, _⊗_, _⊘_}
 use Rattle.single.specs.Constants.{𝟏, 𝟐𝟓𝟓, micro}
 use Rattle.single.specs.Rules.{float, guardedQuotient}
 use Rattle.points.specs.declared.Knot.{Knot}
-use Rattle.points.specs.Knots.{knotAt}
-
--- the knot before knot i and the one after it, of n: "a missing neighbour replaced by the knot"
-abbrev pub before : ℕ → ℕ
-before i = i - 1
-
-abbrev pub after : ℕ → ℕ → ℕ
-after n i = min (i + 1) (n - 1)
-
--- the rise from l to r over the run; 0 without a run
-unfoldable pub slope : Knot → Knot → Float
-slope l r = guardedQuotient (r .y ⊖ l .y) (r .x ⊖ l .x) micro
+use Rattle.points.specs.Knots.{knotAt, before, after}
+use Rattle.segments.specs.Straight.{slope}
 
 -- "CatmullRom: (right y − left y) / (right x − left x)"
 unfoldable pub catmullRomAt : List Float → List Float → ℕ → ℕ → Float

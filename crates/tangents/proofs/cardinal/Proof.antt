@@ -3,9 +3,9 @@ use Prim.Native.Nat.{_≤_, _-_}
 use native.Mathlib.Omega.{arith}
 use borrow.Author.Needs.{needs}
 use Rattle.lists.specs.Stored.{Stored, stored-none, stored-next, stored-end}
-use Rattle.hermite.specs.CatmullRom.{cardinalAt}
-use Rattle.hermite.proofs.tangents.cardinal.Statement.{statement}
-use Rattle.hermite.proofs.tangents.cardinal.Tie as tie
+use Rattle.tangents.specs.CatmullRom.{cardinalAt}
+use Rattle.tangents.proofs.cardinal.Statement.{statement}
+use Rattle.tangents.proofs.cardinal.Tie as tie
 
 abbrev Inv-loop : tie.InvT-loop
 Inv-loop q xs ys n tangents₀ c i₀ tangents i = (i ≤ n) × Stored (cardinalAt q xs ys n) 0 i tangents₀ tangents
