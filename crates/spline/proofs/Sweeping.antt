@@ -7,8 +7,8 @@ use native.Mathlib.Omega.{arith}
 use lib.ListN.{length, set}
 use lib.Ieee.{Float, nan}
 use Rattle.lists.specs.Stored.{Stored, stored-none, stored-next, stored-inside, stored-as}
-use Rattle.spline.specs.declared.Row.{Row}
-use Rattle.spline.specs.declared.Swept.{Swept}
+use Rattle.spline.specs.declared.thomas.Row.{Row}
+use Rattle.spline.specs.declared.thomas.Swept.{Swept}
 use Rattle.spline.specs.Thomas.{none, sweep, swept, sweptRow, substituted, solution, sweptIn, startingAt}
 use Rattle.spline.specs.ThomasLaws.{substituted-same}
 

@@ -8,7 +8,7 @@ use lib.Ieee.{Float}
 use Rattle.floats.specs.Notation.{_⊕_, _⊖_, _⊗_}
 use Rattle.single.specs.Constants.{𝟎, 𝟐, 𝟔, pico}
 use Rattle.single.specs.Rules.{guardedQuotient}
-use Rattle.spline.specs.declared.Row.{Row}
+use Rattle.spline.specs.declared.thomas.Row.{Row}
 use Rattle.spline.specs.declared.Segment.{Segment}
 use Rattle.spline.specs.declared.SplineBoundary.{SplineBoundary}
 use Rattle.spline.specs.declared.SplineBoundary.the-variants.{Natural, Clamped, NotAKnot}

@@ -10,8 +10,8 @@ use Rattle.floats.specs.Notation.{_⊖_, _⊗_}
 use Rattle.single.specs.Constants.{𝟎, 𝟏, pico}
 use Rattle.single.specs.Rules.{guardedQuotient}
 use Rattle.points.specs.Knots.{at}
-use Rattle.spline.specs.declared.Row.{Row}
-use Rattle.spline.specs.declared.Swept.{Swept}
+use Rattle.spline.specs.declared.thomas.Row.{Row}
+use Rattle.spline.specs.declared.thomas.Swept.{Swept}
 
 -- "pivot below 1e-12 in size uses inverse 0"
 abbrev pub inverse : Float → Float

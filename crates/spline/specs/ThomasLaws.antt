@@ -4,7 +4,7 @@ use Prim.Native.Nat.{ℕ, zero, suc, _+_, _-_, _<_, _≤_}
 use native.Mathlib.Omega.{arith}
 use Rattle.floats.specs.Notation.{_⊖_, _⊗_}
 use Rattle.single.specs.Constants.{𝟎}
-use Rattle.spline.specs.declared.Swept.{Swept}
+use Rattle.spline.specs.declared.thomas.Swept.{Swept}
 use Rattle.spline.specs.Thomas.{backward, substituted}
 
 module _ (s : ℕ → Swept) (m : ℕ) where

@@ -25,9 +25,9 @@ use Rattle.single.specs.Constants.{𝟎, 𝟐, 𝟔, pico, 𝟎-is, 𝟐-is, �
 use Rattle.single.specs.Rules.{guardedQuotient}
 use Rattle.segments.specs.Straight.{slope}
 use Rattle.segments.specs.Rows.{Rows, piece}
-use Rattle.spline.specs.declared.Row.{Row}
+use Rattle.spline.specs.declared.thomas.Row.{Row}
 use Rattle.spline.specs.declared.Segment.{Segment}
-use Rattle.spline.specs.declared.Swept.{Swept}
+use Rattle.spline.specs.declared.thomas.Swept.{Swept}
 use Rattle.spline.specs.declared.SplineBoundary.{SplineBoundary}
 use Rattle.spline.specs.declared.SplineBoundary.the-variants.{Natural, Clamped, NotAKnot}
 use Rattle.spline.specs.Segments.{segmentAt, between}

@@ -18,8 +18,8 @@ use Rattle.floats.specs.Bound.{AtMost, AtLeast, at-most-more, at-most-cond, at-
 use Rattle.floats.specs.Bound.{whole-most, whole-least, mul-most, sub-most, sub-least}
 use Rattle.single.specs.Constants.{𝟎, 𝟏, pico, 𝟎-is, 𝟏-is}
 use Rattle.single.specs.Rules.{guardedQuotient}
-use Rattle.spline.specs.declared.Row.{Row}
-use Rattle.spline.specs.declared.Swept.{Swept}
+use Rattle.spline.specs.declared.thomas.Row.{Row}
+use Rattle.spline.specs.declared.thomas.Swept.{Swept}
 use Rattle.spline.specs.Thomas.{inverse, scaled, sweep, sweptRow, backward, substituted, solution}
 
 -- a swept row that cannot grow

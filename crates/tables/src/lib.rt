@@ -14,7 +14,7 @@ use answers::first_of;
 use points::Curve;
 use sampling::Form;
 use spline::SplineBoundary;
-use spline::second_derivatives;
+use spline::second::second_derivatives;
 use spline::slope;
 
 // The kinds, in the order of document 01's numbers.

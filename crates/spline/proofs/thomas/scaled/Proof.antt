@@ -1,8 +1,8 @@
--- `spline::scaled`: both parts times the inverse.
+-- `thomas::scaled`: both parts times the inverse.
 use native.Mathlib.Omega.{arith}
 use Rattle.spline.specs.Thomas as T
-use Rattle.spline.proofs.scaled.Statement.{statement}
-use Rattle.spline.proofs.scaled.Tie as tie
+use Rattle.spline.proofs.thomas.scaled.Statement.{statement}
+use Rattle.spline.proofs.thomas.scaled.Tie as tie
 
 returns : tie.Need-returns
 unfolding T.scaled

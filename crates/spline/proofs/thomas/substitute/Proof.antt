@@ -1,12 +1,12 @@
--- `spline::substitute`: from the back, each row by the unknown after its own.
+-- `thomas::substitute`: from the back, each row by the unknown after its own.
 use mathlib.Core.Path.{_≡_, sym}
 use Prim.Native.Nat.{_+_, _≤_, _-_}
 use native.Mathlib.Omega.{arith}
 use Rattle.lists.specs.Stored.{Stored, stored-none, stored-before, stored-start}
 use Rattle.spline.specs.Thomas.{substituted, sweptIn, startingAt}
 use Rattle.spline.specs.ThomasLaws.{substituted-past, substituted-at}
-use Rattle.spline.proofs.substitute.Statement.{statement}
-use Rattle.spline.proofs.substitute.Tie as tie
+use Rattle.spline.proofs.thomas.substitute.Statement.{statement}
+use Rattle.spline.proofs.thomas.substitute.Tie as tie
 
 abbrev Inv-loop : tie.InvT-loop
 Inv-loop aboves rights m start row₀ next₀ k₀ row next k =

@@ -1,8 +1,8 @@
--- `spline::recovered`: the ratio of the widths is a guarded quotient.
+-- `second::recovered`: the ratio of the widths is a guarded quotient.
 use native.Mathlib.Omega.{arith}
 use Rattle.spline.specs.Second as M
-use Rattle.spline.proofs.recovered.Statement.{statement}
-use Rattle.spline.proofs.recovered.Tie as tie
+use Rattle.spline.proofs.second.recovered.Statement.{statement}
+use Rattle.spline.proofs.second.recovered.Tie as tie
 
 returns : tie.Need-returns
 unfolding M.recovered

@@ -1,9 +1,9 @@
--- `spline::row_at`: the arms are the definition's.
+-- `system::row_at`: the arms are the definition's.
 use native.Mathlib.Omega.{arith}
 use borrow.Author.Needs.{needs}
 use Rattle.spline.specs.Second.{rowAt}
-use Rattle.spline.proofs.row_at.Statement.{statement}
-use Rattle.spline.proofs.row_at.Tie as tie
+use Rattle.spline.proofs.system.row_at.Statement.{statement}
+use Rattle.spline.proofs.system.row_at.Tie as tie
 
 segment-at-requires : tie.Need-segment-at-requires
 segment-at-requires c κs = omega (arith, rw (c .enum-told .given .1) at (c .before .before .pre .2))

@@ -1,9 +1,9 @@
--- `spline::clamped_row`: the tests are the definition's.
+-- `system::clamped_row`: the tests are the definition's.
 use native.Mathlib.Omega.{arith}
 use borrow.Author.Tests.{eq-eqb, ne-eqb}
 use Rattle.spline.specs.Second.{rowAt}
-use Rattle.spline.proofs.clamped_row.Statement.{statement}
-use Rattle.spline.proofs.clamped_row.Tie as tie
+use Rattle.spline.proofs.system.clamped_row.Statement.{statement}
+use Rattle.spline.proofs.system.clamped_row.Tie as tie
 
 returns : tie.Need-returns
 unfolding rowAt

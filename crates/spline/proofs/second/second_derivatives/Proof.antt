@@ -1,9 +1,9 @@
--- `spline::second_derivatives`: the arms are the definition's.
+-- `second::second_derivatives`: the arms are the definition's.
 use native.Mathlib.Omega.{arith}
 use Rattle.spline.specs.Second.{secondAt}
 use Rattle.spline.proofs.Rows.{from-front}
-use Rattle.spline.proofs.second_derivatives.Statement.{statement}
-use Rattle.spline.proofs.second_derivatives.Tie as tie
+use Rattle.spline.proofs.second.second_derivatives.Statement.{statement}
+use Rattle.spline.proofs.second.second_derivatives.Tie as tie
 
 returns : tie.Need-returns
 unfolding secondAt

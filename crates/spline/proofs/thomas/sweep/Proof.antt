@@ -1,9 +1,9 @@
--- `spline::sweep`: the test is the definition's.
+-- `thomas::sweep`: the test is the definition's.
 use native.Mathlib.Omega.{arith}
 use borrow.Author.Tests.{eq-eqb, ne-eqb}
 use Rattle.spline.specs.Thomas as T
-use Rattle.spline.proofs.sweep.Statement.{statement}
-use Rattle.spline.proofs.sweep.Tie as tie
+use Rattle.spline.proofs.thomas.sweep.Statement.{statement}
+use Rattle.spline.proofs.thomas.sweep.Tie as tie
 
 returns : tie.Need-returns
 unfolding T.sweep

@@ -1,12 +1,12 @@
--- `spline::ends_recovered`: the unknowns are those of the inner knots, and the ends are recovered from them.
+-- `second::ends_recovered`: the unknowns are those of the inner knots, and the ends are recovered from them.
 use Prim.Native.Nat.{_-_}
 use native.Mathlib.Omega.{arith}
 use Rattle.lists.specs.Stored.{stored-as}
 use Rattle.spline.specs.declared.SplineBoundary.the-variants.{NotAKnot}
 use Rattle.spline.specs.Second.{unknown, endsRecovered}
 use Rattle.spline.proofs.Rows.{inner-value, framed-row}
-use Rattle.spline.proofs.ends_recovered.Statement.{statement}
-use Rattle.spline.proofs.ends_recovered.Tie as tie
+use Rattle.spline.proofs.second.ends_recovered.Statement.{statement}
+use Rattle.spline.proofs.second.ends_recovered.Tie as tie
 
 returns : tie.Need-returns
 unfolding endsRecovered

@@ -1,11 +1,11 @@
--- `spline::not_a_knot`: the tests are the definition's.
+-- `second::not_a_knot`: the tests are the definition's.
 use mathlib.Core.Path.{_≡_, refl}
 use native.Mathlib.Omega.{arith}
 use borrow.Author.Tests.{le-ltb, ne-eqb}
 use Rattle.lists.specs.Stored.{stored-none, stored-next, stored-as}
 use Rattle.spline.specs.Second.{notAKnotAt}
-use Rattle.spline.proofs.not_a_knot.Statement.{statement}
-use Rattle.spline.proofs.not_a_knot.Tie as tie
+use Rattle.spline.proofs.second.not_a_knot.Statement.{statement}
+use Rattle.spline.proofs.second.not_a_knot.Tie as tie
 
 returns : tie.Need-returns
 unfolding notAKnotAt

@@ -1,10 +1,10 @@
--- `spline::natural`: the unknowns are those of the inner knots, and the ends are 0.
+-- `second::natural`: the unknowns are those of the inner knots, and the ends are 0.
 use native.Mathlib.Omega.{arith}
 use Rattle.spline.specs.declared.SplineBoundary.the-variants.{Natural}
 use Rattle.spline.specs.Second.{unknown, naturalAt}
 use Rattle.spline.proofs.Rows.{framed-row}
-use Rattle.spline.proofs.natural.Statement.{statement}
-use Rattle.spline.proofs.natural.Tie as tie
+use Rattle.spline.proofs.second.natural.Statement.{statement}
+use Rattle.spline.proofs.second.natural.Tie as tie
 
 returns : tie.Need-returns
 unfolding naturalAt

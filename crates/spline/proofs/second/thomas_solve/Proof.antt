@@ -1,11 +1,11 @@
--- `spline::thomas_solve`: the forward sweep of the system's rows, then back substitution.
+-- `second::thomas_solve`: the forward sweep of the system's rows, then back substitution.
 use mathlib.Core.Path.{sym}
 use Prim.Native.Nat.{_≤_, _-_}
 use native.Mathlib.Omega.{arith}
 use Rattle.spline.specs.Second.{rowAt, unknown}
 use Rattle.spline.proofs.Sweeping.{Sweeping, sweeping-none, sweeping-next, sweeping-end}
-use Rattle.spline.proofs.thomas_solve.Statement.{statement}
-use Rattle.spline.proofs.thomas_solve.Tie as tie
+use Rattle.spline.proofs.second.thomas_solve.Statement.{statement}
+use Rattle.spline.proofs.second.thomas_solve.Tie as tie
 
 abbrev Inv-loop : tie.InvT-loop
 Inv-loop xs ys n boundary m start row aboves₀ rights₀ p₀ k₀ aboves rights p k = (k ≤ m) × Sweeping (rowAt xs ys n boundary) k aboves₀ rights₀ aboves rights p
