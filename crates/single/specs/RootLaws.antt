@@ -41,10 +41,6 @@ module _ (m : ℕ) (e : ℤ) (f : T (fits binary32 (fin false (suc m) e))) where
   units-are : suc m * up e * 2 ^ 149 / down e ≡ suc m * 2 ^ i
   units-are = ap (λ (x : ℕ). x / down e) exact ∙ mul-div-cancel (suc m * 2 ^ i) (down-pos e)
 
-  -- what fits is a whole number of units: nothing is lost where `rootOf` divides
-  pub whole-units : suc m * up e * 2 ^ 149 / down e * down e ≡ suc m * up e * 2 ^ 149
-  whole-units = ap (λ (x : ℕ). x * down e) units-are ∙ sym exact
-
   below : suc m * 2 ^ i < 2 ^ 277
   below = lt-of-not-le (λ (g : 2 ^ 277 ≤ suc m * 2 ^ i). not-le-of-lt small (mul-le-mul-right (down e) g))
     where
