@@ -70,9 +70,9 @@ before i = i - 1
 abbrev pub after : ℕ → ℕ → ℕ
 after n i = min (i + 1) (n - 1)
 
--- whether a segment, with its knots at l and r, is too narrow to divide by its width: narrower than 1e-6
-abbrev pub narrow : Float → Float → Bool
-narrow l r = lt (absolute (r ⊖ l)) micro
+-- whether a segment, with its knots at l and r, is too thin to divide by its width: thinner than 1e-6
+abbrev pub tooThin : Float → Float → Bool
+tooThin l r = lt (absolute (r ⊖ l)) micro
 
 -- r holds the knots ks
 pub record KnotsOf (ks : List Point) (r : Knots) : Type 0 where

@@ -32,8 +32,8 @@ pub list-length : (c : Curve) → length (c .points) ≡ 64 → length (listOf c
 list-length c long = rw (length-take, long)
 
 -- and a claim cut to 64 leaves the list as it is
-pub held-list : (l : List Point) (n : ℕ) → length l ≡ 64 → take (min n 64) l ≡ take n l
-held-list l n long = elim (decLe n 64) [
+pub limited-list : (l : List Point) (n : ℕ) → length l ≡ 64 → take (min n 64) l ≡ take n l
+limited-list l n long = elim (decLe n 64) [
   | yes few ↦ let same : min n 64 ≡ n = omega arith in rw same
   | no many ↦
       let most : min n 64 ≡ 64 = omega arith in

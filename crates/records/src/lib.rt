@@ -267,7 +267,7 @@ fn read_tension(s: &[u8], at: usize) -> KindRead
 }
 
 // Two's complement, low byte first.
-fn slope(low: u8, high: u8) -> i16
+fn stored_slope(low: u8, high: u8) -> i16
     ensures { λ r. ⌜ r ≡ storedSlope low high ⌝ }
 {
     let bits = low as u16 + high as u16 * 256;
@@ -291,8 +291,8 @@ fn read_slopes(s: &[u8], at: usize) -> KindRead
         answer: Answer::Done,
         next: at + 4,
         kind: CurveInterpolation::ClampedCubic {
-            start_slope_q8: slope(s[at], s[at + 1]),
-            end_slope_q8: slope(s[at + 2], s[at + 3]),
+            start_slope_q8: stored_slope(s[at], s[at + 1]),
+            end_slope_q8: stored_slope(s[at + 2], s[at + 3]),
         },
     }
 }

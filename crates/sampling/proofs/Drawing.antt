@@ -17,44 +17,44 @@ use Rattle.segments.specs.Segments.{sampleAt}
 use Rattle.segments.specs.Straight.{part}
 use Rattle.spline.specs.Segments.{splinePiece, firstCoefficient, thirdCoefficient}
 use Rattle.points.specs.declared.Knot.{Knot}
-use Rattle.points.specs.Knots.{at, knotAt, narrow}
+use Rattle.points.specs.Knots.{at, knotAt, tooThin}
 use Rattle.sampling.specs.declared.Form.{Form}
 use Rattle.sampling.specs.declared.Form.the-variants.{Straight, Cubic, Spline}
-use Rattle.sampling.specs.declared.blocks.Place.{Place}
+use Rattle.sampling.specs.declared.blocks.Cursor.{Cursor}
 use Rattle.sampling.specs.declared.Piece.{Piece}
 use Rattle.sampling.specs.Pieces.{pieceAt, pieceHeight}
-use Rattle.sampling.specs.Walk.{endAt, Ends, nextPlace, pieceSample, State}
+use Rattle.sampling.specs.Walk.{endAt, Ends, nextCursor, pieceSample, State}
 use Rattle.sampling.specs.Walk.{partFrom, partsOf, fromParts, straightSample, cubicSample, firstCoefficientAt, thirdCoefficientAt, splineSample}
 use Rattle.sampling.proofs.Walk.{end-most, end-inner, end-last, after-block}
 
--- ---- places
--- a place that a loop comes to
-pub record Reached (xs : List Float) (n : ℕ) (ends : List ℕ) (s : Float) (S : ℕ) (p : Place) : Type 0 where
+-- ---- cursors
+-- a cursor that a loop comes to
+pub record Reached (xs : List Float) (n : ℕ) (ends : List ℕ) (s : Float) (S : ℕ) (p : Cursor) : Type 0 where
   pub given : Ends xs n ends s S
   pub room : p .i + 1 < n
   pub held : p .v ≤ 4096
 
 -- how much of the way is left: the loops' measure
-abbrev pub left : ℕ → Place → ℕ
+abbrev pub left : ℕ → Cursor → ℕ
 left n p = 4096 + n - (p .v + p .i)
 
 module _ {xs : List Float} {n : ℕ} {ends : List ℕ} {s : Float} {S : ℕ} where
-  pub first-place : Ends xs n ends s S → Reached xs n ends s S (record { v = 0; i = 0 })
-  first-place given = record { given = given; room = omega (arith, given .two); held = omega arith }
+  pub first-cursor : Ends xs n ends s S → Reached xs n ends s S (record { v = 0; i = 0 })
+  first-cursor given = record { given = given; room = omega (arith, given .two); held = omega arith }
 
-  module _ {p : Place} (here : Reached xs n ends s S p) where
+  module _ {p : Cursor} (here : Reached xs n ends s S p) where
     -- it is on the rows
     pub on-rows : (p .v ≤ 4096) × (p .i < 65)
     on-rows = (here .held, omega (arith, here .room, here .given .most))
 
-    -- and its piece is not narrow
-    pub wide-piece : (narrow (at xs (p .i)) (at xs (p .i + 1)) ≡ false) × (p .v ≤ 4096) × (p .i < 65)
+    -- and its piece is not too thin
+    pub wide-piece : (tooThin (at xs (p .i)) (at xs (p .i + 1)) ≡ false) × (p .v ≤ 4096) × (p .i < 65)
     wide-piece = (here .given .right .wide (p .i) (here .room), on-rows .0, on-rows .1)
 
-    -- the next place is one too, and less is left
-    pub next-place : {q : Place} → p .v + 4 ≤ S → q ≡ nextPlace ends p → Reached xs n ends s S q × (left n q < left n p)
-    unfolding nextPlace
-    next-place far q-is =
+    -- the next cursor is one too, and less is left
+    pub next-cursor : {q : Cursor} → p .v + 4 ≤ S → q ≡ nextCursor ends p → Reached xs n ends s S q × (left n q < left n p)
+    unfolding nextCursor
+    next-cursor far q-is =
         let given = here .given in
         let held = given .held in
         let room = here .room in
@@ -108,12 +108,12 @@ unfolding pieceHeight
 cubic-sample = record { is = λ piece x. refl }
 
 -- the invariant: t are the parts of the block that comes next
-pub record ByParts (form : Form) (xs ys ms : List Float) (n : ℕ) (ends : List ℕ) (s : Float) (S : ℕ) (p : Place) (t samples : List Float) : Type 0 where
-  pub place : Reached xs n ends s S p
+pub record ByParts (form : Form) (xs ys ms : List Float) (n : ℕ) (ends : List ℕ) (s : Float) (S : ℕ) (p : Cursor) (t samples : List Float) : Type 0 where
+  pub cursor : Reached xs n ends s S p
   pub state : State form xs ys ms n S p samples
   pub parts : t ≡ partsOf (pieceAt xs ys ms (p .i)) s (p .v)
 
-module _ {form : Form} {xs ys ms : List Float} {n : ℕ} {ends : List ℕ} {s : Float} {S : ℕ} {p : Place} {t l : List Float}
+module _ {form : Form} {xs ys ms : List Float} {n : ℕ} {ends : List ℕ} {s : Float} {S : ℕ} {p : Cursor} {t l : List Float}
     (d : ByParts form xs ys ms n ends s S p t l) where
   block-by-parts : {f : Piece → Float → Float} {piece : Piece} {m : List Float} → SampleOf form f → piece ≡ pieceAt xs ys ms (p .i)
       → Stored (fromParts (f piece) t (p .v)) (p .v) (p .v + 4) l m → Stored (pieceSample form (pieceAt xs ys ms (p .i)) s) (p .v) (p .v + 4) l m
@@ -122,17 +122,17 @@ module _ {form : Form} {xs ys ms : List Float} {n : ℕ} {ends : List ℕ} {s : 
       let here = pieceAt xs ys ms (p .i) in
       stored-as (rw (same, d .parts) at r) (λ w low high. from-parts (f here) here s (p .v) w low high ∙ law .is here (sampleAt s w))
 
-  pub by-parts-next : {f : Piece → Float → Float} {q : Place} {piece : Piece} {u m : List Float} → SampleOf form f → p .v + 4 ≤ S
-      → q ≡ nextPlace ends p → u ≡ partsOf (pieceAt xs ys ms (q .i)) s (q .v) → piece ≡ pieceAt xs ys ms (p .i)
+  pub by-parts-next : {f : Piece → Float → Float} {q : Cursor} {piece : Piece} {u m : List Float} → SampleOf form f → p .v + 4 ≤ S
+      → q ≡ nextCursor ends p → u ≡ partsOf (pieceAt xs ys ms (q .i)) s (q .v) → piece ≡ pieceAt xs ys ms (p .i)
       → Stored (fromParts (f piece) t (p .v)) (p .v) (p .v + 4) l m → ByParts form xs ys ms n ends s S q u m
   by-parts-next law far q-is u-is same r = record {
-    place = next-place (d .place) far q-is .0;
-    state = after-block form xs ys ms n S (d .place .given) far q-is (d .state) (block-by-parts law same r);
+    cursor = next-cursor (d .cursor) far q-is .0;
+    state = after-block form xs ys ms n S (d .cursor .given) far q-is (d .state) (block-by-parts law same r);
     parts = u-is;
   }
 
 -- ---- by coefficients
-by-coefficients : (piece : Piece) (s : Float) (w : ℕ) → narrow (piece .a .x) (piece .b .x) ≡ false
+by-coefficients : (piece : Piece) (s : Float) (w : ℕ) → tooThin (piece .a .x) (piece .b .x) ≡ false
     → splineSample (piece .a) (firstCoefficient (piece .a) (piece .b) (piece .p) (piece .q)) (piece .p ⊘ 𝟐)
     (thirdCoefficient (piece .a) (piece .b) (piece .p) (piece .q)) s w
     ≡ pieceSample Spline piece s w
@@ -140,33 +140,33 @@ unfolding splineSample pieceSample pieceHeight splinePiece
 by-coefficients piece s w wide = rw wide
 
 -- the invariant: the rows c1s and c3s hold them
-pub record ByCoefficients (xs ys ms : List Float) (n : ℕ) (ends : List ℕ) (s : Float) (S : ℕ) (c1s c3s : List Float) (p : Place) (samples : List Float)
+pub record ByCoefficients (xs ys ms : List Float) (n : ℕ) (ends : List ℕ) (s : Float) (S : ℕ) (c1s c3s : List Float) (p : Cursor) (samples : List Float)
     : Type 0 where
-  pub place : Reached xs n ends s S p
+  pub cursor : Reached xs n ends s S p
   pub state : State Spline xs ys ms n S p samples
   pub firsts : Stored (firstCoefficientAt xs ys ms) 0 (n - 1) (replicate 66 𝟎) c1s
   pub thirds : Stored (thirdCoefficientAt xs ys ms) 0 (n - 1) (replicate 66 𝟎) c3s
 
-module _ {xs ys ms : List Float} {n : ℕ} {ends : List ℕ} {s : Float} {S : ℕ} {c1s c3s : List Float} {p : Place} {l : List Float}
+module _ {xs ys ms : List Float} {n : ℕ} {ends : List ℕ} {s : Float} {S : ℕ} {c1s c3s : List Float} {p : Cursor} {l : List Float}
     (d : ByCoefficients xs ys ms n ends s S c1s c3s p l) where
   block-by-coefficients : {a : Knot} {m : List Float} → a ≡ knotAt xs ys (p .i)
       → Stored (splineSample a (at c1s (p .i)) (at ms (p .i) ⊘ 𝟐) (at c3s (p .i)) s) (p .v) (p .v + 4) l m
       → Stored (pieceSample Spline (pieceAt xs ys ms (p .i)) s) (p .v) (p .v + 4) l m
   unfolding firstCoefficientAt thirdCoefficientAt
   block-by-coefficients a-is r =
-      let here = d .place in
+      let here = d .cursor in
       let room = here .room in
       let row = on-rows here .1 in
       let first = stored-inside (d .firsts) (p .i) nan (omega arith) (omega arith) (omega arith) in
       let third = stored-inside (d .thirds) (p .i) nan (omega arith) (omega arith) (omega arith) in
       stored-as (rw (a-is, first, third) at r) (λ w low high. by-coefficients (pieceAt xs ys ms (p .i)) s w (wide-piece here .0))
 
-  pub by-coefficients-next : {q : Place} {a : Knot} {m : List Float} → p .v + 4 ≤ S → q ≡ nextPlace ends p → a ≡ knotAt xs ys (p .i)
+  pub by-coefficients-next : {q : Cursor} {a : Knot} {m : List Float} → p .v + 4 ≤ S → q ≡ nextCursor ends p → a ≡ knotAt xs ys (p .i)
       → Stored (splineSample a (at c1s (p .i)) (at ms (p .i) ⊘ 𝟐) (at c3s (p .i)) s) (p .v) (p .v + 4) l m
       → ByCoefficients xs ys ms n ends s S c1s c3s q m
   by-coefficients-next far q-is a-is r = record {
-    place = next-place (d .place) far q-is .0;
-    state = after-block Spline xs ys ms n S (d .place .given) far q-is (d .state) (block-by-coefficients a-is r);
+    cursor = next-cursor (d .cursor) far q-is .0;
+    state = after-block Spline xs ys ms n S (d .cursor .given) far q-is (d .state) (block-by-coefficients a-is r);
     firsts = d .firsts;
     thirds = d .thirds;
   }

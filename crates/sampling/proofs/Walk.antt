@@ -20,10 +20,10 @@ use Rattle.floats.specs.Notation.{_⊘_}
 use Rattle.segments.specs.Segments.{step, sampleAt, seek, segment}
 use Rattle.points.specs.Knots.{at}
 use Rattle.sampling.specs.declared.Form.{Form}
-use Rattle.sampling.specs.declared.blocks.Place.{Place}
+use Rattle.sampling.specs.declared.blocks.Cursor.{Cursor}
 use Rattle.sampling.specs.declared.Piece.{Piece}
 use Rattle.sampling.specs.Pieces.{pieceAt, pieceHeight, heightAt, sampled}
-use Rattle.sampling.specs.Walk.{isEnd, endAt, Ends, nextPlace, pieceSample, State}
+use Rattle.sampling.specs.Walk.{isEnd, endAt, Ends, nextCursor, pieceSample, State}
 use Rattle.sampling.specs.Positions.{past-later, inside-earlier}
 
 -- ---- the search for a segment, from the segment i on
@@ -78,7 +78,7 @@ module _ (form : Form) (xs ys ms : List Float) (n S : ℕ) where
   unfolding pieceSample sampled heightAt
   here w same = rw same
 
-  module _ {p : Place} {l m : List Float} (state : State form xs ys ms n S p l)
+  module _ {p : Cursor} {l m : List Float} (state : State form xs ys ms n S p l)
       (block : Stored (pieceSample form (pieceAt xs ys ms (p .i)) (step S)) (p .v) (p .v + 4) l m) where
     -- up to a sample r in the block, if the piece has those before it
     done-to : (r : ℕ) → r ≤ p .v + 4 → ((w : ℕ) → p .v ≤ w → w < r → w < S → segment xs n (position w) ≡ p .i)
@@ -111,9 +111,9 @@ module _ (form : Form) (xs ys ms : List Float) (n S : ℕ) where
     }
 
   -- after a block
-  after : {p : Place} {ends : List ℕ} {l m : List Float} → Ends xs n ends (step S) S → p .v + 4 ≤ S → State form xs ys ms n S p l
-      → Stored (pieceSample form (pieceAt xs ys ms (p .i)) (step S)) (p .v) (p .v + 4) l m → State form xs ys ms n S (nextPlace ends p) m
-  unfolding nextPlace
+  after : {p : Cursor} {ends : List ℕ} {l m : List Float} → Ends xs n ends (step S) S → p .v + 4 ≤ S → State form xs ys ms n S p l
+      → Stored (pieceSample form (pieceAt xs ys ms (p .i)) (step S)) (p .v) (p .v + 4) l m → State form xs ys ms n S (nextCursor ends p) m
+  unfolding nextCursor
   after {p} given room state block = elim (decLt (p .i + 2) n) [
     | yes inner ↦
         let x = at xs (p .i + 1) in
@@ -138,7 +138,7 @@ module _ (form : Form) (xs ys ms : List Float) (n S : ℕ) where
         (four-on state block (λ w low high lt. state .ahead w low lt ∙ seek-last xs n (p .i) (position w) (omega arith)))
   ]
 
-  pub after-block : {p q : Place} {ends : List ℕ} {s : Float} {l m : List Float} → Ends xs n ends s S → p .v + 4 ≤ S → q ≡ nextPlace ends p
+  pub after-block : {p q : Cursor} {ends : List ℕ} {s : Float} {l m : List Float} → Ends xs n ends s S → p .v + 4 ≤ S → q ≡ nextCursor ends p
       → State form xs ys ms n S p l → Stored (pieceSample form (pieceAt xs ys ms (p .i)) s) (p .v) (p .v + 4) l m → State form xs ys ms n S q m
   after-block given room q-is state block = rw q-is (after (rw (given .step-is) at given) room state (rw (given .step-is) at block))
 
@@ -147,7 +147,7 @@ module _ (form : Form) (xs ys ms : List Float) (n S : ℕ) where
     pub long : length samples ≡ S
     pub done : (w : ℕ) → w < v → w < S → getD samples w nan ≡ sampled (heightAt form xs ys ms n) S w
 
-  pub done-start : {p : Place} {l : List Float} → State form xs ys ms n S p l → Done (p .v) l
+  pub done-start : {p : Cursor} {l : List Float} → State form xs ys ms n S p l → Done (p .v) l
   done-start state = record { long = state .long; done = state .done }
 
   pub done-next : {v : ℕ} {l : List Float} {y : Float} → Done v l → v < S → y ≡ sampled (heightAt form xs ys ms n) S v → Done (v + 1) (set l v y)
@@ -162,8 +162,8 @@ module _ (form : Form) (xs ys ms : List Float) (n S : ℕ) where
   pub done-all : {v : ℕ} {l : List Float} → Done v l → S ≤ v → l ≡ tabulate S (sampled (heightAt form xs ys ms n) S)
   done-all d h = is-tabulate nan (d .long) (λ w lt. d .done w (omega arith) lt)
 
-  -- sample v by its segment, sought from that of the place
-  pub one-sample : {p : Place} {l : List Float} {v i : ℕ} {s x h y : Float} {piece : Piece} → State form xs ys ms n S p l → p .v ≤ v → v < S → s ≡ step S
+  -- sample v by its segment, sought from that of the cursor
+  pub one-sample : {p : Cursor} {l : List Float} {v i : ℕ} {s x h y : Float} {piece : Piece} → State form xs ys ms n S p l → p .v ≤ v → v < S → s ≡ step S
       → x ≡ sampleAt s v → i ≡ seek xs x (n - 2 - p .i) (p .i) → piece ≡ pieceAt xs ys ms i → h ≡ pieceHeight form piece x → y ≡ clamped h
       → y ≡ sampled (heightAt form xs ys ms n) S v
   unfolding sampled heightAt

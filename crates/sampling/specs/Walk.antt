@@ -11,14 +11,14 @@ use Rattle.lists.specs.Tabulate.{tabulate}
 use Rattle.lists.specs.Stored.{Stored}
 use Rattle.single.specs.Rules.{clamped, floorOf}
 use Rattle.points.specs.declared.Knot.{Knot}
-use Rattle.points.specs.Knots.{at, knotAt, narrow}
+use Rattle.points.specs.Knots.{at, knotAt, tooThin}
 use Rattle.segments.specs.Segments.{step, sampleAt, seek, segment}
 use Rattle.segments.specs.Straight.{part, straight}
 use Rattle.hermite.specs.Hermite.{hermite}
 use Rattle.spline.specs.Segments.{firstCoefficient, thirdCoefficient, polynomialFrom}
 use Rattle.sampling.specs.declared.Form.{Form}
 use Rattle.sampling.specs.declared.Piece.{Piece}
-use Rattle.sampling.specs.declared.blocks.Place.{Place}
+use Rattle.sampling.specs.declared.blocks.Cursor.{Cursor}
 use Rattle.sampling.specs.Pieces.{pieceHeight, heightAt, sampled}
 
 -- ---- where the pieces end, s being the step
@@ -30,9 +30,9 @@ isEnd x s e = lt x (sampleAt s e) && not (lt x (sampleAt s (e - 1)))
 unfoldable pub endAt : List Float → Float → ℕ → ℕ
 endAt xs s i = floorOf (at xs (i + 1) ⊘ s) + 1
 
--- the quotients are right, and no segment is narrow
+-- the quotients are right, and no segment is too thin
 pub record Right (xs : List Float) (n : ℕ) (s : Float) : Type 0 where
-  pub wide : (i : ℕ) → i + 1 < n → narrow (at xs i) (at xs (i + 1)) ≡ false
+  pub wide : (i : ℕ) → i + 1 < n → tooThin (at xs i) (at xs (i + 1)) ≡ false
   pub end : (i : ℕ) → i + 2 < n → isEnd (at xs (i + 1)) s (endAt xs s i) ≡ true
 
 -- what a guess at the ends of the pieces between n knots leaves in a row, and what its answer r tells
@@ -51,9 +51,9 @@ pub record Ends (xs : List Float) (n : ℕ) (ends : List ℕ) (s : Float) (S : �
   pub right : Right xs n s
 
 -- ---- blocks
--- the place after the block at p
-unfoldable pub nextPlace : List ℕ → Place → Place
-nextPlace ends p =
+-- the cursor after the block at p
+unfoldable pub nextCursor : List ℕ → Cursor → Cursor
+nextCursor ends p =
     let e = getD ends (p .i) 0 in
     cond (ltb (p .v + 4) e) (record { v = p .v + 4; i = p .i }) (record { v = max (p .v) e; i = p .i + 1 })
 
@@ -91,8 +91,8 @@ splineSample a c1 c2 c3 s v = clamped (polynomialFrom a c1 c2 c3 (sampleAt s v))
 unfoldable pub pieceSample : Form → Piece → Float → ℕ → Float
 pieceSample form piece s v = clamped (pieceHeight form piece (sampleAt s v))
 
--- at the place p among S samples: those before it are the curve's, and no later one lies left of its piece
-pub record State (form : Form) (xs ys ms : List Float) (n S : ℕ) (p : Place) (samples : List Float) : Type 0 where
+-- with the cursor p among S samples: those before it are the curve's, and no later one lies left of its piece
+pub record State (form : Form) (xs ys ms : List Float) (n S : ℕ) (p : Cursor) (samples : List Float) : Type 0 where
   pub long : length samples ≡ S
   pub room : p .i + 1 < n
   pub done : (w : ℕ) → w < p .v → w < S → getD samples w nan ≡ sampled (heightAt form xs ys ms n) S w

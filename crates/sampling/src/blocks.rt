@@ -2,16 +2,17 @@
 ghost use mathlib.Core.Path.{_≡_};
 ghost use mathlib.Core.Bool.{false};
 ghost use Prim.Native.Nat.{_+_, _≤_, _<_, max};
-ghost use Rattle.points.specs.Knots.{at, narrow};
+ghost use Rattle.points.specs.Knots.{at, tooThin};
 ghost use Rattle.segments.specs.Straight as Straight;
 ghost use Rattle.sampling.specs.Pieces.{pieceAt};
-ghost use Rattle.sampling.specs.Walk.{nextPlace, partsOf};
+ghost use Rattle.sampling.specs.Walk.{nextCursor, partsOf};
 use crate::Piece;
 use crate::piece_at;
 use crate::position;
 
-// A place on the way: the next sample, v, and a piece, i, that it does not lie left of.
-pub struct Place {
+// Where a walk through the samples stands: at the next sample, v, and a piece, i, that it does not
+// lie left of.
+pub struct Cursor {
     pub v: usize,
     pub i: usize,
 }
@@ -30,34 +31,34 @@ fn later(v: usize, w: usize) -> usize
     if v < w { w } else { v }
 }
 
-// The place after a block: four samples on, or where the piece ends before that, its end and the next piece.
-pub fn next(ends: &[u32; 66], p: Place) -> Place
+// The cursor after a block: four samples on, or where the piece ends before that, its end and the next piece.
+pub fn next(ends: &[u32; 66], p: Cursor) -> Cursor
     requires { ⌜ (p .v ≤ 4096) × (p .i < 65) ⌝ }
-    ensures { λ r. ⌜ r ≡ nextPlace (now (ends .entry)) p ⌝ }
+    ensures { λ r. ⌜ r ≡ nextCursor (now (ends .entry)) p ⌝ }
 {
     let v = p.v;
     let i = p.i;
     let end = wide(ends[i]);
     if v + 4 < end {
-        return Place { v: v + 4, i };
+        return Cursor { v: v + 4, i };
     }
-    Place {
+    Cursor {
         v: later(v, end),
         i: i + 1,
     }
 }
 
-// The part of a piece that lies left of x. No guard: the piece is not narrow.
+// The part of a piece that lies left of x. No guard: the piece is not too thin.
 fn part(piece: Piece, x: f32) -> f32
-    requires { ⌜ narrow (piece .a .x) (piece .b .x) ≡ false ⌝ }
+    requires { ⌜ tooThin (piece .a .x) (piece .b .x) ≡ false ⌝ }
     ensures { λ r. ⌜ r ≡ Straight.part (piece .a) (piece .b) x ⌝ }
 {
     (x - piece.a.x) / (piece.b.x - piece.a.x)
 }
 
 // The parts of the piece at p left of the four samples there.
-pub fn parts(xs: &[f32; 66], ys: &[f32; 66], ms: &[f32; 66], step: f32, p: Place) -> [f32; 4]
-    requires { ⌜ (narrow (at (now xs) (p .i)) (at (now xs) (p .i + 1)) ≡ false) × (p .v ≤ 4096) × (p .i < 65) ⌝ }
+pub fn parts(xs: &[f32; 66], ys: &[f32; 66], ms: &[f32; 66], step: f32, p: Cursor) -> [f32; 4]
+    requires { ⌜ (tooThin (at (now xs) (p .i)) (at (now xs) (p .i + 1)) ≡ false) × (p .v ≤ 4096) × (p .i < 65) ⌝ }
     ensures { λ r. ⌜ r ≡ partsOf (pieceAt (now (xs .entry)) (now (ys .entry)) (now (ms .entry)) (p .i)) step (p .v) ⌝ }
 {
     let piece = piece_at(xs, ys, ms, p.i);

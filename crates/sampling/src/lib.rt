@@ -8,7 +8,7 @@ ghost use Rattle.lists.specs.Tabulate.{tabulate};
 ghost use Rattle.segments.specs.Segments as S;
 ghost use Rattle.sampling.specs.Pieces.{pieceAt, pieceHeight, heightAt, sampled};
 ghost use Rattle.sampling.specs.Walk.{Ends, State};
-use blocks::Place;
+use blocks::Cursor;
 use points::Knot;
 use points::knot_at;
 
@@ -95,7 +95,7 @@ fn advance(xs: &[f32; 66], n: usize, from: usize, x: f32) -> usize
     i
 }
 
-// The samples from a place on, one by one: those that a last block has no room for, or all.
+// The samples from a cursor on, one by one: those that a last block has no room for, or all.
 fn rest(
     form: Form,
     xs: &[f32; 66],
@@ -103,7 +103,7 @@ fn rest(
     ms: &[f32; 66],
     n: usize,
     step: f32,
-    from: Place,
+    from: Cursor,
     samples: &mut [f32],
 )
     requires { ⌜ (n ≤ 66) × (length (now samples) ≤ 4096) × (step ≡ S.step (length (now samples))) ⌝ }
@@ -121,7 +121,7 @@ fn rest(
     }
 }
 
-// The samples in blocks of four, as far as a block has room: the place that is reached.
+// The samples in blocks of four, as far as a block has room: the cursor that is reached.
 fn draw(
     form: Form,
     xs: &[f32; 66],
@@ -131,7 +131,7 @@ fn draw(
     ends: &[u32; 66],
     step: f32,
     samples: &mut [f32],
-) -> Place
+) -> Cursor
     requires { ⌜ Ends (now xs) n (now ends) step (length (now samples)) ⌝ }
     ensures { λ r. ⌜ State form (now (xs .entry)) (now (ys .entry)) (now (ms .entry)) n (length (now (samples .entry))) r (now (samples .exit)) ⌝ }
 {
@@ -151,7 +151,7 @@ fn begin(
     n: usize,
     step: f32,
     samples: &mut [f32],
-) -> Place
+) -> Cursor
     requires { ⌜ (2 ≤ n) × (n ≤ 66) ⌝ }
     requires { ⌜ (2 ≤ length (now samples)) × (length (now samples) ≤ 4096) × (step ≡ S.step (length (now samples))) ⌝ }
     ensures { λ r. ⌜ State form (now (xs .entry)) (now (ys .entry)) (now (ms .entry)) n (length (now (samples .entry))) r (now (samples .exit)) ⌝ }
@@ -161,7 +161,7 @@ fn begin(
     if ends::guess(xs, n, step, &mut ends) {
         return draw(form, xs, ys, ms, n, &ends, step, samples);
     }
-    Place { v: 0, i: 0 }
+    Cursor { v: 0, i: 0 }
 }
 
 // All samples of the curve with n knots.

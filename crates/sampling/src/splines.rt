@@ -5,7 +5,7 @@ ghost use lib.ListN.{length};
 ghost use Rattle.lists.specs.Stored.{Stored};
 ghost use Rattle.sampling.specs.declared.Form.the-variants.{Spline};
 ghost use Rattle.sampling.specs.Walk.{firstCoefficientAt, thirdCoefficientAt, splineSample, Ends, State};
-use crate::blocks::Place;
+use crate::blocks::Cursor;
 use crate::blocks::next;
 use crate::piece_at;
 use crate::position;
@@ -55,7 +55,7 @@ fn four(a: Knot, c1: f32, c2: f32, c3: f32, step: f32, v: usize, samples: &mut [
     }
 }
 
-// Samples in blocks of four, as far as a block has room: the place that is reached.
+// Samples in blocks of four, as far as a block has room: the cursor that is reached.
 pub fn draw(
     xs: &[f32; 66],
     ys: &[f32; 66],
@@ -64,7 +64,7 @@ pub fn draw(
     ends: &[u32; 66],
     step: f32,
     samples: &mut [f32],
-) -> Place
+) -> Cursor
     requires { ⌜ Ends (now xs) n (now ends) step (length (now samples)) ⌝ }
     ensures { λ r. ⌜ State Spline (now (xs .entry)) (now (ys .entry)) (now (ms .entry)) n (length (now (samples .entry))) r (now (samples .exit)) ⌝ }
 {
@@ -72,7 +72,7 @@ pub fn draw(
     let mut c3s = [0.0; 66];
     coefficients(xs, ys, ms, n, &mut c1s, &mut c3s);
     let count = samples.len();
-    let mut p = Place { v: 0, i: 0 };
+    let mut p = Cursor { v: 0, i: 0 };
     while p.v + 4 <= count {
         let i = p.i;
         four(

@@ -6,7 +6,7 @@ ghost use Rattle.lists.specs.Stored.{Stored};
 ghost use Rattle.sampling.specs.declared.Form.the-variants.{Straight};
 ghost use Rattle.sampling.specs.Walk.{straightSample, fromParts, Ends, State};
 use crate::Piece;
-use crate::blocks::Place;
+use crate::blocks::Cursor;
 use crate::blocks::next;
 use crate::blocks::parts;
 use crate::piece_at;
@@ -31,7 +31,7 @@ fn four(piece: Piece, t: [f32; 4], v: usize, samples: &mut [f32])
     }
 }
 
-// Samples in blocks of four, as far as a block has room: the place that is reached. The parts of the next block are found before this one is drawn,
+// Samples in blocks of four, as far as a block has room: the cursor that is reached. The parts of the next block are found before this one is drawn,
 // since a quotient takes long.
 pub fn draw(
     xs: &[f32; 66],
@@ -41,12 +41,12 @@ pub fn draw(
     ends: &[u32; 66],
     step: f32,
     samples: &mut [f32],
-) -> Place
+) -> Cursor
     requires { ⌜ Ends (now xs) n (now ends) step (length (now samples)) ⌝ }
     ensures { λ r. ⌜ State Straight (now (xs .entry)) (now (ys .entry)) (now (ms .entry)) n (length (now (samples .entry))) r (now (samples .exit)) ⌝ }
 {
     let count = samples.len();
-    let mut p = Place { v: 0, i: 0 };
+    let mut p = Cursor { v: 0, i: 0 };
     let mut t = parts(xs, ys, ms, step, p);
     while p.v + 4 <= count {
         let q = next(ends, p);

@@ -9,7 +9,7 @@ use Rattle.floats.specs.Notation.{_⊕_, _⊖_, _⊗_, _⊘_}
 use Rattle.single.specs.Constants.{𝟐, 𝟔, 𝟐𝟓𝟔, micro}
 use Rattle.single.specs.Rules.{guardedQuotient}
 use Rattle.points.specs.declared.Knot.{Knot}
-use Rattle.points.specs.Knots.{knotAt, narrow}
+use Rattle.points.specs.Knots.{knotAt, tooThin}
 use Rattle.spline.specs.declared.Segment.{Segment}
 
 -- the segment from a to b: its width h and its secant Δ, 0 where h is below 1e-6 in size
@@ -32,10 +32,10 @@ thirdCoefficient a b ma mb = (mb ⊖ ma) ⊘ (𝟔 ⊗ (b .x ⊖ a .x))
 abbrev pub polynomialFrom : Knot → Float → Float → Float → Float → Float
 polynomialFrom a c1 c2 c3 x = let t = x ⊖ a .x in a .y ⊕ c1 ⊗ t ⊕ c2 ⊗ t ⊗ t ⊕ c3 ⊗ t ⊗ t ⊗ t
 
--- the piece from a to b; a narrow one is flat
+-- the piece from a to b; one that is too thin is flat
 unfoldable pub splinePiece : Knot → Knot → Float → Float → Float → Float
 splinePiece a b ma mb x =
-    cond (narrow (a .x) (b .x)) (a .y) (polynomialFrom a (firstCoefficient a b ma mb) (ma ⊘ 𝟐) (thirdCoefficient a b ma mb) x)
+    cond (tooThin (a .x) (b .x)) (a .y) (polynomialFrom a (firstCoefficient a b ma mb) (ma ⊘ 𝟐) (thirdCoefficient a b ma mb) x)
 
 -- "ClampedCubic carries two slopes, signed 16-bit, each divided by 256"
 unfoldable pub slopeOf : ℤ → Float

@@ -8,7 +8,7 @@ ghost use Rattle.spline.specs.Segments.{segmentAt, firstCoefficient, thi
 ghost use Rattle.spline.specs.Segments.{polynomialFrom, splinePiece, slopeOf};
 use points::Knot;
 use points::knot_at;
-use points::narrow;
+use points::too_thin;
 use single::guarded_quotient;
 
 pub mod second;
@@ -73,7 +73,7 @@ pub fn polynomial_from(a: Knot, c1: f32, c2: f32, c3: f32, x: f32) -> f32
 pub fn spline_piece(a: Knot, b: Knot, ma: f32, mb: f32, x: f32) -> f32
     ensures { λ r. ⌜ r ≡ splinePiece a b ma mb x ⌝ }
 {
-    if narrow(a.x, b.x) {
+    if too_thin(a.x, b.x) {
         return a.y;
     }
     let c1 = first_coefficient(a, b, ma, mb);

@@ -22,7 +22,7 @@ use Rattle.floats.specs.Within.{within-add, within-sub, within-mul, within-div}
 use Rattle.single.specs.Constants.{𝟎, 𝟐, 𝟔, 𝟐𝟓𝟓, 𝟐𝟓𝟔, 𝟎-is, 𝟐-is, 𝟔-is, 𝟐𝟓𝟓-is, 𝟐𝟓𝟔-is}
 use Rattle.single.specs.RuleLaws.{float-is}
 use Rattle.points.specs.declared.Knot.{Knot}
-use Rattle.points.specs.Knots.{knotAt, at, narrow}
+use Rattle.points.specs.Knots.{knotAt, at, tooThin}
 use Rattle.segments.specs.Segments.{segment}
 use Rattle.segments.specs.Rows.{Rows}
 use Rattle.segments.specs.SegmentLaws.{InRange, nonnegative-is, segment-holds}
@@ -79,7 +79,7 @@ piece-within {a} b {w = w} p z va vb vx =
     let third = within-mul 251 c3-square t (lit≤ tt) (lit≤ tt) in
     let two-terms = within-add (widen 243 (p .high) (lit≤ tt)) first (lit< tt) in
     let three-terms = widen 251 (within-add two-terms second (lit< tt)) (lit≤ tt) in
-    within-cond (narrow (a .x) (b .x)) (widen 252 (p .high) (lit≤ tt))
+    within-cond (tooThin (a .x) (b .x)) (widen 252 (p .high) (lit≤ tt))
     (within-add three-terms third (lit< tt))
 
 -- ---- a curve

@@ -101,7 +101,7 @@ impl Draft {
     }
 
     // A slope, low byte first.
-    fn slope(self, v: i16) -> Draft
+    fn push_slope(self, v: i16) -> Draft
         requires { ⌜ Room (slopeBytes v) self ⌝ }
         ensures { λ r. ⌜ Appended (slopeBytes v) self r ⌝ }
     {
@@ -121,7 +121,7 @@ impl Draft {
             start_slope_q8,
             end_slope_q8,
         } = k {
-            return self.slope(start_slope_q8).slope(end_slope_q8);
+            return self.push_slope(start_slope_q8).push_slope(end_slope_q8);
         }
         self
     }

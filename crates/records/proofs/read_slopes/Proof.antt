@@ -22,8 +22,8 @@ returns-3 : tie.Need-returns-3
 returns-3 c =
     let b = c .before .before .before in
     let a = b .before .before .before .before .before .before .args in
-    let x = b .slope in
-    let y = c .slope2 in
+    let x = b .stored-slope in
+    let y = c .stored-slope2 in
     let start : toZ w16 (ofZ w16 (x .result)) ≡ x .result = search needs in
     let end : toZ w16 (ofZ w16 (y .result)) ≡ y .result = search needs in
     rw (start, end, x .ensures, y .ensures) (sym (slopes-at (a .at) (a .s .now) (omega arith)))

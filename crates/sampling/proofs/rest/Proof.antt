@@ -1,4 +1,4 @@
--- `rest`: the loop stores sample v, of the segment sought from the place on.
+-- `rest`: the loop stores sample v, of the segment sought from the cursor on.
 use Prim.Native.Nat.{_-_, _≤_}
 use native.Mathlib.Omega.{arith}
 use borrow.Author.Needs.{needs}

@@ -7,7 +7,7 @@ use Prim.Native.Nat.{ℕ, _+_}
 use native.Mathlib.Nat.{add-zero}
 use lib.Ieee.{Float}
 use Rattle.lists.specs.Tabulate.{tabulate}
-use Rattle.points.specs.Knots.{narrow}
+use Rattle.points.specs.Knots.{tooThin}
 use Rattle.segments.specs.Segments.{sampleAt}
 use Rattle.segments.specs.Straight.{part}
 use Rattle.sampling.specs.declared.Piece.{Piece}
@@ -28,7 +28,7 @@ module _ (piece : Piece) (s : Float) (v : ℕ) where
   unfolding partsOf tabulate
   all e f g h = λ i. e i ∷ f i ∷ g i ∷ h i ∷ []
 
-wide : (c : tie.After-piece-at) → let piece = c .piece-at .result in narrow (piece .a .x) (piece .b .x) ≡ false
+wide : (c : tie.After-piece-at) → let piece = c .piece-at .result in tooThin (piece .a .x) (piece .b .x) ≡ false
 wide c = rw (c .piece-at .ensures) (c .before .pre .0)
 
 returns : tie.Need-returns

@@ -1,10 +1,10 @@
--- `splines::draw`: a turn draws the block at the place, by the coefficients of its piece.
+-- `splines::draw`: a turn draws the block at the cursor, by the coefficients of its piece.
 use mathlib.Core.Path.{refl}
 use Prim.Native.Nat.{_<_}
 use native.Mathlib.Omega.{arith}
 use lib.ListN.{length}
 use Rattle.sampling.proofs.Walk.{start}
-use Rattle.sampling.proofs.Drawing.{left, on-rows, first-place, next-place, block-room, ByCoefficients, by-coefficients-next}
+use Rattle.sampling.proofs.Drawing.{left, on-rows, first-cursor, next-cursor, block-room, ByCoefficients, by-coefficients-next}
 use Rattle.sampling.proofs.splines.draw.Statement.{statement}
 use Rattle.sampling.proofs.splines.draw.Tie as tie
 
@@ -18,11 +18,11 @@ loop-holds : tie.Need-loop-holds Inv-loop μ-loop
 loop-holds c =
     let given = c .before .before .before .before .pre in
     let rows = c .coefficients .ensures in
-    record { place = first-place given; state = start _ _ _ _ _ _ refl (given .two); firsts = rows .0; thirds = rows .1 }
+    record { cursor = first-cursor given; state = start _ _ _ _ _ _ refl (given .two); firsts = rows .0; thirds = rows .1 }
 
--- the place is on the rows
+-- the cursor is on the rows
 here : (c : tie.At-loop Inv-loop μ-loop) → c .loop .p .i < 65
-here c = on-rows (c .loop .inv .place) .1
+here c = on-rows (c .loop .inv .cursor) .1
 
 loop-again : tie.Need-loop-again Inv-loop μ-loop
 loop-again c =
@@ -46,9 +46,9 @@ draw-spec =
     (λ c. omega (arith, here (c .before .before .before)))
     (omega arith)
     (λ c. omega (arith, here (c .before .before .before .before)))
-    (λ c κs. let inv = c .before .before .before .before .before .loop .inv in block-room (inv .place) (inv .state) (omega arith))
-    (λ c κs. on-rows (c .before .before .before .before .before .before .before .before .loop .inv .place))
-    (λ c. next-place (c .before .before .before .before .before .before .before .before .before .loop .inv .place) (omega arith) (c .next .ensures) .1)
+    (λ c κs. let inv = c .before .before .before .before .before .loop .inv in block-room (inv .cursor) (inv .state) (omega arith))
+    (λ c κs. on-rows (c .before .before .before .before .before .before .before .before .loop .inv .cursor))
+    (λ c. next-cursor (c .before .before .before .before .before .before .before .before .before .loop .inv .cursor) (omega arith) (c .next .ensures) .1)
     loop-again
     (λ c. c .before .before .loop .inv .state .long)
     (λ c. c .before .before .loop .inv .state))

@@ -1,10 +1,10 @@
--- `straights::draw`: a turn draws the block at the place, by the parts found the turn before.
+-- `straights::draw`: a turn draws the block at the cursor, by the parts found the turn before.
 use mathlib.Core.Path.{refl}
 use native.Mathlib.Omega.{arith}
 use lib.ListN.{length}
 use Rattle.sampling.specs.declared.Form.the-variants.{Straight}
 use Rattle.sampling.proofs.Walk.{start}
-use Rattle.sampling.proofs.Drawing.{left, first-place, on-rows, wide-piece, next-place, block-room, straight-sample, ByParts, by-parts-next}
+use Rattle.sampling.proofs.Drawing.{left, first-cursor, on-rows, wide-piece, next-cursor, block-room, straight-sample, ByParts, by-parts-next}
 use Rattle.sampling.proofs.straights.draw.Statement.{statement}
 use Rattle.sampling.proofs.straights.draw.Tie as tie
 
@@ -29,16 +29,16 @@ draw-spec =
     (tie.spec
     Inv-loop
     μ-loop
-    (λ c κs. wide-piece (first-place (c .before .pre)))
-    (λ c. let given = c .before .before .pre in record { place = first-place given; state = start _ _ _ _ _ _ refl (given .two); parts = c .parts .ensures })
+    (λ c κs. wide-piece (first-cursor (c .before .pre)))
+    (λ c. let given = c .before .before .pre in record { cursor = first-cursor given; state = start _ _ _ _ _ _ refl (given .two); parts = c .parts .ensures })
     (omega arith)
-    (λ c κs. on-rows (c .before .before .loop .inv .place))
-    (λ c κs. wide-piece (next-place (c .before .before .before .loop .inv .place) (omega arith) (c .next .ensures) .0))
-    (λ c κs. on-rows (c .before .before .before .before .loop .inv .place) .1)
-    (λ c κs. let inv = c .before .before .before .before .before .before .loop .inv in block-room (inv .place) (inv .state) (omega arith))
+    (λ c κs. on-rows (c .before .before .loop .inv .cursor))
+    (λ c κs. wide-piece (next-cursor (c .before .before .before .loop .inv .cursor) (omega arith) (c .next .ensures) .0))
+    (λ c κs. on-rows (c .before .before .before .before .loop .inv .cursor) .1)
+    (λ c κs. let inv = c .before .before .before .before .before .before .loop .inv in block-room (inv .cursor) (inv .state) (omega arith))
     (λ c.
     let next = c .before .before .before .before .before .before in
-    next-place (next .before .before .before .loop .inv .place) (omega arith) (next .next .ensures) .1)
+    next-cursor (next .before .before .before .loop .inv .cursor) (omega arith) (next .next .ensures) .1)
     loop-again
     (λ c. c .before .before .loop .inv .state .long)
     (λ c. c .before .before .loop .inv .state))

@@ -51,26 +51,26 @@ push-requires c κs = rw (c .before .k .given .1) at (c .before .before .before 
 returns : tie.Need-returns
 returns c = rw (c .before .before .k .given .1) (c .push .ensures, search needs)
 
-slope-requires : tie.Need-slope-requires
-slope-requires c κs =
+push-slope-requires : tie.Need-push-slope-requires
+push-slope-requires c κs =
     let k = c .before .k2 .given in
     let start : toZ w16 (ofZ w16 (k .0 .0)) ≡ k .0 .0 = search needs in
     rw start (room-first (slopeBytes (k .0 .0)) (slopeBytes (k .0 .1 .0)) (rw (k .1) at (c .before .before .before .before .pre)))
 
-slope-requires-2 : tie.Need-slope-requires-2
-slope-requires-2 c κs =
+push-slope-requires-2 : tie.Need-push-slope-requires-2
+push-slope-requires-2 c κs =
     let k = c .before .before .k2 .given in
     let start : toZ w16 (ofZ w16 (k .0 .0)) ≡ k .0 .0 = search needs in
     let end : toZ w16 (ofZ w16 (k .0 .1 .0)) ≡ k .0 .1 .0 = search needs in
     rw end
-    (room-rest (slopeBytes (k .0 .0)) (slopeBytes (k .0 .1 .0)) (rw (k .1) at (c .before .before .before .before .before .pre)) (rw start at (c .slope .ensures)))
+    (room-rest (slopeBytes (k .0 .0)) (slopeBytes (k .0 .1 .0)) (rw (k .1) at (c .before .before .before .before .before .pre)) (rw start at (c .push-slope .ensures)))
 
 returns-2 : tie.Need-returns-2
 returns-2 c =
     let k = c .before .before .before .k2 .given in
     let start : toZ w16 (ofZ w16 (k .0 .0)) ≡ k .0 .0 = search needs in
     let end : toZ w16 (ofZ w16 (k .0 .1 .0)) ≡ k .0 .1 .0 = search needs in
-    rw (k .1) (appended-then (rw start at (c .before .slope .ensures)) (rw end at (c .slope2 .ensures)), search needs)
+    rw (k .1) (appended-then (rw start at (c .before .push-slope .ensures)) (rw end at (c .push-slope2 .ensures)), search needs)
 
 returns-3 : tie.Need-returns-3
 returns-3 c =
@@ -86,7 +86,7 @@ carried-spec =
     push-requires
     returns
     (omega arith)
-    slope-requires
-    slope-requires-2
+    push-slope-requires
+    push-slope-requires-2
     returns-2
     returns-3)
