@@ -1,5 +1,8 @@
--- The tangents of MonotoneCubic and MonotoneCubicBox (Fritsch and Carlson, "Monotone Piecewise Cubic Interpolation", 1980), as document 01 has them.
--- Definitions only.
+-- The tangents of MonotoneCubic and MonotoneCubicBox (Fritsch and Carlson, "Monotone Piecewise
+-- Cubic Interpolation", 1980), as document 01 has them. In their letters: Δᵢ is the secant of the
+-- segment i, mᵢ the tangent at the knot i, and of the segment i
+--   α = mᵢ / Δᵢ,   β = mᵢ₊₁ / Δᵢ,   τ = 3 / √(α² + β²).
+-- Document 01 calls α and β a and b. Definitions only.
 use Prim.Native.Nat.{ℕ, zero, suc, _+_, _-_}
 use mathlib.Core.Bool.{Bool, cond}
 use mathlib.Core.List.{List}
@@ -13,39 +16,46 @@ use Rattle.monotone.specs.declared.Tangents.{Tangents}
 use Rattle.points.specs.Knots.{knotAt, at}
 use Rattle.segments.specs.Straight.{slope}
 
--- the secant of the segment i
+-- Δᵢ, the secant of the segment i
 unfoldable pub secantAt : List Float → List Float → ℕ → Float
 secantAt xs ys i = slope (knotAt xs ys i) (knotAt xs ys (i + 1))
 
--- "mean of neighbours, one-sided at the ends": the first tangent of knot i, of n
+-- "mean of neighbours, one-sided at the ends": the first mᵢ, of n knots: Δ₀, (Δᵢ₋₁ + Δᵢ) / 2, Δₙ₋₂
 unfoldable pub meanAt : List Float → List Float → ℕ → ℕ → Float
 meanAt xs ys n i =
     cond (eqb i 0) (secantAt xs ys 0)
     (cond (eqb (i + 1) n) (secantAt xs ys (i - 1)) (½ ⊗ (secantAt xs ys (i - 1) ⊕ secantAt xs ys i)))
 
--- "a negative one sets its tangent 0": the tangent m, q being m over the secant
+-- "a negative one sets its tangent 0": the tangent m, with the ratio m / Δ, which is α or β
 abbrev pub nonnegative : Float → Float → Float
-nonnegative m q = cond (lt q 𝟎) 𝟎 m
+nonnegative m ratio = cond (lt ratio 𝟎) 𝟎 m
 
--- "The Box kind caps each at 3 secants" d
+-- "The Box kind caps each at 3 secants"
 abbrev pub capped : Float → Float → Float → Float
-capped m q d = cond (lt 𝟑 q) (𝟑 ⊗ d) (nonnegative m q)
+capped m ratio Δ = cond (lt 𝟑 ratio) (𝟑 ⊗ Δ) (nonnegative m ratio)
 
+-- the tangents l = mᵢ and r = mᵢ₊₁ of a segment, each capped by itself
 unfoldable pub boxed : Float → Float → Float → Tangents
-boxed d l r = record { left = capped l (l ⊘ d) d; right = capped r (r ⊘ d) d }
+boxed Δ l r =
+    let α = l ⊘ Δ in
+    let β = r ⊘ Δ in
+    record { left = capped l α Δ; right = capped r β Δ }
 
 -- "if a × a + b × b > 9, both become 3 / root × a (or b) × secant, from the a and b before that zeroing"
 unfoldable pub circled : Float → Float → Float → Tangents
-circled d l r =
-    let a = l ⊘ d in
-    let b = r ⊘ d in
-    let s = a ⊗ a ⊕ b ⊗ b in
-    let t = 𝟑 ⊘ rootOf s in
-    cond (lt 𝟗 s) (record { left = t ⊗ a ⊗ d; right = t ⊗ b ⊗ d }) (record { left = nonnegative l a; right = nonnegative r b })
+circled Δ l r =
+    let α = l ⊘ Δ in
+    let β = r ⊘ Δ in
+    let s = α ⊗ α ⊕ β ⊗ β in
+    let τ = 𝟑 ⊘ rootOf s in
+    cond (lt 𝟗 s) (record { left = τ ⊗ α ⊗ Δ; right = τ ⊗ β ⊗ Δ })
+    (record { left = nonnegative l α; right = nonnegative r β })
 
--- the tangents l and r at the ends of a segment with the secant d, as the segment leaves them: "a secant below 1e-9 in size sets both tangents 0"
+-- the tangents of a segment as it leaves them: "a secant below 1e-9 in size sets both tangents 0"
 unfoldable pub adjusted : Bool → Float → Float → Float → Tangents
-adjusted box d l r = cond (tiny d) (record { left = 𝟎; right = 𝟎 }) (cond box (boxed d l r) (circled d l r))
+adjusted box Δ l r =
+    cond (tiny Δ) (record { left = 𝟎; right = 𝟎 })
+    (cond box (boxed Δ l r) (circled Δ l r))
 
 -- "segment by segment from the left": the tangent of knot i as the segments before it leave it
 unfoldable pub reached : Bool → List Float → List Float → ℕ → ℕ → Float
@@ -58,7 +68,7 @@ monotoneAt box xs ys n i =
     cond (eqb (i + 1) n) (reached box xs ys n i)
     (adjusted box (secantAt xs ys i) (reached box xs ys n i) (meanAt xs ys n (i + 1)) .left)
 
--- ---- the rows that the code makes of the segments, by the row of secants ds: the first tangent at the right knot of the segment i, and that over its secant
+-- ---- the rows that the code makes of the segments, by the row of secants ds: first mᵢ₊₁, and β
 unfoldable pub rightMean : List Float → ℕ → ℕ → Float
 rightMean ds n i = cond (eqb (i + 2) n) (at ds i) (½ ⊗ (at ds i ⊕ at ds (i + 1)))
 

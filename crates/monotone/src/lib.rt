@@ -1,5 +1,7 @@
-// The tangents of MonotoneCubic and MonotoneCubicBox at the knots. n knots stand in the rows xs and ys; what stands behind them is not read.
-// The tangents go to the front of a lent row.
+// The tangents of MonotoneCubic and MonotoneCubicBox at the knots (Fritsch and Carlson 1980). In
+// their letters: Δ is the secant of a segment, alpha and beta are the tangents at its ends over Δ,
+// and tau is 3 / √(alpha² + beta²). n knots stand in the rows xs and ys; what stands behind them is
+// not read. The tangents go to the front of a lent row.
 ghost use mathlib.Core.Path.{_≡_};
 ghost use Prim.Native.Nat.{_-_, _≤_, _<_};
 ghost use Rattle.floats.specs.Notation.{_⊘_};
@@ -16,7 +18,7 @@ pub struct Tangents {
     pub right: f32,
 }
 
-// The secant of the segment i.
+// Δ of the segment i.
 fn secant(xs: &[f32; 66], ys: &[f32; 66], i: usize) -> f32
     requires { ⌜ i < 65 ⌝ }
     ensures { λ r. ⌜ r ≡ Monotone.secantAt (now (xs .entry)) (now (ys .entry)) i ⌝ }
@@ -24,65 +26,71 @@ fn secant(xs: &[f32; 66], ys: &[f32; 66], i: usize) -> f32
     slope(knot_at(xs, ys, i), knot_at(xs, ys, i + 1))
 }
 
-// The tangent m, or 0 where q, which is m over the secant, is negative.
-fn nonnegative(m: f32, q: f32) -> f32
-    ensures { λ r. ⌜ r ≡ Monotone.nonnegative m q ⌝ }
+// The tangent m, or 0 where its ratio to the secant is negative.
+fn nonnegative(m: f32, ratio: f32) -> f32
+    ensures { λ r. ⌜ r ≡ Monotone.nonnegative m ratio ⌝ }
 {
-    if q < 0.0 { 0.0 } else { m }
+    if ratio < 0.0 { 0.0 } else { m }
 }
 
-// The same, and 3 secants d where q is above 3.
-fn capped(m: f32, q: f32, d: f32) -> f32
-    ensures { λ r. ⌜ r ≡ Monotone.capped m q d ⌝ }
+// The same, and 3 secants where the ratio is above 3.
+fn capped(m: f32, ratio: f32, delta: f32) -> f32
+    ensures { λ r. ⌜ r ≡ Monotone.capped m ratio delta ⌝ }
 {
-    if q > 3.0 { 3.0 * d } else { nonnegative(m, q) }
-}
-
-// The tangents l and r of a segment with the secant d, each capped by itself; b is r over d.
-fn by_box(d: f32, l: f32, r: f32, b: f32) -> Tangents
-    requires { ⌜ b ≡ r ⊘ d ⌝ }
-    ensures { λ t. ⌜ t ≡ Monotone.boxed d l r ⌝ }
-{
-    Tangents {
-        left: capped(l, l / d, d),
-        right: capped(r, b, d),
+    if ratio > 3.0 {
+        3.0 * delta
+    } else {
+        nonnegative(m, ratio)
     }
 }
 
-// The same tangents, both drawn back to the circle where they lie outside it, by a and b as they are before the zeroing.
-fn by_circle(d: f32, l: f32, r: f32, b: f32) -> Tangents
-    requires { ⌜ b ≡ r ⊘ d ⌝ }
-    ensures { λ t. ⌜ t ≡ Monotone.circled d l r ⌝ }
+// The tangents l and r of a segment, each capped by itself.
+fn by_box(delta: f32, l: f32, r: f32, beta: f32) -> Tangents
+    requires { ⌜ beta ≡ r ⊘ delta ⌝ }
+    ensures { λ t. ⌜ t ≡ Monotone.boxed delta l r ⌝ }
 {
-    let a = l / d;
-    let left = nonnegative(l, a);
-    let right = nonnegative(r, b);
-    let s = a * a + b * b;
+    let alpha = l / delta;
+    Tangents {
+        left: capped(l, alpha, delta),
+        right: capped(r, beta, delta),
+    }
+}
+
+// The same tangents, both drawn back to the circle alpha² + beta² = 9 where they lie outside it, by
+// alpha and beta as they are before the zeroing.
+fn by_circle(delta: f32, l: f32, r: f32, beta: f32) -> Tangents
+    requires { ⌜ beta ≡ r ⊘ delta ⌝ }
+    ensures { λ t. ⌜ t ≡ Monotone.circled delta l r ⌝ }
+{
+    let alpha = l / delta;
+    let left = nonnegative(l, alpha);
+    let right = nonnegative(r, beta);
+    let s = alpha * alpha + beta * beta;
     if s > 9.0 {
-        let t = 3.0 / sqrt(s);
+        let tau = 3.0 / sqrt(s);
         return Tangents {
-            left: t * a * d,
-            right: t * b * d,
+            left: tau * alpha * delta,
+            right: tau * beta * delta,
         };
     }
     Tangents { left, right }
 }
 
-// The tangents l and r at the ends of a segment with the secant d, as the segment leaves them; b is r over d.
-fn adjusted(boxed: bool, d: f32, l: f32, r: f32, b: f32) -> Tangents
-    requires { ⌜ b ≡ r ⊘ d ⌝ }
-    ensures { λ t. ⌜ t ≡ Monotone.adjusted boxed d l r ⌝ }
+// The tangents l and r at the ends of a segment, as the segment leaves them.
+fn adjusted(boxed: bool, delta: f32, l: f32, r: f32, beta: f32) -> Tangents
+    requires { ⌜ beta ≡ r ⊘ delta ⌝ }
+    ensures { λ t. ⌜ t ≡ Monotone.adjusted boxed delta l r ⌝ }
 {
-    if tiny(d) {
+    if tiny(delta) {
         return Tangents {
             left: 0.0,
             right: 0.0,
         };
     }
     if boxed {
-        by_box(d, l, r, b)
+        by_box(delta, l, r, beta)
     } else {
-        by_circle(d, l, r, b)
+        by_circle(delta, l, r, beta)
     }
 }
 
@@ -111,7 +119,7 @@ fn means(ds: &[f32; 66], n: usize, row: &mut [f32; 66])
     row[i] = ds[i];
 }
 
-// These over the secants.
+// beta of each segment: these over the secants.
 fn quotients(rs: &[f32; 66], ds: &[f32; 66], n: usize, row: &mut [f32; 66])
     requires { ⌜ (2 ≤ n) × (n ≤ 66) ⌝ }
     ensures { λ _. ⌜ Stored (Monotone.quotientOf (now (rs .entry)) (now (ds .entry))) 0 (n - 1) (now (row .entry)) (now (row .exit)) ⌝ }

@@ -1,5 +1,6 @@
--- The second derivatives at n knots (de Boor, "A Practical Guide to Splines", 1978): the rows of the system under each boundary rule, and
--- what is made of its solution. Definitions only.
+-- The second derivatives Mᵢ at n knots (de Boor, "A Practical Guide to Splines", 1978): the rows of
+-- the system under each boundary rule, and what is made of its solution. The segment i has the
+-- width hᵢ and the secant Δᵢ. Definitions only.
 use Prim.Native.Nat.{ℕ, _+_, _-_}
 use mathlib.Core.Bool.{cond}
 use mathlib.Core.List.{List}
@@ -15,7 +16,8 @@ use Rattle.spline.specs.declared.SplineBoundary.the-variants.{Natural, C
 use Rattle.spline.specs.Segments.{segmentAt}
 use Rattle.spline.specs.Thomas.{solution}
 
--- the row of an inner knot between the segments p and q
+-- the row of an inner knot i between the segments p and q, which are i − 1 and i:
+--   hᵢ₋₁ Mᵢ₋₁ + 2 (hᵢ₋₁ + hᵢ) Mᵢ + hᵢ Mᵢ₊₁ = 6 (Δᵢ − Δᵢ₋₁)
 abbrev pub inner : Segment → Segment → Row
 inner p q = record {
   a = p .width;
@@ -24,14 +26,18 @@ inner p q = record {
   d = 𝟔 ⊗ (q .secant ⊖ p .secant);
 }
 
--- clamped: the rows of the first and the last knot, from the slopes s0 and s1
+-- clamped: the rows of the first and the last knot, from the slopes s0 and s1:
+--   2 h₀ M₀ + h₀ M₁ = 6 (Δ₀ − s₀),   hₙ₋₂ Mₙ₋₂ + 2 hₙ₋₂ Mₙ₋₁ = 6 (s₁ − Δₙ₋₂)
 abbrev pub clampedFirst : Float → Segment → Row
 clampedFirst s0 q = record { a = 𝟎; b = 𝟐 ⊗ q .width; c = q .width; d = 𝟔 ⊗ (q .secant ⊖ s0) }
 
 abbrev pub clampedLast : Float → Segment → Row
 clampedLast s1 p = record { a = p .width; b = 𝟐 ⊗ p .width; c = 𝟎; d = 𝟔 ⊗ (s1 ⊖ p .secant) }
 
--- not-a-knot: the rows of the first and the last inner knot, the end knots' unknowns being expressed by their neighbours'
+-- not-a-knot: the rows of the first and the last inner knot. The third derivative does not jump
+-- there, (M₁ − M₀) / h₀ = (M₂ − M₁) / h₁, so M₀ = M₁ + (h₀ / h₁) (M₁ − M₂). The inner row with this
+-- M₀, times h₁:
+--   (h₀ + h₁) (h₀ + 2 h₁) M₁ + (h₁ − h₀) (h₁ + h₀) M₂ = 6 h₁ (Δ₁ − Δ₀)
 abbrev pub notAKnotFirst : Segment → Segment → Row
 notAKnotFirst p q =
     let h0 = p .width in
@@ -43,6 +49,8 @@ notAKnotFirst p q =
       d = h1 ⊗ 𝟔 ⊗ (q .secant ⊖ p .secant);
     }
 
+-- and at the other end, with g₀ = hₙ₋₃ and g₁ = hₙ₋₂, times g₀:
+--   (g₀ − g₁) (g₀ + g₁) Mₙ₋₃ + (g₀ + g₁) (2 g₀ + g₁) Mₙ₋₂ = 6 g₀ (Δₙ₋₂ − Δₙ₋₃)
 abbrev pub notAKnotLast : Segment → Segment → Row
 notAKnotLast p q =
     let g0 = p .width in
@@ -58,7 +66,8 @@ notAKnotLast p q =
 abbrev pub parabola : Segment → Segment → Float
 parabola p q = guardedQuotient (𝟐 ⊗ (q .secant ⊖ p .secant)) (p .width ⊕ q .width) pico
 
--- an end value from p and q, those of the next two knots: p + (g / h) × (p − q), g being the segment from the end to p's knot and h the next one
+-- an end value M₀ = M₁ + (h₀ / h₁) (M₁ − M₂), from p and q, those of the next two knots; g is the
+-- segment from the end to p's knot, h the next one
 unfoldable pub recovered : Segment → Segment → Float → Float → Float
 recovered g h p q = p ⊕ guardedQuotient (g .width) (h .width) pico ⊗ (p ⊖ q)
 

@@ -1,5 +1,8 @@
--- The Thomas solve of a tridiagonal system (L. H. Thomas, 1949), a, b, c being the rows below, on and above the diagonal and d the right-hand sides.
--- Definitions only.
+-- The Thomas solve (L. H. Thomas, 1949) of a tridiagonal system of m rows,
+--   aₖ xₖ₋₁ + bₖ xₖ + cₖ xₖ₊₁ = dₖ,   k from 0 to m − 1,
+-- without the terms of x₋₁ and xₘ. Forward sweep: with the pivot p₀ = b₀ and pₖ = bₖ − aₖ c′ₖ₋₁,
+--   c′ₖ = cₖ / pₖ,   d′₀ = d₀ / p₀,   d′ₖ = (dₖ − aₖ d′ₖ₋₁) / pₖ;
+-- back substitution: xₖ = d′ₖ − c′ₖ xₖ₊₁ from the last row on. Definitions only.
 use Prim.Native.Nat.{ℕ, zero, suc, _-_}
 use mathlib.Core.Path.{_≡_}
 use mathlib.Core.Bool.{cond}
@@ -17,11 +20,11 @@ use Rattle.spline.specs.declared.thomas.Swept.{Swept}
 abbrev pub inverse : Float → Float
 inverse pivot = guardedQuotient 𝟏 pivot pico
 
--- a row over its pivot
+-- a row over its pivot: c′ is `above`, d′ is `right`
 unfoldable pub scaled : Float → Float → Float → Swept
 scaled pivot c d = record { above = c ⊗ inverse pivot; right = d ⊗ inverse pivot }
 
--- the row k swept, p being the row before it: the first as it is, a later one less its a times the row before
+-- c′ₖ and d′ₖ of the row r, which is the row k; p has c′ₖ₋₁ and d′ₖ₋₁
 unfoldable pub sweep : ℕ → Swept → Row → Swept
 sweep k p r =
     cond (eqb k 0) (scaled (r .b) (r .c) (r .d))
@@ -31,21 +34,21 @@ sweep k p r =
 abbrev pub none : Swept
 none = record { above = 𝟎; right = 𝟎 }
 
--- the row before the row k, swept; the rows are given by a rule
+-- c′ₖ₋₁ and d′ₖ₋₁; the rows are given by a rule
 unfoldable pub swept : (ℕ → Row) → ℕ → Swept
 swept rows zero = none
 swept rows (suc k) = sweep k (swept rows k) (rows k)
 
--- the row k, swept
+-- c′ₖ and d′ₖ
 unfoldable pub sweptRow : (ℕ → Row) → ℕ → Swept
 sweptRow rows k = swept rows (suc k)
 
--- back substitution over m swept rows s: the unknown j places before the end of them; past the end stands 0
+-- back substitution over m swept rows s: x at m − j; past the end stands 0
 unfoldable pub backward : (ℕ → Swept) → ℕ → ℕ → Float
 backward s m zero = 𝟎
 backward s m (suc j) = let p = s (m - suc j) in p .right ⊖ p .above ⊗ backward s m j
 
--- the unknown k
+-- xₖ
 unfoldable pub substituted : (ℕ → Swept) → ℕ → ℕ → Float
 substituted s m k = backward s m (m - k)
 

@@ -7,7 +7,7 @@ ghost use Rattle.spline.specs.Thomas as Thomas;
 ghost use Rattle.spline.specs.Thomas.{sweptIn, substituted, startingAt};
 use single::guarded_quotient;
 
-// A row of the tridiagonal system: below, on and above the diagonal, and the right-hand side.
+// A row of the tridiagonal system, a x(k-1) + b x(k) + c x(k+1) = d.
 pub struct Row {
     pub a: f32,
     pub b: f32,
@@ -15,7 +15,7 @@ pub struct Row {
     pub d: f32,
 }
 
-// A row after the forward sweep: 1 on the diagonal, what stands above it, and the right-hand side.
+// A row after the forward sweep, x(k) + c' x(k+1) = d': above is c', right is d'.
 pub struct Swept {
     pub above: f32,
     pub right: f32,

@@ -17,9 +17,9 @@ catmullRomAt xs ys n i = slope (knotAt xs ys (before i)) (knotAt xs ys (after n 
 unfoldable pub looseness : ℕ → Float
 looseness q = 𝟏 ⊖ float q ⊘ 𝟐𝟓𝟓
 
--- "Cardinal: (1 − c) times that rise first, then divided"
+-- "Cardinal: (1 − c) times that rise first, then divided"; the scale is 1 − c
 unfoldable pub looseSlope : Float → Knot → Knot → Float
-looseSlope c l r = guardedQuotient (c ⊗ (r .y ⊖ l .y)) (r .x ⊖ l .x) micro
+looseSlope scale l r = guardedQuotient (scale ⊗ (r .y ⊖ l .y)) (r .x ⊖ l .x) micro
 
 unfoldable pub cardinalAt : ℕ → List Float → List Float → ℕ → ℕ → Float
 cardinalAt q xs ys n i = looseSlope (looseness q) (knotAt xs ys (before i)) (knotAt xs ys (after n i))

@@ -47,11 +47,11 @@ fn looseness(q: u8) -> f32
     1.0 - byte_to_float(q) / 255.0
 }
 
-// c times the rise from l to r, over the run.
-fn loose_slope(c: f32, l: Knot, r: Knot) -> f32
-    ensures { λ m. ⌜ m ≡ CatmullRom.looseSlope c l r ⌝ }
+// The rise from l to r times the scale 1 − c, over the run.
+fn loose_slope(scale: f32, l: Knot, r: Knot) -> f32
+    ensures { λ m. ⌜ m ≡ CatmullRom.looseSlope scale l r ⌝ }
 {
-    guarded_quotient(c * (r.y - l.y), r.x - l.x, 0.000001)
+    guarded_quotient(scale * (r.y - l.y), r.x - l.x, 0.000001)
 }
 
 // The tangents of Cardinal with the tension q.
@@ -59,12 +59,12 @@ pub fn cardinal(q: u8, xs: &[f32; 66], ys: &[f32; 66], n: usize, tangents: &mut 
     requires { ⌜ (2 ≤ n) × (n ≤ 66) ⌝ }
     ensures { λ _. ⌜ Stored (CatmullRom.cardinalAt q (now (xs .entry)) (now (ys .entry)) n) 0 n (now (tangents .entry)) (now (tangents .exit)) ⌝ }
 {
-    let c = looseness(q);
+    let scale = looseness(q);
     let mut i: usize = 0;
     while i < n {
         let l = knot_at(xs, ys, before(i));
         let r = knot_at(xs, ys, after(n, i));
-        tangents[i] = loose_slope(c, l, r);
+        tangents[i] = loose_slope(scale, l, r);
         i += 1;
     }
 }

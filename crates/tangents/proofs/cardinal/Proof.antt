@@ -8,10 +8,10 @@ use Rattle.tangents.proofs.cardinal.Statement.{statement}
 use Rattle.tangents.proofs.cardinal.Tie as tie
 
 abbrev Inv-loop : tie.InvT-loop
-Inv-loop q xs ys n tangents₀ c i₀ tangents i = (i ≤ n) × Stored (cardinalAt q xs ys n) 0 i tangents₀ tangents
+Inv-loop q xs ys n tangents₀ scale i₀ tangents i = (i ≤ n) × Stored (cardinalAt q xs ys n) 0 i tangents₀ tangents
 
 abbrev μ-loop : tie.MeasureT-loop
-μ-loop q xs ys n tangents₀ c i₀ tangents i = n - i
+μ-loop q xs ys n tangents₀ scale i₀ tangents i = n - i
 
 loop-again : tie.Need-loop-again Inv-loop μ-loop
 unfolding cardinalAt
