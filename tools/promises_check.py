@@ -1,11 +1,19 @@
 #!/usr/bin/env python3
-"""Checks docs/PROMISES.md: every file it names exists, every name behind a file is declared in that
-file, and every must-fail edit exists.
+"""Checks docs/PROMISES.md, line by line; `--write` writes its last section anew.
 
-Below the first heading of a section, a row of a table or a line of a block names a file and then
-names in it, each in backquotes; paths are below crates/ or the root, names behind the word
-must-fail are edits. A row, a heading or a line with a list's mark starts anew; other lines go on
-where the line before ended, until an empty one.
+A block is a heading `### ..` and a fenced list, one role a line: the role, a file, names in that
+file. A line without a role goes on with the role above it, a line without a file with the file
+above it. The check says, with the line, where
+
+  a role is unknown, or a block has no role that can meet a sentence
+  a file does not exist: a/B is crates/a/specs/B.antt, else the path is below crates/ or the root
+  a file does not declare a name; behind `rules out` stand edits, a/b for crates/a/must-fail/b.edit
+  prose has a name in backquotes that its block does not have (words of the paper stand in quotes)
+  a line is wider than 100
+  an edit is not named under `rules out`, or is named twice
+  an edit's first line does not say what is wrong, with the fact that refuses it in backquotes,
+    declared in the edit's crate
+  the last section is not made of these comments
 
 A name that is only mentioned does not count, in a comment or where it is used. What counts:
 
@@ -16,16 +24,21 @@ A name that is only mentioned does not count, in a comment or where it is used. 
   .h .c   a function, enum or constant of that name
   others  have no declarations: there a mention is enough
 """
-import glob
-import os
+import pathlib
 import re
 import sys
+import textwrap
 
-ROOT = os.path.join(os.path.dirname(os.path.abspath(__file__)), "..")
-CRATES = os.path.join(ROOT, "crates")
-PAGE = os.path.join(ROOT, "docs", "PROMISES.md")
-FILE = re.compile(r"^[\w./-]+\.(rt|antt|rs|md|py|h|c)$|^\.\./|/std(in|out)$")
-STARTS_ANEW = re.compile(r"\s*$|\||#|\s*([-*+]|\d+\.)\s")
+ROOT = pathlib.Path(__file__).resolve().parent.parent
+CRATES = ROOT / "crates"
+PAGE = ROOT / "docs" / "PROMISES.md"
+WIDTH = 100
+MEETS = ["theorem", "contract", "test", "document"]
+ROLES = MEETS + ["words", "pinned by", "from", "code", "rules out"]
+ROLE_COLUMNS = 11
+MISSING = "missing"
+BEGIN = "<!-- written by tools/promises_check.py --write -->"
+END = "<!-- end of what is written -->"
 ITEM = (
     r"^\s*(?:pub(?:\(\w+\))?\s+|extern\s+\"C\"\s+|unsafe\s+)*"
     r"(?:fn|struct|enum|const|static|mod|trait|type)\s+{}\b"
@@ -63,70 +76,150 @@ def bodies(text, keyword, name):
 
 def has_name(path, name):
     """Whether a file declares a name, Type::name in what belongs to Type."""
-    with open(path, errors="replace") as file:
-        text = file.read()
-    suffix = os.path.splitext(path)[1]
+    text = path.read_text(errors="replace")
     owner, _, last = name.rpartition("::")
-    if not owner or suffix not in (".rt", ".rs"):
-        return declares(text, suffix, last)
-    if any(declares(body, suffix, last) for body in bodies(text, "impl", owner)):
+    if not owner or path.suffix not in (".rt", ".rs"):
+        return declares(text, path.suffix, last)
+    if any(declares(body, path.suffix, last) for body in bodies(text, "impl", owner)):
         return True
     case = rf"^\s*{re.escape(last)}(?:,|\s*\{{|\()"
     return any(re.search(case, body, re.M) for body in bodies(text, "enum", owner))
 
 
-class Reader:
-    """Goes through the page and keeps the file that was named last."""
+def file_of(name):
+    """The file that a block's first column means, or None."""
+    crate, _, module = name.partition("/")
+    places = [CRATES / crate / "specs" / f"{module}.antt", CRATES / name, ROOT / name]
+    return next((place for place in places if place.is_file()), None)
 
-    def __init__(self):
-        edits = glob.glob(os.path.join(CRATES, "*", "must-fail", "*.edit"))
-        self.edits = {os.path.basename(edit)[: -len(".edit")] for edit in edits}
-        self.path = None
-        self.in_edits = False
-        self.names = 0
 
-    def line(self, line):
-        """What is wrong with a line."""
-        if STARTS_ANEW.match(line):
-            self.path, self.in_edits = None, False
-        for found in re.finditer(r"`([^`]+)`|must-fail|;", line):
-            if found.group(1) is None:
-                self.in_edits = found.group(0) == "must-fail"
-            elif FILE.search(found.group(1)):
-                yield from self.file(found.group(1))
-            else:
-                yield from self.name(found.group(1))
+class Block:
+    """A heading's list: the role and the file named last, and all that the list names."""
 
-    def file(self, name):
-        path = os.path.join(CRATES, name)
-        if not os.path.exists(path):
-            path = os.path.join(ROOT, name)
-        self.in_edits = False
-        self.path = path if os.path.isfile(path) else None
-        if not os.path.exists(path):
-            yield f"no file {name}"
+    def __init__(self, number, heading):
+        self.number, self.heading = number, heading
+        self.role, self.file, self.roles, self.words = None, None, set(), set()
 
-    def name(self, name):
-        if self.in_edits and name not in self.edits:
-            yield f"no must-fail edit {name}"
-        elif name not in self.edits and self.path is not None and not has_name(self.path, name):
-            yield f"{os.path.relpath(self.path, CRATES)} does not declare {name}"
-        elif name in self.edits or self.path is not None:
-            self.names += 1
+    def line(self, line, named):
+        """What is wrong with a line of the list; its edits are counted in `named`."""
+        role, words = line[:ROLE_COLUMNS].strip(), line[ROLE_COLUMNS:].split()
+        if role:
+            self.role, self.file = role, None
+            self.roles.add(role)
+            if role not in ROLES:
+                yield f"no role {role}"
+        for word in words:
+            self.words |= {word, word.rpartition("/")[2]}
+            if self.role == "rules out":
+                yield from self.edit(word, named)
+            elif "/" in word:
+                self.file = file_of(word) or MISSING
+                if self.file is MISSING:
+                    yield f"no file {word}"
+            elif self.file is None:
+                yield f"no file before {word}"
+            elif self.file is not MISSING and not has_name(self.file, word):
+                yield f"{self.file.relative_to(ROOT)} does not declare {word}"
+
+    def edit(self, word, named):
+        """What is wrong with the name of an edit."""
+        named[word] = named.get(word, 0) + 1
+        crate, _, edit = word.partition("/")
+        if not (CRATES / crate / "must-fail" / f"{edit}.edit").is_file():
+            yield f"no must-fail edit {word}"
+        elif named[word] == 2:
+            yield f"the edit {word} is named before"
+
+    def end(self):
+        """What is wrong with the whole of it."""
+        if not self.roles & set(MEETS):
+            yield f"no line of {self.heading} says what meets it: {', '.join(MEETS)}"
+
+
+def page_faults(lines, named):
+    """What is wrong with the page, with the numbers of the lines."""
+    block, fenced = None, False
+    for number, line in enumerate([*lines, "# the end"], 1):
+        if len(line) > WIDTH:
+            yield number, f"{len(line)} wide"
+        if line.startswith("#"):
+            if block is not None:
+                yield from ((block.number, fault) for fault in block.end())
+            block = Block(number, line.split()[1]) if line.startswith("### ") else None
+        elif line.startswith("```"):
+            fenced = not fenced
+        elif fenced and block is not None:
+            yield from ((number, fault) for fault in block.line(line, named))
+        elif block is not None and block.roles:
+            for word in re.findall(r"`([^`]+)`", line):
+                if word not in block.words:
+                    yield number, f"`{word}` is not named in the list above"
+
+
+def comment(edit):
+    """What an edit's first line says, or None."""
+    first = edit.read_text().partition("\n")[0]
+    return first[len("# ") :] if first.startswith("# ") else None
+
+
+def edit_faults(edit):
+    """What is wrong with an edit's comment."""
+    text = comment(edit)
+    if text is None:
+        yield "the first line is no comment"
+        return
+    files = [*edit.parent.parent.glob("src/*.rt"), *edit.parent.parent.glob("specs/*.antt")]
+    names = re.findall(r"`([^`]+)`", text)
+    if not names:
+        yield "the first line does not name, in backquotes, the fact that refuses it"
+    for name in names:
+        if not any(has_name(file, name) for file in files):
+            yield f"its crate does not declare {name}"
+
+
+def label(edit):
+    """An edit as the page names it."""
+    return f"{edit.parent.parent.name}/{edit.stem}"
+
+
+def written(edits):
+    """The lines of the last section, an edit each, an empty line between crates."""
+    lines, crate = [], None
+    for edit in edits:
+        if label(edit).partition("/")[0] != crate:
+            crate = label(edit).partition("/")[0]
+            lines.append("")
+        entry = f"- {label(edit)}: {comment(edit)}"
+        lines += textwrap.wrap(
+            entry, WIDTH, subsequent_indent="  ", break_long_words=False, break_on_hyphens=False
+        )
+    return [BEGIN, *lines, "", END]
 
 
 def main():
-    reader = Reader()
-    found = []
-    in_section = False
-    with open(PAGE) as page:
-        for number, line in enumerate(page, 1):
-            in_section = in_section or line.startswith("## ")
-            if in_section:
-                found += [f"docs/PROMISES.md:{number}: {fault}" for fault in reader.line(line)]
-    if not found and reader.names == 0:
-        found = ["docs/PROMISES.md names nothing"]
-    print("\n".join(found) or f"docs/PROMISES.md: {reader.names} names are declared where it says")
+    edits = sorted(CRATES.glob("*/must-fail/*.edit"), key=label)
+    found = [f"{edit.relative_to(ROOT)}:1: {f}" for edit in edits for f in edit_faults(edit)]
+    lines, named = PAGE.read_text().splitlines(), {}
+    if lines.count(BEGIN) != 1 or lines.count(END) != 1 or lines.index(END) < lines.index(BEGIN):
+        sys.exit(f"docs/PROMISES.md: the lines {BEGIN} and {END} are not there once, in this order")
+    begin, end = lines.index(BEGIN), lines.index(END)
+    section = written(edits)
+    if sys.argv[1:] == ["--write"]:
+        PAGE.write_text("\n".join([*lines[:begin], *section, *lines[end + 1 :]]) + "\n")
+    elif lines[begin : end + 1] != section:
+        found.append(
+            f"docs/PROMISES.md:{begin + 1}: this section is not what the edits say;"
+            " tools/promises_check.py --write"
+        )
+    lines[begin : end + 1] = [""] * (end + 1 - begin)
+    found += [f"docs/PROMISES.md:{number}: {fault}" for number, fault in page_faults(lines, named)]
+    found += [
+        f"docs/PROMISES.md: {label(edit)} is not named under `rules out`"
+        for edit in edits
+        if label(edit) not in named
+    ]
+    done = f"docs/PROMISES.md: all names are declared, {len(named)} edits are named once"
+    print("\n".join(found) or done)
     return 1 if found else 0
 
 
