@@ -4,7 +4,7 @@ use native.Mathlib.Omega.{arith}
 use mathlib.Core.Path.{_≡_, sym, ap, _∙_}
 use mathlib.Core.List.{List, _++_}
 use mathlib.Core.Bool.{true}
-use mathlib.Core.Option.{Option, none, some}
+use mathlib.Core.Option.{Option}
 use lib.ListN.{length, length-take}
 use borrow.Author.Tests.{ltb-false, not-false}
 use Rattle.lists.specs.Test.{by-test}
@@ -28,20 +28,17 @@ use Rattle.sets.specs.Sets.{
   channelAnswer,
   setAnswer,
 }
+use Rattle.sets.specs.Lists.{OfColour, EveryList}
 
 pub record LegalList (l : List Point) : Type 0 where
   pub few : length l ≤ 64
   pub rising : rises l ≡ true
 
 abbrev pub LegalColour : Option (List Point) → Type 0
-LegalColour none = Unit {0}
-LegalColour (some l) = LegalList l
+LegalColour = OfColour LegalList
 
-pub record Legal (v : View) : Type 0 where
-  pub master : LegalList (v .master)
-  pub red : LegalColour (v .red)
-  pub green : LegalColour (v .green)
-  pub blue : LegalColour (v .blue)
+abbrev pub Legal : View → Type 0
+Legal = EveryList LegalList
 
 -- ---- from the check
 -- the answer of a set by those of its lists, whatever is checked of a list

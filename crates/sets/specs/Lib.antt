@@ -1,4 +1,5 @@
 pub mod Sets
+pub mod Lists
 pub mod Replaced
 pub mod Carried
 pub mod Legal
