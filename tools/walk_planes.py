@@ -1,12 +1,17 @@
 #!/usr/bin/env python3
 """Writes the proofs by hand of crates/planes: walks of functions that take planes apart and call one covered function.
 
-Run at the repository's root, with no arguments, after such a function or its callee has changed. A walk is the same whatever the parameters
-are. What differs is which of them the callee is passed, how many things stand in front of another, and the names; the functions are
-described at the end of this file. What a walk does is in the toolchain's guide HELD_REFERENCES.md.
+Run at the repository's root, with no arguments, after such a function or its callee has changed.
+With --check it writes nothing, names the proofs that are not as it would write them, and exits with
+1 where there is one.
+
+A walk is the same whatever the parameters are. What differs is which of them the callee is passed,
+how many things stand in front of another, and the names; the functions are described at the end of
+this file. What a walk does is in the toolchain's guide HELD_REFERENCES.md.
 """
 import os
 import re
+import sys
 
 WIDTH = 150
 SUBSCRIPTS = str.maketrans("0123456789", "₀₁₂₃₄₅₆₇₈₉")
@@ -601,13 +606,24 @@ class Walk:
         lines += [f"use {caller}.Key.{{name as #planes·{self.name}}}", f"use {caller} as caller", f"use {caller}.Statement as stated", f"use {caller}.Code as code"]
         return "\n".join(lines) + "\n"
 
-    def write(self):
+    def file(self):
+        return f"crates/planes/proofs/{self.path.replace('.', '/')}/Proof.antt"
+
+    def text(self):
         parts = self.parts()
         body = re.sub(r"<([^<>\n]+)>", lambda m: parts[m.group(1)], PROOF)
-        path = f"crates/planes/proofs/{self.path.replace('.', '/')}/Proof.antt"
-        os.makedirs(os.path.dirname(path), exist_ok=True)
-        with open(path, "w", encoding="utf-8") as f:
-            f.write(self.head(body) + body)
+        return self.head(body) + body
+
+    def is_written(self):
+        if not os.path.exists(self.file()):
+            return False
+        with open(self.file(), encoding="utf-8", newline="") as f:
+            return f.read() == self.text()
+
+    def write(self):
+        os.makedirs(os.path.dirname(self.file()), exist_ok=True)
+        with open(self.file(), "w", encoding="utf-8", newline="") as f:
+            f.write(self.text())
 
 
 # ---- the functions
@@ -620,13 +636,20 @@ def row():
 
 
 def tone_picture():
-    first = [struct("set", "sets", "Curves"), enum("format", "formats", "PixelFormat"), number("width", "u32"), number("height", "u32"), number("planes", "usize")]
-    planes, outputs = [Held("plane"), Held("cb"), Held("cr")], [Lent("out", 1), Lent("out-cb", 2), Lent("out-cr", 3)]
-    whole = lambda params: [(p, None) for p in params]
-    of = " ".join(f"(now ({p.name} .bytes)) ({p.name} .step)" for p in planes) + "".join(f" (now {p.name})" for p in outputs)
+    job = struct("job", "pictures", "Job")
+    planes = [Held("plane"), Held("cb"), Held("cr")]
+    outputs = [Lent("out", 1), Lent("out-cb", 2), Lent("out-cr", 3)]
+    lent = [f"    {p.name} = record {{ bytes = now ({p.name} .bytes); step = {p.name} .step }};" for p in planes]
+    fields = lambda of: "; ".join(f"{f} = {of(p)}" for f, p in zip(("first", "cb", "cr"), outputs))
+    before, after = fields(lambda p: f"now {p.name}"), fields(lambda p: f"{p.name}-last")
+    claim = "\n".join(
+        ["λ r out-last out-cb-last out-cr-last. SetCall (record {", "    job = job;", "    lent = record {"]
+        + ["  " + line for line in lent]
+        + [f"      outputs = record {{ {before} }};", "    };", f"  }}) r (record {{ {after} }})"]
+    )
+    passed = [(job, None)] + [(p, f) for p in planes for f in ("bytes", "step")] + [(p, None) for p in outputs]
     return Walk("tone_picture", "The planes are taken apart, and `apply_pixels` does the work.", ("Rattle.pictures.proofs.apply_pixels", "pictures·apply-pixels"), 4,
-                first + planes + outputs, whole(first) + [(p, f) for p in planes for f in ("bytes", "step")] + whole(outputs), struct("r", "pictures", "Toned"),
-                f"SetCall (run-of set format width height planes {of})", ["Rattle.pictures.specs.Runs.{given as run-of, SetCall}"])
+                [job] + planes + outputs, passed, struct("r", "pictures", "Toned"), claim, ["Rattle.pictures.specs.Runs.{SetCall}"])
 
 
 def tone_plane():
@@ -637,6 +660,20 @@ def tone_plane():
                 "LutCall format width height (plane .step) table (now (plane .bytes))", ["Rattle.pictures.specs.OneTable.{LutCall}"])
 
 
-if __name__ == "__main__":
-    for walk in (row(), tone_picture(), tone_plane()):
+def main(arguments):
+    walks = [row(), tone_picture(), tone_plane()]
+    if arguments == ["--check"]:
+        others = [walk.file() for walk in walks if not walk.is_written()]
+        for file in others:
+            print(f"{file} is not what tools/walk_planes.py writes")
+        return 1 if others else 0
+    if arguments:
+        print(__doc__)
+        return 2
+    for walk in walks:
         walk.write()
+    return 0
+
+
+if __name__ == "__main__":
+    sys.exit(main(sys.argv[1:]))

@@ -1,5 +1,5 @@
--- What a set that a function is given tells because it is owned: its points and its tension are bytes. A need c of a function of which the set is the
--- first parameter has `own = c .good .0`.
+-- What a job that a function is given tells because it is owned: the points and the tension of its set are bytes.
+-- A need c of a function of which the job is the first parameter has `own = c .good .0`.
 use mathlib.Core.List.{List}
 use Prim.Native.Nat.{_<_}
 use lib.Dec.{lit<}
@@ -30,9 +30,11 @@ use Rattle.sets.specs.declared.Channel.{Channel}
 use Rattle.sets.specs.declared.Curves.{Curves}
 use Rattle.sets.specs.Sets.{viewOf, channelOf}
 use Rattle.sets.specs.Carried.{carriedOf}
+use Rattle.sets.specs.Lists.{OfColour, EveryList}
 use Rattle.sets.proofs.Channel as ChannelType
 use Rattle.sets.proofs.Curves as SetType
-use Rattle.pictures.specs.Runs.{OfColour, EveryList}
+use Rattle.pictures.specs.declared.Job.{Job}
+use Rattle.pictures.proofs.Job as JobType
 
 -- x is owned, as the values vs
 abbrev IsOwned : (F : Field) → F .Value → List Val → Type 0
@@ -44,8 +46,8 @@ list-told c vs own = search (own, all-take, bytes-told)
 colour-told : (c : Channel) (vs : List Val) → IsOwned ChannelType.the-field c vs → OfColour (All Bytes) (channelOf c)
 colour-told c vs own = by-test (c .present) (λ t. rw t (list-told (c .curve) _ (own .1 .1 .1 .0))) (λ t. rw t tt)
 
-pub points-told : (s : Curves) (vs : List Val) → IsOwned SetType.the-field s vs → EveryList (All Bytes) (viewOf s)
-points-told s vs own = record {
+set-points-told : (s : Curves) (vs : List Val) → IsOwned SetType.the-field s vs → EveryList (All Bytes) (viewOf s)
+set-points-told s vs own = record {
   master = list-told (s .master) _ (own .1 .1 .0);
   red = colour-told (s .red) _ (own .1 .1 .1 .0);
   green = colour-told (s .green) _ (own .1 .1 .1 .1 .0);
@@ -64,5 +66,13 @@ kind-told (Cardinal q) vs own = own .1 .1 .1 .1 .0 .1
 kind-told (ClampedCubic start end) vs own = lit< tt
 kind-told NotAKnotCubic vs own = lit< tt
 
-pub tension-told : (s : Curves) (vs : List Val) → IsOwned SetType.the-field s vs → carriedOf (s .interpolation) .tension < 256
-tension-told s vs own = kind-told (s .interpolation) _ (own .1 .1 .1 .1 .1 .1 .0)
+set-tension-told : (s : Curves) (vs : List Val) → IsOwned SetType.the-field s vs
+    → carriedOf (s .interpolation) .tension < 256
+set-tension-told s vs own = kind-told (s .interpolation) _ (own .1 .1 .1 .1 .1 .1 .0)
+
+pub points-told : (j : Job) (vs : List Val) → IsOwned JobType.the-field j vs → EveryList (All Bytes) (viewOf (j .set))
+points-told j vs own = set-points-told (j .set) _ (own .1 .1 .0)
+
+pub tension-told : (j : Job) (vs : List Val) → IsOwned JobType.the-field j vs
+    → carriedOf (j .set .interpolation) .tension < 256
+tension-told j vs own = set-tension-told (j .set) _ (own .1 .1 .0)

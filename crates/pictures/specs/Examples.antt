@@ -46,7 +46,17 @@ use Rattle.formats.specs.Checks.{lutAnswer}
 use Rattle.formats.specs.Examples.{yuv, others}
 use Rattle.pictures.specs.declared.Toned.{Toned}
 use Rattle.pictures.specs.OneTable.{LutCall, tonedWithin}
-use Rattle.pictures.specs.Runs.{Run, SetCall, given, rowBytes, answer, tonedBy, first, chroma, stepOf}
+use Rattle.pictures.specs.Runs.{
+  Outputs,
+  Run,
+  rowBytes,
+  answer,
+  tonedBy,
+  first,
+  chroma,
+  stepOf,
+  SetCall,
+}
 
 -- the set of this master alone
 abbrev absent : Channel
@@ -57,8 +67,15 @@ alone c = record { master = c; red = absent; green = absent; blue = absent; inte
 
 -- a run of w columns and h rows, out of a plane of len bytes, with chroma of 3 bytes each
 abbrev pub run : Curve → PixelFormat → ℕ → ℕ → ℕ → ℕ → ℕ → ℕ → ℕ → Run
-run master f w h planes step len out outCr =
-    given (alone master) f w h planes (replicate len 5) step (1 ∷ 2 ∷ 3 ∷ []) 7 (4 ∷ 5 ∷ 6 ∷ []) 9 (replicate out 0) (replicate 3 0) (replicate outCr 0)
+run master f w h planes step len out outCr = record {
+  job = record { set = alone master; format = f; width = w; height = h; planes = planes };
+  lent = record {
+    plane = record { bytes = replicate len 5; step = step };
+    cb = record { bytes = 1 ∷ 2 ∷ 3 ∷ []; step = 7 };
+    cr = record { bytes = 4 ∷ 5 ∷ 6 ∷ []; step = 9 };
+    outputs = record { first = replicate out 0; cb = replicate 3 0; cr = replicate outCr 0 };
+  };
+}
 
 -- what an answer opens, named in this one place: a theorem that unfolds `answered` unfolds them too
 unfoldable pub answered : Run → Answer
@@ -100,7 +117,7 @@ left w h step f =
 pub left-is : (w h step : ℕ) (f : PixelFormat) (a : Answer) (after : List ℕ)
     → LutCall f w h step more plane a after → after ≡ left w h step f
 left-is w h step f a after c =
-    c .plane-is ∙ ap (λ b. cond (isDone b) (tonedWithin f w h step more plane) plane) (c .answer-is)
+    c .plane ∙ ap (λ b. cond (isDone b) (tonedWithin f w h step more plane) plane) (c .answer)
 
 -- "The one-table call tones all 12 formats within the plane: alpha of Ya8 and Rgba, chroma and
 -- padding unchanged; Cmyk tones all four inks"
@@ -186,8 +203,15 @@ accepted = refl
 -- each chroma plane has an output of its own: a plane of 3 bytes does not fit into 2, though the
 -- other of 2 fits
 abbrev chromaRun : List ℕ → List ℕ → ℕ → ℕ → Run
-chromaRun cb cr outCb outCr =
-    given (alone line) Yuv420P 1 1 3 (5 ∷ []) 1 cb 1 cr 1 (0 ∷ []) (replicate outCb 0) (replicate outCr 0)
+chromaRun cb cr outCb outCr = record {
+  job = record { set = alone line; format = Yuv420P; width = 1; height = 1; planes = 3 };
+  lent = record {
+    plane = record { bytes = 5 ∷ []; step = 1 };
+    cb = record { bytes = cb; step = 1 };
+    cr = record { bytes = cr; step = 1 };
+    outputs = record { first = 0 ∷ []; cb = replicate outCb 0; cr = replicate outCr 0 };
+  };
+}
 
 pub chroma-apart :
     (answer (chromaRun (1 ∷ 2 ∷ 3 ∷ []) (4 ∷ 5 ∷ []) 2 3) ≡ OutputTooSmall)
@@ -216,20 +240,27 @@ redAndBlue = record {
 }
 
 abbrev picture : ℕ → ℕ → ℕ → PixelFormat → Run
-picture w h step f =
-    given redAndBlue f w h 3 plane step (1 ∷ 2 ∷ 3 ∷ []) 7 (4 ∷ 5 ∷ []) 8
-    (replicate 17 99) (replicate 4 99) (replicate 3 99)
+picture w h step f = record {
+  job = record { set = redAndBlue; format = f; width = w; height = h; planes = 3 };
+  lent = record {
+    plane = record { bytes = plane; step = step };
+    cb = record { bytes = 1 ∷ 2 ∷ 3 ∷ []; step = 7 };
+    cr = record { bytes = 4 ∷ 5 ∷ []; step = 8 };
+    outputs = record { first = replicate 17 99; cb = replicate 4 99; cr = replicate 3 99 };
+  };
+}
 
 -- what the contract of the call says of the outputs afterwards, and of the steps handed back
 abbrev written : Run → List (List ℕ)
 written r =
-    first r ∷ chroma r (r .cb) (r .outCb) ∷ chroma r (r .cr) (r .outCr)
-    ∷ (cond (isDone (answer r)) (rowBytes r) 0 ∷ stepOf r (r .cb) ∷ stepOf r (r .cr) ∷ []) ∷ []
+    let l = r .lent in
+    first r ∷ chroma r (l .cb) (l .outputs .cb) ∷ chroma r (l .cr) (l .outputs .cr)
+    ∷ (cond (isDone (answer r)) (rowBytes r) 0 ∷ stepOf r (l .cb) ∷ stepOf r (l .cr) ∷ []) ∷ []
 
-pub written-is : (r : Run) (t : Toned) (out cb cr : List ℕ) → SetCall r t out cb cr
-    → out ∷ cb ∷ cr ∷ (t .step ∷ t .«cb_step» ∷ t .«cr_step» ∷ []) ∷ [] ≡ written r
-written-is r t out cb cr c =
-    rw (c .out-is, c .cb-is, c .cr-is, c .step-is, c .cb-step-is, c .cr-step-is)
+pub written-is : (r : Run) (t : Toned) (after : Outputs) → SetCall r t after
+    → after .first ∷ after .cb ∷ after .cr ∷ (t .step ∷ t .«cb_step» ∷ t .«cr_step» ∷ []) ∷ []
+    ≡ written r
+written-is r t after c = rw (c .first, c .cb, c .cr, c .step, c .cb-step, c .cr-step)
 
 -- a refusal: "lent memory is unchanged"
 abbrev unchanged : List (List ℕ)
@@ -297,10 +328,12 @@ first-row-within a c =
     omega (arith, copied)
 
 pub first-row-by-set : (t : Toned) (cb cr : List ℕ)
-    → SetCall (picture 2 2 9 Gray8) t (254 ∷ 253 ∷ 10 ∷ 11 ∷ replicate 13 99) cb cr → ⊥
+    → SetCall (picture 2 2 9 Gray8) t
+    (record { first = 254 ∷ 253 ∷ 10 ∷ 11 ∷ replicate 13 99; cb = cb; cr = cr })
+    → ⊥
 unfolding answered entry first tightByte rowByte toned
 first-row-by-set t cb cr c =
-    let copied : _≡_ {A = ℕ} 10 245 = ap (λ (l : List ℕ). getD l 2 0) (c .out-is) in
+    let copied : _≡_ {A = ℕ} 10 245 = ap (λ (l : List ℕ). getD l 2 0) (c .first) in
     omega (arith, copied)
 
 -- "one that copies the whole picture"
@@ -311,15 +344,17 @@ copied-within a c =
     omega (arith, copied)
 
 pub copied-by-set : (t : Toned) (cb cr : List ℕ)
-    → SetCall (picture 2 2 9 Gray8) t (1 ∷ 2 ∷ 10 ∷ 11 ∷ replicate 13 99) cb cr → ⊥
+    → SetCall (picture 2 2 9 Gray8) t
+    (record { first = 1 ∷ 2 ∷ 10 ∷ 11 ∷ replicate 13 99; cb = cb; cr = cr })
+    → ⊥
 unfolding answered entry first tightByte rowByte toned
 copied-by-set t cb cr c =
-    let copied : _≡_ {A = ℕ} 1 254 = ap (λ (l : List ℕ). getD l 0 0) (c .out-is) in
+    let copied : _≡_ {A = ℕ} 1 254 = ap (λ (l : List ℕ). getD l 0 0) (c .first) in
     omega (arith, copied)
 
 -- "a call that answers 13 on sufficient space, or some number always"
-pub not-always-refused : (a : Answer) (after : List ℕ) (t : Toned) (out cb cr : List ℕ)
-    → LutCall Gray8 2 2 9 more plane a after → SetCall (picture 2 2 9 Gray8) t out cb cr
+pub not-always-refused : (a : Answer) (new : List ℕ) (t : Toned) (after : Outputs)
+    → LutCall Gray8 2 2 9 more plane a new → SetCall (picture 2 2 9 Gray8) t after
     → (a ≡ Done) × (t .answer ≡ Done)
 unfolding answered lutAnswered
-not-always-refused a after t out cb cr c d = (c .answer-is, d .answer-is)
+not-always-refused a new t after c d = (c .answer, d .answer)

@@ -19,5 +19,5 @@ tonedWithin f w h step table plane = each (planeByte (w * bytesAPixel f) h step 
 
 -- the answer a, and the plane: toned, or on a refusal unchanged
 pub record LutCall (f : PixelFormat) (w h step : ℕ) (table old : List ℕ) (a : Answer) (new : List ℕ) : Type 0 where
-  pub answer-is : a ≡ lutAnswer f w h step (length old)
-  pub plane-is : new ≡ cond (isDone a) (tonedWithin f w h step table old) old
+  pub answer : a ≡ lutAnswer f w h step (length old)
+  pub plane : new ≡ cond (isDone a) (tonedWithin f w h step table old) old

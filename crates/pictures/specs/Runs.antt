@@ -1,10 +1,10 @@
--- A run of the set call: all that it is given, what it answers and what its outputs hold afterwards, as document 01's sections "Pictures" and
--- "When a call says no" have them. Definitions only.
+-- A run of the set call: all that it is given, what it answers and what its outputs hold
+-- afterwards, as document 01's sections "Pictures" and "When a call says no" have them. Definitions
+-- only.
 use Prim.Native.Nat.{ℕ, zero, suc, _*_, _<_}
 use mathlib.Core.Path.{_≡_}
 use mathlib.Core.Bool.{Bool, cond, _&&_}
 use mathlib.Core.List.{List, _++_}
-use mathlib.Core.Option.{Option, none, some}
 use lib.ListN.{length, getD, drop}
 use Rattle.answers.specs.declared.Answer.{Answer}
 use Rattle.answers.specs.Numbers.{isDone}
@@ -13,99 +13,82 @@ use Rattle.lists.specs.Tabulate.{filled}
 use Rattle.points.specs.declared.Point.{Point}
 use Rattle.points.specs.Order.{All, Bytes}
 use Rattle.tables.specs.Tables.{byteTable}
-use Rattle.sets.specs.declared.Curves.{Curves}
 use Rattle.sets.specs.declared.Colour.{Colour}
 use Rattle.sets.specs.declared.Colour.the-variants.{Red, Green, Blue}
 use Rattle.sets.specs.Sets.{View, viewOf, colourOf, ownOrMaster, curveChecks, setChecks}
 use Rattle.sets.specs.Carried.{carriedOf}
+use Rattle.sets.specs.Lists.{EveryList}
 use Rattle.rows.specs.Bytes.{three, rowByte}
 use Rattle.rows.specs.Rows.{tightByte}
 use Rattle.formats.specs.declared.PixelFormat.{PixelFormat}
 use Rattle.formats.specs.declared.Lengths.{Lengths}
-use Rattle.pictures.specs.declared.Toned.{Toned}
 use Rattle.formats.specs.Formats.{bytesAPixel, alphaOf, byColour}
 use Rattle.formats.specs.Checks.{chromaRead, pictureChecks}
+use Rattle.pictures.specs.declared.Job.{Job}
+use Rattle.pictures.specs.declared.Toned.{Toned}
 
 -- "A plane is its bytes together with its row step"
 pub record PlaneOf : Type 0 where
   pub bytes : List ℕ
   pub step : ℕ
 
--- all that one call of the set call is given; the outputs as they were before
-pub record Run : Type 0 where
-  pub set : Curves
-  pub format : PixelFormat
-  pub width : ℕ
-  pub height : ℕ
-  pub planes : ℕ
+-- the three outputs: of the first plane, of Cb and of Cr
+pub record Outputs : Type 0 where
+  pub first : List ℕ
+  pub cb : List ℕ
+  pub cr : List ℕ
+
+-- what is lent to a call: the planes, and the outputs as they were before it
+pub record Lent : Type 0 where
   pub plane : PlaneOf
   pub cb : PlaneOf
   pub cr : PlaneOf
-  pub out : List ℕ
-  pub outCb : List ℕ
-  pub outCr : List ℕ
+  pub outputs : Outputs
 
--- the run of a call with these arguments
-abbrev pub given : Curves → PixelFormat → ℕ → ℕ → ℕ → List ℕ → ℕ → List ℕ → ℕ → List ℕ → ℕ → List ℕ → List ℕ → List ℕ → Run
-given set format w h planes plane step cb cbStep cr crStep out outCb outCr = record {
-  set = set;
-  format = format;
-  width = w;
-  height = h;
-  planes = planes;
-  plane = record { bytes = plane; step = step };
-  cb = record { bytes = cb; step = cbStep };
-  cr = record { bytes = cr; step = crStep };
-  out = out;
-  outCb = outCb;
-  outCr = outCr;
+-- all that one call of the set call is given
+pub record Run : Type 0 where
+  pub job : Job
+  pub lent : Lent
+
+-- how many bytes each slice holds
+abbrev pub held : Lent → Lengths
+held l = record {
+  plane = length (l .plane .bytes);
+  cb = length (l .cb .bytes);
+  cr = length (l .cr .bytes);
+  out = length (l .outputs .first);
+  «out_cb» = length (l .outputs .cb);
+  «out_cr» = length (l .outputs .cr);
 }
 
--- ---- the lists of a set
--- P of the master and of each colour present
-abbrev pub OfColour : (List Point → Type 0) → Option (List Point) → Type 0
-OfColour P none = Unit {0}
-OfColour P (some l) = P l
-
-pub record EveryList (P : List Point → Type 0) (v : View) : Type 0 where
-  pub master : P (v .master)
-  pub red : OfColour P (v .red)
-  pub green : OfColour P (v .green)
-  pub blue : OfColour P (v .blue)
-
--- ---- what it is lent
--- bytes: the plane, the points and the tension are `u8` in the code, although ℕ has larger numbers
-pub record Lent (r : Run) : Type 0 where
-  pub plane : (k : ℕ) → k < length (r .plane .bytes) → getD (r .plane .bytes) k 0 < 256
-  pub points : EveryList (All Bytes) (viewOf (r .set))
-  pub tension : carriedOf (r .set .interpolation) .tension < 256
+-- what follows from the code's types, although ℕ has larger numbers: the plane, the points and the
+-- tension are `u8`
+pub record InTypes (r : Run) : Type 0 where
+  pub plane : (k : ℕ) → k < length (r .lent .plane .bytes) → getD (r .lent .plane .bytes) k 0 < 256
+  pub points : EveryList (All Bytes) (viewOf (r .job .set))
+  pub tension : carriedOf (r .job .set .interpolation) .tension < 256
 
 -- ---- what it is answered
 module _ (r : Run) where
   -- "row bytes"
   abbrev pub rowBytes : ℕ
-  rowBytes = r .width * bytesAPixel (r .format)
+  rowBytes = r .job .width * bytesAPixel (r .job .format)
 
   -- the bytes of the tight rows
   abbrev pub size : ℕ
-  size = r .height * rowBytes
+  size = r .job .height * rowBytes
 
   abbrev pub hasChroma : Bool
-  hasChroma = chromaRead (r .format)
-
-  abbrev pub held : Lengths
-  held = record {
-    plane = length (r .plane .bytes);
-    cb = length (r .cb .bytes);
-    cr = length (r .cr .bytes);
-    out = length (r .out);
-    «out_cb» = length (r .outCb);
-    «out_cr» = length (r .outCr);
-  }
+  hasChroma = chromaRead (r .job .format)
 
   -- the checks of the set call: 3 and 4 of the set's lists, then 8 to 13
+  abbrev pub checksOfPicture : List Check
+  checksOfPicture =
+      pictureChecks (r .job .format) (r .job .width) (r .job .height) (r .job .planes)
+      (r .lent .plane .step) (held (r .lent))
+
   abbrev pub runChecks : List Check
-  runChecks = setChecks curveChecks (r .set) ++ pictureChecks (r .format) (r .width) (r .height) (r .planes) (r .plane .step) held
+  runChecks = setChecks curveChecks (r .job .set) ++ checksOfPicture
 
   unfoldable pub answer : Answer
   answer = firstRefusal runChecks
@@ -134,36 +117,41 @@ abbrev pub tightRows : PixelFormat → ℕ → ℕ → ℕ → (ℕ → List ℕ
 tightRows f w h step tables plane out =
     filled (h * (w * bytesAPixel f)) (tightByte (w * bytesAPixel f) step (rowByte (bytesAPixel f) (alphaOf f) tables) plane) out
 
+-- "for YUV each chroma plane is copied whole", to the front of its output
+abbrev pub copied : PlaneOf → List ℕ → List ℕ
+copied plane out = plane .bytes ++ drop (length (plane .bytes)) out
+
 module _ (r : Run) where
   abbrev pub accepted : Bool
   accepted = isDone (answer r)
 
+  -- the first output of an accepted run
+  abbrev pub tonedRows : List ℕ
+  tonedRows =
+      tightRows (r .job .format) (r .job .width) (r .job .height) (r .lent .plane .step)
+      (tablesOf (r .job .format) (viewOf (r .job .set)))
+      (r .lent .plane .bytes) (r .lent .outputs .first)
+
   -- the first output
   unfoldable pub first : List ℕ
-  first =
-      cond accepted
-      (tightRows (r .format) (r .width) (r .height) (r .plane .step) (tablesOf (r .format) (viewOf (r .set))) (r .plane .bytes) (r .out))
-      (r .out)
+  first = cond accepted tonedRows (r .lent .outputs .first)
 
-  -- "for YUV each chroma plane is copied whole"
+  -- a chroma output: copied where there is chroma
   unfoldable pub chroma : PlaneOf → List ℕ → List ℕ
-  chroma plane out = cond (accepted && hasChroma r) (plane .bytes ++ drop (length (plane .bytes)) out) out
+  chroma plane out = cond (accepted && hasChroma r) (copied plane out) out
 
   -- "its step handed back"; zeros beside a refusal, and where there is no chroma
   abbrev pub stepOf : PlaneOf → ℕ
   stepOf plane = cond (accepted && hasChroma r) (plane .step) 0
 
--- what a call hands back: its answer and the three steps
-abbrev pub tonedOf : Answer → ℕ → ℕ → ℕ → Toned
-tonedOf a step cb cr = record { answer = a; step = step; «cb_step» = cb; «cr_step» = cr }
-
--- what a call of the set call does: what it hands back, t, and the outputs afterwards; and that it was lent bytes
-pub record SetCall (r : Run) (t : Toned) (out cb cr : List ℕ) : Type 0 where
-  pub answer-is : t .answer ≡ answer r
-  pub step-is : t .step ≡ cond (accepted r) (rowBytes r) 0
-  pub cb-step-is : t .«cb_step» ≡ stepOf r (r .cb)
-  pub cr-step-is : t .«cr_step» ≡ stepOf r (r .cr)
-  pub out-is : out ≡ first r
-  pub cb-is : cb ≡ chroma r (r .cb) (r .outCb)
-  pub cr-is : cr ≡ chroma r (r .cr) (r .outCr)
-  pub lent : Lent r
+-- what a call of the set call does: what it hands back, t, and the outputs after it; and what
+-- follows from the types of what it was given
+pub record SetCall (r : Run) (t : Toned) (after : Outputs) : Type 0 where
+  pub answer : t .answer ≡ answer r
+  pub step : t .step ≡ cond (accepted r) (rowBytes r) 0
+  pub cb-step : t .«cb_step» ≡ stepOf r (r .lent .cb)
+  pub cr-step : t .«cr_step» ≡ stepOf r (r .lent .cr)
+  pub first : after .first ≡ first r
+  pub cb : after .cb ≡ chroma r (r .lent .cb) (r .lent .outputs .cb)
+  pub cr : after .cr ≡ chroma r (r .lent .cr) (r .lent .outputs .cr)
+  pub in-types : InTypes r

@@ -11,7 +11,7 @@ ghost use Rattle.rows.specs.Rows.{Rows};
 ghost use Rattle.formats.specs.Formats.{bytesAPixel};
 ghost use Rattle.formats.specs.Checks.{Supported};
 ghost use Rattle.pictures.specs.OneTable.{LutCall};
-ghost use Rattle.pictures.specs.Runs.{given, tablesOf, tightRows, tonedOf, SetCall};
+ghost use Rattle.pictures.specs.Runs.{tablesOf, tightRows, SetCall};
 use answers::Answer;
 use answers::first_of;
 use formats::Lengths;
@@ -26,6 +26,16 @@ use sets::chosen_table;
 use tables::CurveInterpolation;
 use tables::byte_table;
 
+// What is to be toned, and by what: the set of curves, the format, the size, and how many planes
+// are given.
+pub struct Job {
+    pub set: Curves,
+    pub format: PixelFormat,
+    pub width: u32,
+    pub height: u32,
+    pub planes: usize,
+}
+
 // What the set call answers, and the row steps of its outputs.
 pub struct Toned {
     pub answer: Answer,
@@ -37,7 +47,7 @@ pub struct Toned {
 impl Toned {
     // A refusal, with zeros for the steps.
     fn refused(answer: Answer) -> Toned
-        ensures { λ r. ⌜ r ≡ tonedOf answer 0 0 0 ⌝ }
+        ensures { λ r. ⌜ r ≡ record { answer = answer; step = 0; «cb_step» = 0; «cr_step» = 0 } ⌝ }
     {
         Toned {
             answer,
@@ -57,7 +67,9 @@ pub fn apply_tone_lut(
     width: u32,
     height: u32,
 ) -> Answer
-    ensures { λ r. ⌜ LutCall format width height step table (now (plane .entry)) r (now (plane .exit)) ⌝ }
+    ensures { λ r. ⌜
+        LutCall format width height step table (now (plane .entry)) r (now (plane .exit))
+        ⌝ }
 {
     let w = width as usize;
     let h = height as usize;
@@ -89,20 +101,21 @@ fn own_table(present: bool, curve: Curve, kind: CurveInterpolation) -> [u8; 256]
 }
 
 // Tones the first plane of an accepted run: by colour, each by its own table or else the master's; or all by the master.
-fn tone_first(
-    set: Curves,
-    format: PixelFormat,
-    plane: &[u8],
-    step: usize,
-    w: usize,
-    h: usize,
-    out: &mut [u8],
-)
-    requires { ⌜ (setAnswer set ≡ Done) × Supported format ⌝ }
-    requires { ⌜ Rows w h (w * bytesAPixel format) step (length (now plane)) ⌝ }
-    requires { ⌜ h * (w * bytesAPixel format) ≤ length (now out) ⌝ }
-    ensures { λ _. ⌜ now (out .exit) ≡ tightRows format w h step (tablesOf format (viewOf set)) (now (plane .entry)) (now (out .entry)) ⌝ }
+fn tone_first(job: Job, plane: &[u8], step: usize, out: &mut [u8])
+    requires { ⌜ (setAnswer (job .set) ≡ Done) × Supported (job .format) ⌝ }
+    requires { ⌜
+        Rows (job .width) (job .height) (job .width * bytesAPixel (job .format)) step
+        (length (now plane))
+        ⌝ }
+    requires { ⌜ job .height * (job .width * bytesAPixel (job .format)) ≤ length (now out) ⌝ }
+    ensures { λ _. ⌜
+        now (out .exit)
+        ≡ tightRows (job .format) (job .width) (job .height) step
+        (tablesOf (job .format) (viewOf (job .set))) (now (plane .entry)) (now (out .entry))
+        ⌝ }
 {
+    let set = job.set;
+    let format = job.format;
     let kind = set.interpolation;
     let by_colour = format.by_colour();
     let red = by_colour & set.red.present;
@@ -115,8 +128,8 @@ fn tone_first(
     tone_rows_into(
         plane,
         step,
-        w,
-        h,
+        job.width as usize,
+        job.height as usize,
         format.bytes_a_pixel(),
         chosen_table(red, &red_table, &master_table),
         chosen_table(green, &green_table, &master_table),
@@ -127,11 +140,7 @@ fn tone_first(
 
 // Tones a picture by a set of curves into tight rows; chroma is copied. On a refusal no output changes.
 pub fn apply_pixels<'a, 'x, 'y, 'z>(
-    set: Curves,
-    format: PixelFormat,
-    width: u32,
-    height: u32,
-    planes: usize,
+    job: Job,
     plane: &'a [u8],
     step: usize,
     cb: &'a [u8],
@@ -142,10 +151,30 @@ pub fn apply_pixels<'a, 'x, 'y, 'z>(
     out_cb: &'y mut [u8],
     out_cr: &'z mut [u8],
 ) -> Toned
-    ensures { λ r. ⌜ SetCall (given set format width height planes (now (plane .entry)) step (now (cb .entry)) «cb_step» (now (cr .entry)) «cr_step» (now (out .entry)) (now («out_cb» .entry)) (now («out_cr» .entry))) r (now (out .exit)) (now («out_cb» .exit)) (now («out_cr» .exit)) ⌝ }
+    ensures { λ r. ⌜
+        SetCall (record {
+          job = job;
+          lent = record {
+            plane = record { bytes = now (plane .entry); step = step };
+            cb = record { bytes = now (cb .entry); step = «cb_step» };
+            cr = record { bytes = now (cr .entry); step = «cr_step» };
+            outputs = record {
+              first = now (out .entry);
+              cb = now («out_cb» .entry);
+              cr = now («out_cr» .entry);
+            };
+          };
+        }) r (record {
+          first = now (out .exit);
+          cb = now («out_cb» .exit);
+          cr = now («out_cr» .exit);
+        })
+        ⌝ }
 {
-    let w = width as usize;
-    let h = height as usize;
+    let set = job.set;
+    let format = job.format;
+    let w = job.width as usize;
+    let h = job.height as usize;
     let held = Lengths {
         plane: plane.len(),
         cb: cb.len(),
@@ -156,12 +185,12 @@ pub fn apply_pixels<'a, 'x, 'y, 'z>(
     };
     let answer = first_of(
         set.check(),
-        checks::picture_answer(format, w, h, planes, step, held),
+        checks::picture_answer(format, w, h, job.planes, step, held),
     );
     if !answer.is_done() {
         return Toned::refused(answer);
     }
-    tone_first(set, format, plane, step, w, h, out);
+    tone_first(job, plane, step, out);
     let row = w * format.bytes_a_pixel();
     if format.planes_read() == 3 {
         copy_bytes(cb, out_cb);

@@ -4,14 +4,14 @@
 ghost use mathlib.Core.Path.{_≡_};
 ghost use Prim.Native.Nat.{_+_, _*_, _≤_, min};
 ghost use Rattle.pictures.specs.OneTable.{LutCall};
-ghost use Rattle.pictures.specs.Runs.{given, SetCall};
+ghost use Rattle.pictures.specs.Runs.{SetCall};
 ghost use Rattle.planes.specs.Planes.{rowOf};
 use answers::Answer;
 use formats::PixelFormat;
+use pictures::Job;
 use pictures::Toned;
 use pictures::apply_pixels;
 use pictures::apply_tone_lut;
-use sets::Curves;
 
 // A plane that is read.
 pub struct Plane<'a> {
@@ -70,11 +70,7 @@ impl<'a> Plane<'a> {
 
 // The set call on planes: tones a picture by a set of curves into tight rows; chroma is copied. On a refusal no output changes.
 pub fn tone_picture<'a, 'x, 'y, 'z>(
-    set: Curves,
-    format: PixelFormat,
-    width: u32,
-    height: u32,
-    planes: usize,
+    job: Job,
     plane: Plane<'a>,
     cb: Plane<'a>,
     cr: Plane<'a>,
@@ -82,14 +78,28 @@ pub fn tone_picture<'a, 'x, 'y, 'z>(
     out_cb: &'y mut [u8],
     out_cr: &'z mut [u8],
 ) -> Toned
-    ensures { λ r. ⌜ SetCall (given set format width height planes (now (plane .entry .bytes)) (plane .entry .step) (now (cb .entry .bytes)) (cb .entry .step) (now (cr .entry .bytes)) (cr .entry .step) (now (out .entry)) (now («out_cb» .entry)) (now («out_cr» .entry))) r (now (out .exit)) (now («out_cb» .exit)) (now («out_cr» .exit)) ⌝ }
+    ensures { λ r. ⌜
+        SetCall (record {
+          job = job;
+          lent = record {
+            plane = record { bytes = now (plane .entry .bytes); step = plane .entry .step };
+            cb = record { bytes = now (cb .entry .bytes); step = cb .entry .step };
+            cr = record { bytes = now (cr .entry .bytes); step = cr .entry .step };
+            outputs = record {
+              first = now (out .entry);
+              cb = now («out_cb» .entry);
+              cr = now («out_cr» .entry);
+            };
+          };
+        }) r (record {
+          first = now (out .exit);
+          cb = now («out_cb» .exit);
+          cr = now («out_cr» .exit);
+        })
+        ⌝ }
 {
     apply_pixels(
-        set,
-        format,
-        width,
-        height,
-        planes,
+        job,
         plane.bytes,
         plane.step,
         cb.bytes,
@@ -110,7 +120,10 @@ pub fn tone_plane<'a>(
     width: u32,
     height: u32,
 ) -> Answer
-    ensures { λ r. ⌜ LutCall format width height (plane .entry .step) table (now (plane .entry .bytes)) r (now (plane .exit .0)) ⌝ }
+    ensures { λ r. ⌜
+        LutCall format width height (plane .entry .step) table (now (plane .entry .bytes)) r
+        (now (plane .exit .0))
+        ⌝ }
 {
     apply_tone_lut(plane.bytes, plane.step, table, format, width, height)
 }

@@ -18,11 +18,10 @@ use Rattle.tables.specs.Tables.{byteTable, fineTable}
 use Rattle.lookup.specs.Lookup.{lookupChecks, looked, lookedUp}
 use Rattle.formats.specs.Checks.{chromaRead}
 use Rattle.pictures.specs.OneTable.{tonedWithin}
-use Rattle.pictures.specs.Runs.{tablesOf, tightRows}
+use Rattle.pictures.specs.Runs.{Outputs, tablesOf, tightRows}
 use Rattle.formats.specs.Formats.{formatOf}
 use Rattle.tone_c.specs.Boundary.{
   pairsOf,
-  lengthsOf,
   setOf,
   copyOf,
   toneTableChecks,
@@ -35,10 +34,12 @@ use Rattle.tone_c.specs.Boundary.{
   ToneFineTable,
   ToneLookup,
   TonePlane,
+  PictureAsked,
   TonePicture,
   ToneRecordTable,
   ToneRecordCopy,
 }
+use Rattle.tone_c.specs.PictureLaws.{first-is, cb-is, cr-is}
 use Rattle.promises.specs.Checks.{Answers, answers}
 
 -- ---- the first demand, call by call
@@ -60,11 +61,10 @@ pub tone-plane : {table old new : List ℕ} {format width height step r : ℕ} �
     → Answers (tonePlaneChecks format width height step (length old)) r (new ≡ old)
 tone-plane call = answers (call .number) (λ no. rw no at (call .plane))
 
-pub tone-picture : {stored y u v oldY oldU oldV newY newU newV : List ℕ} {format width height planes step r : ℕ}
-    → TonePicture stored format width height planes y step u v oldY oldU oldV r newY newU newV
-    → Answers (tonePictureChecks stored format width height planes step (lengthsOf y u v oldY oldU oldV)) r
-    ((newY ≡ oldY) × (newU ≡ oldU) × (newV ≡ oldV))
-tone-picture call = answers (call .number) (λ no. (rw no at (call .first), rw no at (call .cb), rw no at (call .cr)))
+pub tone-picture : {asked : PictureAsked} {r : ℕ} {after : Outputs} → TonePicture asked r after
+    → Answers (tonePictureChecks asked) r (after ≡ asked .lent .outputs)
+tone-picture {r = r} call =
+    answers (call .number) (λ no. call .unchanged (λ zero. true≢false (rw zero at no)))
 
 pub tone-record-table : (stored : List ℕ) {old new : List ℕ} {r : ℕ} → ToneRecordTable stored old r new
     → Answers (toneRecordTableChecks stored (length old)) r (new ≡ old)
@@ -93,12 +93,20 @@ pub tone-plane-gives : {table old new : List ℕ} {format width height step r : 
     → new ≡ tonedWithin (formatOf format) width height step table old
 tone-plane-gives call zero = rw zero at (call .plane)
 
-pub tone-picture-gives : {stored y u v oldY oldU oldV newY newU newV : List ℕ} {format width height planes step r : ℕ}
-    → TonePicture stored format width height planes y step u v oldY oldU oldV r newY newU newV → r ≡ 0
-    → (newY ≡ tightRows (formatOf format) width height step (tablesOf (formatOf format) (setOf stored)) y oldY)
-    × (newU ≡ cond (chromaRead (formatOf format)) (u ++ drop (length u) oldU) oldU)
-    × (newV ≡ cond (chromaRead (formatOf format)) (v ++ drop (length v) oldV) oldV)
-tone-picture-gives call zero = (rw zero at (call .first), rw zero at (call .cb), rw zero at (call .cr))
+pub tone-picture-gives : {asked : PictureAsked} {r : ℕ} {after : Outputs}
+    → TonePicture asked r after → r ≡ 0
+    → let f = formatOf (asked .format) in
+    let lent = asked .lent in
+    let old = lent .outputs in
+    (after .first
+    ≡ tightRows f (asked .width) (asked .height) (lent .plane .step)
+    (tablesOf f (setOf (asked .stored))) (lent .plane .bytes) (old .first))
+    × (after .cb
+    ≡ cond (chromaRead f) (lent .cb .bytes ++ drop (length (lent .cb .bytes)) (old .cb)) (old .cb))
+    × (after .cr
+    ≡ cond (chromaRead f) (lent .cr .bytes ++ drop (length (lent .cr .bytes)) (old .cr)) (old .cr))
+tone-picture-gives call zero =
+    (rw zero at (first-is call), rw zero at (cb-is call), rw zero at (cr-is call))
 
 pub tone-record-table-gives : (stored : List ℕ) {old new : List ℕ} {r : ℕ} → ToneRecordTable stored old r new → r ≡ 0
     → new ≡ byteTable (setOf stored .kind) (setOf stored .master) ++ drop 256 old

@@ -16,19 +16,18 @@ use Rattle.points.specs.Points.{pt}
 use Rattle.tables.specs.declared.CurveInterpolation.{CurveInterpolation}
 use Rattle.tables.specs.declared.CurveInterpolation.the-variants.{Linear, MonotoneCubic}
 use Rattle.sets.specs.declared.Channel.{Channel}
-use Rattle.sets.specs.Sets.{View, setAnswer}
+use Rattle.sets.specs.Sets.{setAnswer}
 use Rattle.sets.specs.SameLaws.{Full}
 use Rattle.sets.specs.Carried.{carriedOf}
 use Rattle.rows.specs.Rows.{needed}
 use Rattle.formats.specs.Formats.{formatOf, bytesAPixel}
-use Rattle.formats.specs.declared.PixelFormat.the-variants.{Gray8}
 use Rattle.records.specs.declared.RecordRead.{RecordRead}
 use Rattle.records.specs.Format.{readRecord}
 use Rattle.records.specs.Views.{HandedBack}
-use Rattle.pictures.specs.Runs.{Run, Lent, given, first, chroma, tablesOf, tightRows}
+use Rattle.pictures.specs.Runs.{Run, InTypes, first, chroma}
 use Rattle.pictures.specs.Examples.{answered}
 use Rattle.examples.specs.Computed as Computed
-use Rattle.tone_c.specs.Boundary.{tonePictureChecks, lengthsOf, TonePicture}
+use Rattle.tone_c.specs.Boundary.{PictureAsked, runOf, tonePictureChecks, TonePicture}
 use Rattle.promises.specs.Words.{Call, Place}
 use Rattle.promises.specs.BoundaryDemand3.{
   AcceptedCall,
@@ -39,13 +38,15 @@ use Rattle.promises.specs.BoundaryDemand3.{
   IsLinear,
   NoListFalls,
 }
-use Rattle.promises.specs.Pixels.{ranOn, byte-at, here}
+use Rattle.promises.specs.Pixels.{noBytes, byte-at, ranOn, here}
 
 -- ---- a place's byte in y, and in the first output
 pub plain-bytes : (c : AcceptedCall) (p : Place)
-    → let n = bytesAPixel (formatOf (c .format)) in
-    (input c p ≡ getD (c .y) (p .row * c .step + (p .column * n + p .channel)) 0)
-    × (output c p ≡ getD (c .newY) (p .row * (c .width * n) + (p .column * n + p .channel)) 0)
+    → let n = bytesAPixel (formatOf (c .asked .format)) in
+    let y = c .asked .lent .plane in
+    let along = p .column * n + p .channel in
+    (input c p ≡ getD (y .bytes) (p .row * y .step + along) 0)
+    × (output c p ≡ getD (c .after .first) (p .row * (c .asked .width * n) + along) 0)
 plain-bytes c p = (refl, refl)
 
 -- ---- what a reader hands back: the master (0,0) alone, of a kind, in lists of 64 places
@@ -68,36 +69,46 @@ module _ (kind : CurveInterpolation) (tension : carriedOf kind .tension < 256) w
     };
   }
 
-  -- a grey pixel of 5, and its run
-  abbrev pixel : Run
-  pixel = given (handed .set) (formatOf 0) 1 1 1 (5 ∷ []) 1 [] 0 [] 0 (0 ∷ []) [] []
+  -- a grey pixel of 5, asked of the C call with a record, and its run
+  abbrev askedBy : List ℕ → PictureAsked
+  askedBy stored = record {
+    stored = stored;
+    format = 0;
+    width = 1;
+    height = 1;
+    planes = 1;
+    lent = record {
+      plane = record { bytes = 5 ∷ []; step = 1 };
+      cb = noBytes;
+      cr = noBytes;
+      outputs = record { first = 0 ∷ []; cb = []; cr = [] };
+    };
+  }
 
-  pixel-lent : Lent pixel
-  pixel-lent = record {
+  abbrev pixel : Run
+  pixel = runOf (askedBy []) (handed .set)
+
+  pixel-types : InTypes pixel
+  pixel-types = record {
     plane = byte-at (5 ∷ []) (lit< tt, tt);
     points = record { master = ((lit< tt, lit< tt), tt); red = tt; green = tt; blue = tt };
     tension = tension;
   }
 
   abbrev ran : Call
-  ran = ranOn pixel pixel-lent
+  ran = ranOn pixel pixel-types
 
   -- the same pixel by the C call, with a record that is read as this set
   abbrev IsToned : List ℕ → Type 0
-  IsToned stored =
-      TonePicture stored 0 1 1 1 (5 ∷ []) 1 [] [] (0 ∷ []) [] [] 0 (ran .out) (ran .cb) (ran .cr)
+  IsToned stored = TonePicture (askedBy stored) 0 (ran .after)
 
   toned : (stored : List ℕ) → HandedBack (readRecord stored) handed
-      → 0 ≡ numberOf (firstRefusal (tonePictureChecks stored 0 1 1 1 1
-      (lengthsOf (5 ∷ []) [] [] (0 ∷ []) [] [])))
+      → 0 ≡ numberOf (firstRefusal (tonePictureChecks (askedBy stored)))
       → IsToned stored
   unfolding answered formatOf first chroma
   toned stored read accepted = record {
     number = accepted;
-    first =
-        ap (λ (v : View). tightRows Gray8 1 1 1 (tablesOf Gray8 v) (5 ∷ []) (0 ∷ [])) (read .set);
-    cb = refl;
-    cr = refl;
+    unchanged = λ other. absurd (other refl);
     run = λ zero. record {
       handed = handed;
       toned = ran .answered;
@@ -108,27 +119,12 @@ module _ (kind : CurveInterpolation) (tension : carriedOf kind .tension < 256) w
   }
 
   abbrev called : (stored : List ℕ) → IsToned stored → AcceptedCall
-  called stored contract = record {
-    stored = stored;
-    format = 0;
-    width = 1;
-    height = 1;
-    planes = 1;
-    y = 5 ∷ [];
-    step = 1;
-    u = [];
-    v = [];
-    oldY = 0 ∷ [];
-    oldU = [];
-    oldV = [];
-    newY = ran .out;
-    newU = ran .cb;
-    newV = ran .cr;
-    contract = contract;
-  }
+  called stored contract =
+      record { asked = askedBy stored; after = ran .after; contract = contract }
 
 -- ---- the default kind left out, and named
-pub two-records-one-set : (a b : AcceptedCall) × Share a b × (a .stored ≡ b .stored → ⊥)
+pub two-records-one-set :
+    (a b : AcceptedCall) × Share a b × (a .asked .stored ≡ b .asked .stored → ⊥)
 unfolding Computed.read setAnswer formatOf needed
 two-records-one-set =
     let byte : carriedOf MonotoneCubic .tension < 256 = lit< tt in

@@ -10,10 +10,11 @@ use Rattle.points.specs.Knots.{OnLine}
 use Rattle.points.specs.Order.{NeverFalls}
 use Rattle.tables.specs.declared.CurveInterpolation.the-variants.{Linear}
 use Rattle.sets.specs.Sets.{View, viewOf}
+use Rattle.sets.specs.Lists.{EveryList}
 use Rattle.sets.specs.SameLaws.{view-same}
 use Rattle.formats.specs.Formats.{formatOf}
-use Rattle.pictures.specs.Runs.{EveryList, given, tonedBy}
-use Rattle.tone_c.specs.Boundary.{setOf, TonePicture}
+use Rattle.pictures.specs.Runs.{Outputs, tonedBy}
+use Rattle.tone_c.specs.Boundary.{setOf, PictureAsked, runOf, TonePicture}
 use Rattle.promises.specs.Words as Run
 use Rattle.promises.specs.Words.{Place, IsSpline, Nearest, HasLine}
 use Rattle.promises.specs.Demand3 as Demand
@@ -23,43 +24,29 @@ use Rattle.promises.specs.Demand3 as Demand
 -- afterwards, of which its contract holds. By demand 1, `tone-picture` of Boundary, a call answers
 -- 0 just where the documents do not refuse it
 pub record AcceptedCall : Type 0 where
-  pub stored : List ℕ
-  pub format : ℕ
-  pub width : ℕ
-  pub height : ℕ
-  pub planes : ℕ
-  pub y : List ℕ
-  pub step : ℕ
-  pub u : List ℕ
-  pub v : List ℕ
-  pub oldY : List ℕ
-  pub oldU : List ℕ
-  pub oldV : List ℕ
-  pub newY : List ℕ
-  pub newU : List ℕ
-  pub newV : List ℕ
-  pub contract :
-      TonePicture stored format width height planes y step u v oldY oldU oldV 0 newY newU newV
+  pub asked : PictureAsked
+  pub after : Outputs
+  pub contract : TonePicture asked 0 after
+
+-- the set that a call's record holds
+abbrev pub setIn : AcceptedCall → View
+setIn c = setOf (c .asked .stored)
 
 -- two calls "share one set, format and size": their records hold one set
 pub record Share (a b : AcceptedCall) : Type 0 where
-  pub set : setOf (a .stored) ≡ setOf (b .stored)
-  pub format : a .format ≡ b .format
-  pub width : a .width ≡ b .width
-  pub height : a .height ≡ b .height
+  pub set : setIn a ≡ setIn b
+  pub format : a .asked .format ≡ b .asked .format
+  pub width : a .asked .width ≡ b .asked .width
+  pub height : a .asked .height ≡ b .asked .height
 
 -- the run of the set call that a call is
 abbrev pub run : AcceptedCall → Run.Call
 run c =
     let r = c .contract .run refl in
     record {
-      given =
-          given (r .handed .set) (formatOf (c .format)) (c .width) (c .height) (c .planes)
-          (c .y) (c .step) (c .u) 0 (c .v) 0 (c .oldY) (c .oldU) (c .oldV);
+      given = runOf (c .asked) (r .handed .set);
       answered = r .toned;
-      out = c .newY;
-      cb = c .newU;
-      cr = c .newV;
+      after = c .after;
       contract = r .call;
     }
 
@@ -67,12 +54,12 @@ run c =
 -- given and what it wrote is the call's by definition
 pub record RunsAs (c : AcceptedCall) (r : Run.Call) : Type 0 where
   pub accepted : Run.Accepted r
-  pub set : viewOf (r .given .set) ≡ setOf (c .stored)
+  pub set : viewOf (r .given .job .set) ≡ setIn c
 
 pub tone-picture-run : (c : AcceptedCall) → RunsAs c (run c)
 tone-picture-run c =
     let r = c .contract .run refl in
-    record { accepted = sym (r .call .answer-is) ∙ r .done; set = r .read .set }
+    record { accepted = sym (r .call .answer) ∙ r .done; set = r .read .set }
 
 -- a byte of the plane before a call, and of the first output after it; where a byte is toned, and
 -- by which list
@@ -86,26 +73,26 @@ abbrev pub TonedAt : AcceptedCall → Place → Type 0
 TonedAt c p = Run.TonedAt (run c .given) p
 
 abbrev pub listThatTones : AcceptedCall → Place → List Point
-listThatTones c p = tonedBy (formatOf (c .format)) (setOf (c .stored)) (p .channel)
+listThatTones c p = tonedBy (formatOf (c .asked .format)) (setIn c) (p .channel)
 
 abbrev pub IsLinear : AcceptedCall → Type 0
-IsLinear c = setOf (c .stored) .kind ≡ Linear
+IsLinear c = setIn c .kind ≡ Linear
 
 abbrev pub NoListFalls : AcceptedCall → Type 0
-NoListFalls c = EveryList NeverFalls (setOf (c .stored))
+NoListFalls c = EveryList NeverFalls (setIn c)
 
 -- ---- what the run owes in the call's words
 module _ (c : AcceptedCall) where
   not-refused : Run.Accepted (run c)
   not-refused = tone-picture-run c .accepted
 
-  holds : viewOf (run c .given .set) ≡ setOf (c .stored)
+  holds : viewOf (run c .given .job .set) ≡ setIn c
   holds = tone-picture-run c .set
 
   same-list : (p : Place) → Run.listThatTones (run c .given) p ≡ listThatTones c p
-  same-list p = ap (λ (v : View). tonedBy (formatOf (c .format)) v (p .channel)) holds
+  same-list p = ap (λ (v : View). tonedBy (formatOf (c .asked .format)) v (p .channel)) holds
 
-  same-kind : Run.kindIn (run c .given) ≡ setOf (c .stored) .kind
+  same-kind : Run.kindIn (run c .given) ≡ setIn c .kind
   same-kind = ap (λ (v : View). v .kind) holds
 
 -- records that hold one set are read as the same set
@@ -150,7 +137,7 @@ line a p = rw (same-list a p) at (Demand.line (run a) p)
 
 -- "Under any kind but the three splines, a toned byte equal to the x of a point in the list that
 -- tones it comes out as that point's y."
-pub through-points : (a : AcceptedCall) → (IsSpline (setOf (a .stored) .kind) → ⊥)
+pub through-points : (a : AcceptedCall) → (IsSpline (setIn a .kind) → ⊥)
     → (p : Place) → TonedAt a p
     → (q : Point) → List·Memᴰ q (listThatTones a p) → input a p ≡ q .x → output a p ≡ q .y
 through-points a other p toned q member =
@@ -170,7 +157,7 @@ pub passed-through : (a : AcceptedCall) → Run.PassedThrough (run a)
 passed-through a = Demand.passed-through (run a) (not-refused a)
 
 -- "Dithering would break this order and has no part in the work."
-pub no-dithering : (a b : AcceptedCall) → setOf (a .stored) .kind ≡ setOf (b .stored) .kind
+pub no-dithering : (a b : AcceptedCall) → setIn a .kind ≡ setIn b .kind
     → (p q : Place) → TonedAt a p → TonedAt b q
     → listThatTones a p ≡ listThatTones b q → input a p ≡ input b q → output a p ≡ output b q
 no-dithering a b kind p q a-toned b-toned list =

@@ -26,7 +26,7 @@ use Rattle.sets.specs.Sets.{viewOf}
 use Rattle.sets.specs.SameLaws.{same-refl}
 use Rattle.rows.specs.Rows.{inRow}
 use Rattle.formats.specs.declared.PixelFormat.the-variants.{Gray8, Rgb24, Rgba, Yuv420P}
-use Rattle.pictures.specs.Runs.{Run, Lent, given}
+use Rattle.pictures.specs.Runs.{Run, InTypes}
 use Rattle.pictures.specs.Examples.{answered}
 use Rattle.examples.specs.Computed as Computed
 use Rattle.promises.specs.Words.{
@@ -56,6 +56,7 @@ use Rattle.promises.specs.Pixels.{
   AreBytes,
   own,
   linear,
+  noBytes,
   byte-at,
   runOf,
   ranOn,
@@ -151,12 +152,24 @@ order-wants-linear =
 -- .. and so does a colour that falls, where the master never does: red in a pixel of Rgb24, by the
 -- straight master and a red list of its own
 abbrev reddened : ℕ → Run
-reddened v =
-    given (linear straightCurve (own (falling .list))) Rgb24 1 1 1 (v ∷ 0 ∷ 0 ∷ []) 3 [] 0 [] 0
-    (0 ∷ 0 ∷ 0 ∷ []) [] []
+reddened v = record {
+  job = record {
+    set = linear straightCurve (own (falling .list));
+    format = Rgb24;
+    width = 1;
+    height = 1;
+    planes = 1;
+  };
+  lent = record {
+    plane = record { bytes = v ∷ 0 ∷ 0 ∷ []; step = 3 };
+    cb = noBytes;
+    cr = noBytes;
+    outputs = record { first = 0 ∷ 0 ∷ 0 ∷ []; cb = []; cr = [] };
+  };
+}
 
-reddened-lent : (v : ℕ) → v < 256 → Lent (reddened v)
-reddened-lent v byte = record {
+reddened-types : (v : ℕ) → v < 256 → InTypes (reddened v)
+reddened-types v byte = record {
   plane = byte-at (v ∷ 0 ∷ 0 ∷ []) (byte, (lit< tt, (lit< tt, tt)));
   points = record { master = straightLine .bytes; red = falling .bytes; green = tt; blue = tt };
   tension = lit< tt;
@@ -173,15 +186,15 @@ reddened-below zero = lit≤ tt
 reddened-below (suc i) = le-refl (getD (0 ∷ 0 ∷ []) i 0)
 
 abbrev MasterNeverFalls : Run → Type 0
-MasterNeverFalls r = NeverFalls (viewOf (r .set) .master)
+MasterNeverFalls r = NeverFalls (viewOf (r .job .set) .master)
 
 pub order-wants-no-colour-to-fall : OrderUnder (λ r. IsLinear r × MasterNeverFalls r) → ⊥
 unfolding answered
 order-wants-no-colour-to-fall order =
-    let a = ranOn (reddened 0) (reddened-lent 0 (lit< tt)) in
-    let b = ranOn (reddened 255) (reddened-lent 255 (lit< tt)) in
+    let a = ranOn (reddened 0) (reddened-types 0 (lit< tt)) in
+    let b = ranOn (reddened 255) (reddened-types 255 (lit< tt)) in
     let share : Share a b =
-    record { set = same-refl (reddened 0 .set); format = refl; width = refl; height = refl } in
+    record { set = same-refl (reddened 0 .job .set); format = refl; width = refl; height = refl } in
     omega (
       arith,
       order a b share refl refl (refl, (lit≤ tt, tt))
@@ -299,30 +312,48 @@ rows-alone-wants-alpha claim =
       passed-through a refl .alpha alphaHere (alpha-within 1) (λ t. t .not-alpha refl),
       passed-through b refl .alpha alphaHere (alpha-within 2) (λ t. t .not-alpha refl),
       ap (λ (l : List ℕ). getD l 3 0) same,
-      getD-take 4 (a .out) 3 0 (lit< tt),
-      getD-take 4 (b .out) 3 0 (lit< tt),
+      getD-take 4 (a .after .first) 3 0 (lit< tt),
+      getD-take 4 (b .after .first) 3 0 (lit< tt),
     )
 
 -- .. and so are both chroma planes
 abbrev tinted : ℕ → ℕ → Run
-tinted cb cr =
-    given (linear straightCurve (own straightCurve)) Yuv420P 1 1 3 (5 ∷ []) 1 (cb ∷ []) 1 (cr ∷ []) 1
-    (0 ∷ []) (0 ∷ []) (0 ∷ [])
+tinted cb cr = record {
+  job = record {
+    set = linear straightCurve (own straightCurve);
+    format = Yuv420P;
+    width = 1;
+    height = 1;
+    planes = 3;
+  };
+  lent = record {
+    plane = record { bytes = 5 ∷ []; step = 1 };
+    cb = record { bytes = cb ∷ []; step = 1 };
+    cr = record { bytes = cr ∷ []; step = 1 };
+    outputs = record { first = 0 ∷ []; cb = 0 ∷ []; cr = 0 ∷ [] };
+  };
+}
 
-tinted-lent : (cb cr : ℕ) → Lent (tinted cb cr)
-tinted-lent cb cr = record {
+tinted-types : (cb cr : ℕ) → InTypes (tinted cb cr)
+tinted-types cb cr = record {
   plane = byte-at (5 ∷ []) (lit< tt, tt);
   points = record { master = straightLine .bytes; red = straightLine .bytes; green = tt; blue = tt };
   tension = lit< tt;
 }
 
 abbrev ranTinted : ℕ → ℕ → Call
-ranTinted cb cr = ranOn (tinted cb cr) (tinted-lent cb cr)
+ranTinted cb cr = ranOn (tinted cb cr) (tinted-types cb cr)
 
 -- "rows alone", with alike for what is asked of chroma
 abbrev RowsAloneUnder : (Call → Call → Type 0) → Type 0
 RowsAloneUnder Alike =
     (a b : Call) → Share a b → Accepted a → Accepted b → AlikeInRows a b → Alike a b → WriteTheSame a b
+
+abbrev SameCb : Call → Call → Type 0
+SameCb a b = a .given .lent .cb .bytes ≡ b .given .lent .cb .bytes
+
+abbrev SameCr : Call → Call → Type 0
+SameCr a b = a .given .lent .cr .bytes ≡ b .given .lent .cr .bytes
 
 tinted-the-same : (Alike : Call → Call → Type 0) (cb cr other-cb other-cr : ℕ)
     → Alike (ranTinted cb cr) (ranTinted other-cb other-cr) → RowsAloneUnder Alike
@@ -330,21 +361,26 @@ tinted-the-same : (Alike : Call → Call → Type 0) (cb cr other-cb other-cr : 
 unfolding answered
 tinted-the-same Alike cb cr other-cb other-cr alike claim =
     claim (ranTinted cb cr) (ranTinted other-cb other-cr)
-    (record { set = same-refl (tinted cb cr .set); format = refl; width = refl; height = refl })
+    (record {
+      set = same-refl (tinted cb cr .job .set);
+      format = refl;
+      width = refl;
+      height = refl;
+    })
     refl refl (λ p w. refl) alike
 
-pub rows-alone-wants-cb : RowsAloneUnder (λ a b. a .given .cr .bytes ≡ b .given .cr .bytes) → ⊥
+pub rows-alone-wants-cb : RowsAloneUnder SameCr → ⊥
 unfolding answered
 rows-alone-wants-cb claim =
-    let same = tinted-the-same (λ a b. a .given .cr .bytes ≡ b .given .cr .bytes) 1 3 2 3 refl claim .cb in
+    let same = tinted-the-same SameCr 1 3 2 3 refl claim .cb in
     let alike : _≡_ {A = List ℕ} (1 ∷ []) (2 ∷ []) =
     sym (passed-through (ranTinted 1 3) refl .cb refl) ∙ same ∙ passed-through (ranTinted 2 3) refl .cb refl in
     omega (arith, ap (λ (l : List ℕ). getD l 0 0) alike)
 
-pub rows-alone-wants-cr : RowsAloneUnder (λ a b. a .given .cb .bytes ≡ b .given .cb .bytes) → ⊥
+pub rows-alone-wants-cr : RowsAloneUnder SameCb → ⊥
 unfolding answered
 rows-alone-wants-cr claim =
-    let same = tinted-the-same (λ a b. a .given .cb .bytes ≡ b .given .cb .bytes) 3 1 3 2 refl claim .cr in
+    let same = tinted-the-same SameCb 3 1 3 2 refl claim .cr in
     let alike : _≡_ {A = List ℕ} (1 ∷ []) (2 ∷ []) =
     sym (passed-through (ranTinted 3 1) refl .cr refl) ∙ same ∙ passed-through (ranTinted 3 2) refl .cr refl in
     omega (arith, ap (λ (l : List ℕ). getD l 0 0) alike)
@@ -366,7 +402,7 @@ padded = record {
 
 pub rows-alone-with-padding :
     (a b : Call) × Share a b × Accepted a × Accepted b × AlikeInRows a b × AlikeInChroma a b
-    × (a .given .plane .step < b .given .plane .step) × IsPadding (b .given) 1
+    × (a .given .lent .plane .step < b .given .lent .plane .step) × IsPadding (b .given) 1
 unfolding answered inRow
 rows-alone-with-padding =
     let a-bytes : AreBytes (unpadded .plane) = (lit< tt, (lit< tt, tt)) in

@@ -19,7 +19,7 @@ use Rattle.sets.specs.Same.{Same}
 use Rattle.sets.specs.SameLaws.{same-refl}
 use Rattle.formats.specs.declared.PixelFormat.{PixelFormat}
 use Rattle.formats.specs.declared.PixelFormat.the-variants.{Gray8, Rgb24, Rgba}
-use Rattle.pictures.specs.Runs.{Run, Lent, first, given}
+use Rattle.pictures.specs.Runs.{Run, InTypes, first}
 use Rattle.pictures.specs.Examples.{answered}
 use Rattle.examples.specs.Computed as Computed
 use Rattle.promises.specs.Words.{
@@ -43,7 +43,7 @@ use Rattle.promises.specs.Words.{
 }
 use Rattle.promises.specs.Demand3.{exact, through-points}
 use Rattle.promises.specs.ControlsOfWords.{no-splines}
-use Rattle.promises.specs.Pixels.{own, linear, byte-at, ranOn, here}
+use Rattle.promises.specs.Pixels.{own, linear, noBytes, byte-at, ranOn, here}
 
 -- ---- runs
 -- the straight master with a red list of zeros; and zeros for master
@@ -58,14 +58,26 @@ straight-bytes = ((lit< tt, lit< tt), ((lit< tt, lit< tt), tt))
 
 -- a picture of one pixel at most, whose red or grey is v, with 9 where the output's first byte was
 abbrev pixel : List Point → PixelFormat → ℕ → ℕ → ℕ → ℕ → Run
-pixel master format width height step v =
-    given (linear master (own zeros)) format width height 1 (v ∷ 0 ∷ 0 ∷ 7 ∷ []) step [] 0 [] 0
-    (9 ∷ 8 ∷ 8 ∷ 8 ∷ []) [] []
+pixel master format width height step v = record {
+  job = record {
+    set = linear master (own zeros);
+    format = format;
+    width = width;
+    height = height;
+    planes = 1;
+  };
+  lent = record {
+    plane = record { bytes = v ∷ 0 ∷ 0 ∷ 7 ∷ []; step = step };
+    cb = noBytes;
+    cr = noBytes;
+    outputs = record { first = 9 ∷ 8 ∷ 8 ∷ 8 ∷ []; cb = []; cr = [] };
+  };
+}
 
 module _ (master : List Point) (bytes : All Bytes master) (format : PixelFormat)
     (width height step v : ℕ) (byte : v < 256) where
-  pixel-lent : Lent (pixel master format width height step v)
-  pixel-lent = record {
+  pixel-types : InTypes (pixel master format width height step v)
+  pixel-types = record {
     plane = byte-at (v ∷ 0 ∷ 0 ∷ 7 ∷ []) (byte, (lit< tt, (lit< tt, (lit< tt, tt))));
     points = record {
       master = rw (take-length master) bytes;
@@ -77,7 +89,7 @@ module _ (master : List Point) (bytes : All Bytes master) (format : PixelFormat)
   }
 
   abbrev ranPixel : Call
-  ranPixel = ranOn (pixel master format width height step v) pixel-lent
+  ranPixel = ranOn (pixel master format width height step v) pixel-types
 
 linear-is-no-spline : IsSpline Linear → ⊥
 linear-is-no-spline = no-splines 0 .0
@@ -150,16 +162,16 @@ abbrev noRows : Call
 noRows = ranPixel straightCurve straight-bytes Gray8 1 0 1 255 (lit< tt)
 
 abbrev SameSet : Call → Call → Type 0
-SameSet a b = Same (a .given .set) (b .given .set)
+SameSet a b = Same (a .given .job .set) (b .given .job .set)
 
 abbrev SameFormat : Call → Call → Type 0
-SameFormat a b = a .given .format ≡ b .given .format
+SameFormat a b = a .given .job .format ≡ b .given .job .format
 
 abbrev SameWidth : Call → Call → Type 0
-SameWidth a b = a .given .width ≡ b .given .width
+SameWidth a b = a .given .job .width ≡ b .given .job .width
 
 abbrev SameHeight : Call → Call → Type 0
-SameHeight a b = a .given .height ≡ b .given .height
+SameHeight a b = a .given .job .height ≡ b .given .job .height
 
 pub order-wants-one-set : OrderSharing (λ a b. SameFormat a b × SameWidth a b × SameHeight a b) → ⊥
 unfolding answered
@@ -177,7 +189,7 @@ pub order-wants-one-format : OrderSharing (λ a b. SameSet a b × SameWidth a b 
 unfolding answered
 order-wants-one-format =
     sharing-refuted (λ a b. SameSet a b × SameWidth a b × SameHeight a b) otherFormat
-    (same-refl (white .given .set), refl, refl) refl refl
+    (same-refl (white .given .job .set), refl, refl) refl refl
     (no-list-falls Rgb24 1 1 3 255) refl
     (omega (
       arith,
@@ -193,14 +205,14 @@ pub order-wants-one-width : OrderSharing (λ a b. SameSet a b × SameFormat a b 
 unfolding answered
 order-wants-one-width =
     sharing-refuted (λ a b. SameSet a b × SameFormat a b × SameHeight a b) noColumns
-    (same-refl (white .given .set), refl, refl) refl refl
+    (same-refl (white .given .job .set), refl, refl) refl refl
     (no-list-falls Gray8 0 1 1 255) refl (omega (arith, exact noColumns refl .past 0 (lit≤ tt)))
 
 pub order-wants-one-height : OrderSharing (λ a b. SameSet a b × SameFormat a b × SameWidth a b) → ⊥
 unfolding answered
 order-wants-one-height =
     sharing-refuted (λ a b. SameSet a b × SameFormat a b × SameWidth a b) noRows
-    (same-refl (white .given .set), refl, refl) refl refl
+    (same-refl (white .given .job .set), refl, refl) refl refl
     (no-list-falls Gray8 1 0 1 255) refl (omega (arith, exact noRows refl .past 0 (lit≤ tt)))
 
 -- ---- "neither of which the documents refuse": a row step of 0 is refused, and the output stays 9
@@ -219,7 +231,7 @@ shares : (step other v w : ℕ) (v-byte : v < 256) (w-byte : w < 256)
     → Share (ranPixel straightCurve straight-bytes Gray8 1 1 step v v-byte)
     (ranPixel straightCurve straight-bytes Gray8 1 1 other w w-byte)
 shares step other v w v-byte w-byte =
-    record { set = same-refl (white .given .set); format = refl; width = refl; height = refl }
+    record { set = same-refl (white .given .job .set); format = refl; width = refl; height = refl }
 
 -- each clause, with A for what it asks of a run, or of the first of two, and B of the second
 abbrev Asked : Type 1
@@ -270,8 +282,8 @@ written-apart same =
     omega (
       arith,
       ap (λ (l : List ℕ). getD l 0 0) (same .out),
-      getD-take 1 (white .out) 0 0 (lit< tt),
-      getD-take 1 (refused 255 (lit< tt) .out) 0 0 (lit< tt),
+      getD-take 1 (white .after .first) 0 0 (lit< tt),
+      getD-take 1 (refused 255 (lit< tt) .after .first) 0 0 (lit< tt),
       white-output,
       refused-output 255 (lit< tt),
     )
@@ -298,8 +310,8 @@ rows-alone-wants-one-set claim =
     omega (
       arith,
       ap (λ (l : List ℕ). getD l 0 0) same,
-      getD-take 1 (white .out) 0 0 (lit< tt),
-      getD-take 1 (otherSet .out) 0 0 (lit< tt),
+      getD-take 1 (white .after .first) 0 0 (lit< tt),
+      getD-take 1 (otherSet .after .first) 0 0 (lit< tt),
       white-output,
       through-points otherSet refl linear-is-no-spline here (grey-toned zeros 1 255) (pt 255 0)
           (List·Memᴰ·tail (List·Memᴰ·head refl)) refl,

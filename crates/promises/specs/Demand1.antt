@@ -37,9 +37,11 @@ use Rattle.writing.specs.Cases.{write-answer, write-unchanged}
 use Rattle.writing.specs.Contracts.{Wrote}
 use Rattle.formats.specs.declared.PixelFormat.{PixelFormat}
 use Rattle.formats.specs.Checks.{lutChecks, lutAnswer}
+use Rattle.pictures.specs.declared.Job.{Job}
 use Rattle.pictures.specs.declared.Toned.{Toned}
 use Rattle.pictures.specs.OneTable.{LutCall}
-use Rattle.pictures.specs.Runs.{PlaneOf, Run, given, runChecks, answer, first, chroma, SetCall}
+use Rattle.pictures.specs.Runs.{PlaneOf, Outputs, Run, runChecks, answer, SetCall}
+use Rattle.pictures.specs.RunLaws.{refused-outputs}
 use Rattle.text.specs.declared.Text.{Text}
 use Rattle.text.specs.Text.{refusalText, printed, textOf}
 use Rattle.promises.specs.Checks.{Answers, answers}
@@ -103,7 +105,7 @@ pub apply-tone-lut : {format : PixelFormat} {width height step : ℕ} {table old
     → LutCall format width height step table old r new
     → Answers (lutChecks format width height step (length old)) (numberOf r) (new ≡ old)
 unfolding lutAnswer
-apply-tone-lut call = answers (ap numberOf (call .answer-is)) (λ no. rw no at (call .plane-is))
+apply-tone-lut call = answers (ap numberOf (call .answer)) (λ no. rw no at (call .plane))
 
 -- the same on a plane, `planes::tone_plane`
 pub tone-plane : {plane : PlaneOf} {format : PixelFormat} {width height : ℕ} {table new : List ℕ}
@@ -118,20 +120,17 @@ unfolding answer
 of-run run = refl
 
 -- `apply_pixels`
-pub apply-pixels : {run : Run} {r : Toned} {out cb cr : List ℕ} → SetCall run r out cb cr
-    → Answers (runChecks run) (numberOf (r .answer)) ((out ≡ run .out) × (cb ≡ run .outCb) × (cr ≡ run .outCr))
-unfolding first chroma
+pub apply-pixels : {run : Run} {r : Toned} {after : Outputs} → SetCall run r after
+    → Answers (runChecks run) (numberOf (r .answer)) (after ≡ run .lent .outputs)
 apply-pixels {run} call =
-    answers (ap numberOf (call .answer-is ∙ of-run run))
-    (λ no. let n = rw (call .answer-is) at no in (rw n at (call .out-is), rw n at (call .cb-is), rw n at (call .cr-is)))
+    answers (ap numberOf (call .answer ∙ of-run run)) (λ no. refused-outputs call no)
 
 -- the same on planes, `planes::tone_picture`
-pub tone-picture : {set : Curves} {format : PixelFormat} {width height planes : ℕ}
-    {plane cb cr : PlaneOf} {out outCb outCr : List ℕ}
-    {r : Toned} {newOut newCb newCr : List ℕ}
-    → let run = given set format width height planes (plane .bytes) (plane .step) (cb .bytes)
-    (cb .step) (cr .bytes) (cr .step) out outCb outCr in
-    SetCall run r newOut newCb newCr
-    → Answers (runChecks run) (numberOf (r .answer))
-    ((newOut ≡ out) × (newCb ≡ outCb) × (newCr ≡ outCr))
+pub tone-picture : {job : Job} {plane cb cr : PlaneOf} {outputs : Outputs}
+    {r : Toned} {after : Outputs}
+    → let run : Run = record {
+      job = job;
+      lent = record { plane = plane; cb = cb; cr = cr; outputs = outputs };
+    } in
+    SetCall run r after → Answers (runChecks run) (numberOf (r .answer)) (after ≡ outputs)
 tone-picture call = apply-pixels call

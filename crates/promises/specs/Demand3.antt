@@ -61,8 +61,10 @@ pub rows-alone : (a b : Call) → Share a b → Accepted a → Accepted b → Al
 rows-alone = Fact.same-bytes
 
 -- where planes of one row step that differ in their padding alone are alike in their rows
-pub padding-apart : (a b : Call) → Share a b → Accepted a → a .given .plane .step ≡ b .given .plane .step
-    → ((k : ℕ) → (IsPadding (a .given) k → ⊥) → getD (a .given .plane .bytes) k 0 ≡ getD (b .given .plane .bytes) k 0)
+pub padding-apart : (a b : Call) → Share a b → Accepted a
+    → a .given .lent .plane .step ≡ b .given .lent .plane .step
+    → ((k : ℕ) → (IsPadding (a .given) k → ⊥)
+    → getD (a .given .lent .plane .bytes) k 0 ≡ getD (b .given .lent .plane .bytes) k 0)
     → AlikeInRows a b
 padding-apart = Fact.alike-but-padding
 

@@ -51,12 +51,12 @@ one-copy plane before a b c d =
 
 -- the byte of a run's plane at a place
 abbrev inputOf : Run → Place → ℕ
-inputOf r p = getD (r .plane .bytes) (inPlane r p) 0
+inputOf r p = getD (r .lent .plane .bytes) (inPlane r p) 0
 
 -- ---- a picture: of two runs on the same, by what is said of its bytes
 module _ (a b : Call) (same : a .given ≡ b .given) (c : ExactPicture a) (d : ExactPicture b) where
   one-byte : (p : Place) → Within (a .given) p → output a p ≡ output b p
-  one-byte p w = elim (ℕ-discrete (p .channel) (alphaOf (a .given .format))) [
+  one-byte p w = elim (ℕ-discrete (p .channel) (alphaOf (a .given .job .format))) [
     | yes alpha ↦
         c .alpha p w alpha ∙ ap (λ (r : Run). inputOf r p) same
         ∙ sym (d .alpha p (rw (← same) w) (rw (← same) alpha))
@@ -67,38 +67,40 @@ module _ (a b : Call) (same : a .given ≡ b .given) (c : ExactPicture a) (d : E
   ]
 
   one-index : (p : Place) (k : ℕ) → Within (a .given) p → inOutput (a .given) p ≡ k
-      → getD (a .out) k 0 ≡ getD (b .out) k 0
+      → getD (a .after .first) k 0 ≡ getD (b .after .first) k 0
   one-index p k w e =
-      ap (λ (i : ℕ). getD (a .out) i 0) (sym e) ∙ one-byte p w
-      ∙ ap (λ (i : ℕ). getD (b .out) i 0) (ap (λ (r : Run). inOutput r p) (sym same) ∙ e)
+      ap (λ (i : ℕ). getD (a .after .first) i 0) (sym e) ∙ one-byte p w
+      ∙ ap (λ (i : ℕ). getD (b .after .first) i 0) (ap (λ (r : Run). inOutput r p) (sym same) ∙ e)
 
-  pub one-picture : a .out ≡ b .out
+  pub one-picture : a .after .first ≡ b .after .first
   one-picture =
-      ext-getD 0 (a .out) (b .out)
-      (c .long ∙ ap (λ (r : Run). length (r .out)) same ∙ sym (d .long))
+      ext-getD 0 (a .after .first) (b .after .first)
+      (c .long ∙ ap (λ (r : Run). length (r .lent .outputs .first)) same ∙ sym (d .long))
       (λ k h. elim (decLt k (size (a .given))) [
         | yes inside ↦
             let place = place-of (a .given) k inside in
             one-index (place .0) k (place .1) (place .2)
         | no past ↦
-            c .past k (omega arith) ∙ ap (λ (r : Run). getD (r .out) k 0) same
+            c .past k (omega arith) ∙ ap (λ (r : Run). getD (r .lent .outputs .first) k 0) same
             ∙ sym (d .past k (omega (arith, ap size same)))
       ])
 
-  pub one-chroma : (a .cb ≡ b .cb) × (a .cr ≡ b .cr)
+  pub one-chroma : (a .after .cb ≡ b .after .cb) × (a .after .cr ≡ b .after .cr)
   one-chroma =
       by-test (hasChroma (a .given))
       (λ t. (
-        one-copy (a .given .cb .bytes) (a .given .outCb) (a .cb) (b .cb) (c .cb t)
+        one-copy (a .given .lent .cb .bytes) (a .given .lent .outputs .cb)
+            (a .after .cb) (b .after .cb) (c .cb t)
             (rw same (d .cb (rw (← same) t))),
-        one-copy (a .given .cr .bytes) (a .given .outCr) (a .cr) (b .cr) (c .cr t)
+        one-copy (a .given .lent .cr .bytes) (a .given .lent .outputs .cr)
+            (a .after .cr) (b .after .cr) (c .cr t)
             (rw same (d .cr (rw (← same) t))),
       ))
       (λ t.
       let a-none : IsYuv (a .given) → ⊥ = λ u. false≢true (sym t ∙ u) in
       let b-none : IsYuv (b .given) → ⊥ = rw (← same) a-none in (
-        c .other-cb a-none ∙ ap (λ (r : Run). r .outCb) same ∙ sym (d .other-cb b-none),
-        c .other-cr a-none ∙ ap (λ (r : Run). r .outCr) same ∙ sym (d .other-cr b-none),
+        c .other-cb a-none ∙ ap (λ (r : Run). r .lent .outputs .cb) same ∙ sym (d .other-cb b-none),
+        c .other-cr a-none ∙ ap (λ (r : Run). r .lent .outputs .cr) same ∙ sym (d .other-cr b-none),
       ))
 
 -- ---- a plane toned by one table
@@ -146,22 +148,25 @@ pub handed-back : (a : Call) → ExactPicture a
 handed-back a e = (e .done, e .step)
 
 pub steps-handed-back : (a : Call) → PassedThrough a → hasChroma (a .given) ≡ true
-    → (a .answered .«cb_step» ≡ a .given .cb .step) × (a .answered .«cr_step» ≡ a .given .cr .step)
+    → (a .answered .«cb_step» ≡ a .given .lent .cb .step)
+    × (a .answered .«cr_step» ≡ a .given .lent .cr .step)
 steps-handed-back a p yuv = (p .cb-step yuv, p .cr-step yuv)
 
 pub every-place-held : (a : Call) → ExactPicture a → (p : Place) → Within (a .given) p
-    → (inPlane (a .given) p < length (a .given .plane .bytes))
-    × (inOutput (a .given) p < length (a .out))
+    → (inPlane (a .given) p < length (a .given .lent .plane .bytes))
+    × (inOutput (a .given) p < length (a .after .first))
 every-place-held a e p w = (e .in-plane p w, e .in-output p w)
 
 -- ---- both chroma planes
 pub chroma-copied : (a : Call) → PassedThrough a → hasChroma (a .given) ≡ true
-    → (take (length (a .given .cb .bytes)) (a .cb) ≡ a .given .cb .bytes)
-    × (take (length (a .given .cr .bytes)) (a .cr) ≡ a .given .cr .bytes)
+    → (take (length (a .given .lent .cb .bytes)) (a .after .cb) ≡ a .given .lent .cb .bytes)
+    × (take (length (a .given .lent .cr .bytes)) (a .after .cr) ≡ a .given .lent .cr .bytes)
 chroma-copied a p yuv = (p .cb yuv, p .cr yuv)
 
 pub chroma-the-same : (a b : Call) → WriteTheSame a b → hasChroma (a .given) ≡ true
     → hasChroma (b .given) ≡ true
-    → (take (length (a .given .cb .bytes)) (a .cb) ≡ take (length (b .given .cb .bytes)) (b .cb))
-    × (take (length (a .given .cr .bytes)) (a .cr) ≡ take (length (b .given .cr .bytes)) (b .cr))
+    → (take (length (a .given .lent .cb .bytes)) (a .after .cb)
+    ≡ take (length (b .given .lent .cb .bytes)) (b .after .cb))
+    × (take (length (a .given .lent .cr .bytes)) (a .after .cr)
+    ≡ take (length (b .given .lent .cr .bytes)) (b .after .cr))
 chroma-the-same a b w a-yuv b-yuv = (rw (a-yuv, b-yuv) at (w .cb), rw (a-yuv, b-yuv) at (w .cr))

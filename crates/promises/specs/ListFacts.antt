@@ -26,11 +26,11 @@ use Rattle.sets.specs.declared.Colour.{Colour}
 use Rattle.sets.specs.declared.Colour.the-variants.{Red, Green, Blue}
 use Rattle.sets.specs.Carried.{carriedOf, LegalKind}
 use Rattle.sets.specs.Sets.{View, colourOf, ownOrMaster}
-use Rattle.sets.specs.Legal.{LegalList, LegalColour, Legal}
+use Rattle.sets.specs.Lists.{OfColour, EveryList}
 use Rattle.rows.specs.Bytes.{through}
 use Rattle.formats.specs.declared.PixelFormat.{PixelFormat}
 use Rattle.formats.specs.Formats.{byColour}
-use Rattle.pictures.specs.Runs.{OfColour, EveryList, listFor, tablesOf, tonedBy}
+use Rattle.pictures.specs.Runs.{listFor, tablesOf, tonedBy}
 use Rattle.pictures.specs.RunLaws.{tables-of}
 use Rattle.promises.specs.Words.{IsSpline}
 
@@ -53,19 +53,6 @@ module _ (P : List Point → Type 0) where
   of-toning-list f v every zero = of-list f v every Red
   of-toning-list f v every (suc zero) = of-list f v every Green
   of-toning-list f v every (suc (suc j)) = of-list f v every Blue
-
--- every list of a set that passed its check is legal
-legal-colour : (o : Option (List Point)) → LegalColour o → OfColour LegalList o
-legal-colour none h = tt
-legal-colour (some l) h = h
-
-pub legal-lists : (v : View) → Legal v → EveryList LegalList v
-legal-lists v h = record {
-  master = h .master;
-  red = legal-colour (v .red) (h .red);
-  green = legal-colour (v .green) (h .green);
-  blue = legal-colour (v .blue) (h .blue);
-}
 
 -- the table that tones a channel is that of its list
 pub toning-table : (f : PixelFormat) (v : View) (j x : ℕ) → x < 256 → through (tablesOf f v j) x ≡ entryOf (v .kind) (tonedBy f v j) x

@@ -68,11 +68,11 @@ use Rattle.promises.specs.Words.{
   writtenChroma,
   WriteTheSame,
 }
-use Rattle.promises.specs.ListFacts.{of-toning-list, legal-lists, toning-table, no-spline}
+use Rattle.promises.specs.ListFacts.{of-toning-list, toning-table, no-spline}
 
 -- the tables of a run by channel
 abbrev tablesIn : Run → ℕ → List ℕ
-tablesIn r = tablesOf (r .format) (viewOf (r .set))
+tablesIn r = tablesOf (r .job .format) (viewOf (r .job .set))
 
 -- ---- lists and places
 -- past a list that was copied to the front of another
@@ -91,10 +91,10 @@ split-index m n k h =
 -- every byte of the tight rows has a place
 pub place-of : (r : Run) (k : ℕ) → k < size r → (p : Place) × Within r p × (inOutput r p ≡ k)
 place-of r k h =
-    let n = bytesAPixel (r .format) in
+    let n = bytesAPixel (r .job .format) in
     let row = rowBytes r in
-    let of-rows = split-index (r .height) row k h in
-    let of-row = split-index (r .width) n (k % row) (of-rows .1) in (
+    let of-rows = split-index (r .job .height) row k h in
+    let of-row = split-index (r .job .width) n (k % row) (of-rows .1) in (
       record { row = k / row; column = k % row / n; channel = k % row % n },
       record { row = of-rows .0; column = of-row .0; channel = of-row .1 },
       rw (div-add-mod' (k % row) n) (div-add-mod' k row),
@@ -102,7 +102,12 @@ place-of r k h =
 
 -- a place lies in its row
 along-row : (r : Run) (p : Place) → Within r p → along r p < rowBytes r
-along-row r p w = omega (arith, mul-room (p .column) (r .width) (bytesAPixel (r .format)) (w .column), w .channel)
+along-row r p w =
+    omega (
+      arith,
+      mul-room (p .column) (r .job .width) (bytesAPixel (r .job .format)) (w .column),
+      w .channel,
+    )
 
 -- nearest to n / d, without the fraction
 whole-nearest : (b n d : ℕ) → Whole.Nearest b (frac n 0 d) → Nearest n d b
@@ -113,17 +118,19 @@ module _ (c : Call) where
   -- a place past the plane's end reads as 0
   input-byte : (p : Place) → input c p < 256
   input-byte p =
-      let plane = c .given .plane .bytes in
+      let plane = c .given .lent .plane .bytes in
       let k = inPlane (c .given) p in
       elim (decLt k (length plane)) [
-        | yes inside ↦ c .contract .lent .plane k inside
+        | yes inside ↦ c .contract .in-types .plane k inside
         | no past ↦
             let none : getD plane k 0 ≡ 0 = List·getD-eq-default plane 0 (omega (arith, past)) in
             omega (arith, none)
       ]
 
   list-bytes : (p : Place) → All Bytes (listThatTones (c .given) p)
-  list-bytes p = of-toning-list (All Bytes) (c .given .format) (viewOf (c .given .set)) (c .contract .lent .points) (p .channel)
+  list-bytes p =
+      of-toning-list (All Bytes) (c .given .job .format) (viewOf (c .given .job .set))
+      (c .contract .in-types .points) (p .channel)
 
   pub line : (p : Place) → HasLine (listThatTones (c .given) p) (input c p)
   line p =
@@ -142,49 +149,67 @@ module _ (c : Call) (ok : Accepted c) where
   not-refused : accepted (c .given) ≡ true
   not-refused = rw ok
 
-  out-filled : c .out ≡ filled (size (c .given))
-      (tightByte (rowBytes (c .given)) (c .given .plane .step)
-      (rowByte (bytesAPixel (c .given .format)) (alphaOf (c .given .format)) (tablesIn (c .given)))
-      (c .given .plane .bytes)) (c .given .out)
+  out-filled : c .after .first ≡ filled (size (c .given))
+      (tightByte (rowBytes (c .given)) (c .given .lent .plane .step)
+      (rowByte (bytesAPixel (c .given .job .format)) (alphaOf (c .given .job .format))
+      (tablesIn (c .given)))
+      (c .given .lent .plane .bytes)) (c .given .lent .outputs .first)
   unfolding first
-  out-filled = c .contract .out-is ∙ rw not-refused
+  out-filled = c .contract .first ∙ rw not-refused
 
   -- what stands at a place
   at-place : (p : Place) → Within (c .given) p
-      → output c p ≡ toned (alphaOf (c .given .format)) (tablesIn (c .given)) (p .channel) (input c p)
+      → output c p
+      ≡ toned (alphaOf (c .given .job .format)) (tablesIn (c .given)) (p .channel) (input c p)
   at-place p w =
       let r = c .given in
       rw out-filled
-      (tight-pixel (r .width) (r .height) (r .plane .step) (bytesAPixel (r .format)) (alphaOf (r .format)) (tablesIn r)
-      (r .plane .bytes) (r .out) (p .row) (p .column) (p .channel) (w .row) (w .column) (w .channel))
+      (tight-pixel (r .job .width) (r .job .height) (r .lent .plane .step)
+      (bytesAPixel (r .job .format)) (alphaOf (r .job .format)) (tablesIn r)
+      (r .lent .plane .bytes) (r .lent .outputs .first)
+      (p .row) (p .column) (p .channel) (w .row) (w .column) (w .channel))
 
   -- it lies in the plane and in the output
-  plane-holds : (p : Place) → Within (c .given) p → inPlane (c .given) p < length (c .given .plane .bytes)
+  plane-holds : (p : Place) → Within (c .given) p
+      → inPlane (c .given) p < length (c .given .lent .plane .bytes)
   plane-holds p w =
       omega (arith, along-row (c .given) p w, rows-inside (p .row) (passed-checks .plane .rows) (λ none. omega (arith, w .column)) (w .row))
 
-  out-long : length (c .out) ≡ length (c .given .out)
-  out-long = rw out-filled (length-filled (size (c .given)) _ (c .given .out) (passed-checks .room))
+  out-long : length (c .after .first) ≡ length (c .given .lent .outputs .first)
+  out-long =
+      rw out-filled
+      (length-filled (size (c .given)) _ (c .given .lent .outputs .first) (passed-checks .room))
 
-  output-holds : (p : Place) → Within (c .given) p → inOutput (c .given) p < length (c .out)
+  output-holds : (p : Place) → Within (c .given) p
+      → inOutput (c .given) p < length (c .after .first)
   output-holds p w =
-      omega (arith, along-row (c .given) p w, mul-room (p .row) (c .given .height) (rowBytes (c .given)) (w .row), out-long, passed-checks .room)
+      omega (
+        arith,
+        along-row (c .given) p w,
+        mul-room (p .row) (c .given .job .height) (rowBytes (c .given)) (w .row),
+        out-long,
+        passed-checks .room,
+      )
 
   -- a toned byte is its entry in the table of the list that tones it; alpha is copied
   toned-entry : (p : Place) → TonedAt (c .given) p → output c p ≡ entryOf (kindIn (c .given)) (listThatTones (c .given) p) (input c p)
   toned-entry p t =
       let r = c .given in
       at-place p (t .within)
-      ∙ toned-through (alphaOf (r .format)) (p .channel) (tablesIn r) (input c p) (t .not-alpha)
-      ∙ toning-table (r .format) (viewOf (r .set)) (p .channel) (input c p) (input-byte c p)
+      ∙ toned-through (alphaOf (r .job .format)) (p .channel) (tablesIn r) (input c p) (t .not-alpha)
+      ∙ toning-table (r .job .format) (viewOf (r .job .set)) (p .channel) (input c p)
+      (input-byte c p)
 
   alpha-copied : (p : Place) → Within (c .given) p → IsAlpha (c .given) p → output c p ≡ input c p
   alpha-copied p w alpha =
       let r = c .given in
-      at-place p w ∙ toned-kept (alphaOf (r .format)) (p .channel) (tablesIn r) (input c p) alpha
+      at-place p w
+      ∙ toned-kept (alphaOf (r .job .format)) (p .channel) (tablesIn r) (input c p) alpha
 
   written-long : length (written c) ≡ size (c .given)
-  written-long = length-take-le (size (c .given)) (c .out) (omega (arith, out-long, passed-checks .room))
+  written-long =
+      length-take-le (size (c .given)) (c .after .first)
+      (omega (arith, out-long, passed-checks .room))
 
   chroma-copied : (plane : PlaneOf) (before after : List ℕ) → IsYuv (c .given) → after ≡ chroma (c .given) plane before
       → length (plane .bytes) ≤ length before → Copied (plane .bytes) before after
@@ -209,40 +234,52 @@ module _ (c : Call) (ok : Accepted c) where
   as-defined =
       let is = c .contract in
       record {
-        done = is .answer-is ∙ ok;
-        step = rw not-refused at (is .step-is);
-        out-is = is .out-is;
-        cb-is = is .cb-is;
-        cr-is = is .cr-is;
+        done = is .answer ∙ ok;
+        step = rw not-refused at (is .step);
+        out-is = is .first;
+        cb-is = is .cb;
+        cr-is = is .cr;
         in-plane = plane-holds;
         in-output = output-holds;
         toned = toned-entry;
         alpha = alpha-copied;
-        past = λ k h. rw out-filled (getD-filled-rest (size (c .given)) _ (c .given .out) k 0 h);
+        past = λ k h.
+            rw out-filled
+            (getD-filled-rest (size (c .given)) _ (c .given .lent .outputs .first) k 0 h);
         long = out-long;
-        cb = λ yuv. chroma-copied (c .given .cb) (c .given .outCb) (c .cb) yuv (is .cb-is) (passed-checks .chroma-room yuv .0);
-        cr = λ yuv. chroma-copied (c .given .cr) (c .given .outCr) (c .cr) yuv (is .cr-is) (passed-checks .chroma-room yuv .1);
-        other-cb = λ other. chroma-stays (c .given .cb) (c .given .outCb) (c .cb) other (is .cb-is);
-        other-cr = λ other. chroma-stays (c .given .cr) (c .given .outCr) (c .cr) other (is .cr-is);
+        cb = λ yuv.
+            chroma-copied (c .given .lent .cb) (c .given .lent .outputs .cb) (c .after .cb) yuv
+            (is .cb) (passed-checks .chroma-room yuv .0);
+        cr = λ yuv.
+            chroma-copied (c .given .lent .cr) (c .given .lent .outputs .cr) (c .after .cr) yuv
+            (is .cr) (passed-checks .chroma-room yuv .1);
+        other-cb = λ other.
+            chroma-stays (c .given .lent .cb) (c .given .lent .outputs .cb) (c .after .cb) other
+            (is .cb);
+        other-cr = λ other.
+            chroma-stays (c .given .lent .cr) (c .given .lent .outputs .cr) (c .after .cr) other
+            (is .cr);
       }
 
   pub alpha-and-chroma : PassedThrough c
   alpha-and-chroma = record {
-    alpha = λ p w not-toned. elim (ℕ-discrete (p .channel) (alphaOf (c .given .format))) [
+    alpha = λ p w not-toned. elim (ℕ-discrete (p .channel) (alphaOf (c .given .job .format))) [
       | yes alpha ↦ alpha-copied p w alpha
       | no other ↦ absurd (not-toned (record { within = w; not-alpha = other }))
     ];
     cb = λ yuv. as-defined .cb yuv .whole;
     cr = λ yuv. as-defined .cr yuv .whole;
-    cb-step = λ yuv. chroma-step (c .given .cb) (c .answered .«cb_step») yuv (c .contract .cb-step-is);
-    cr-step = λ yuv. chroma-step (c .given .cr) (c .answered .«cr_step») yuv (c .contract .cr-step-is);
+    cb-step = λ yuv.
+        chroma-step (c .given .lent .cb) (c .answered .«cb_step») yuv (c .contract .cb-step);
+    cr-step = λ yuv.
+        chroma-step (c .given .lent .cr) (c .answered .«cr_step») yuv (c .contract .cr-step);
   }
 
   -- ---- the list that tones a byte: of bytes, rising, its own kept list
   list-legal : (p : Place) → LegalList (listThatTones (c .given) p)
   list-legal p =
-      of-toning-list LegalList (c .given .format) (viewOf (c .given .set))
-      (legal-lists (viewOf (c .given .set)) (passed-checks .legal)) (p .channel)
+      of-toning-list LegalList (c .given .job .format) (viewOf (c .given .job .set))
+      (passed-checks .legal) (p .channel)
 
   list-kept : (p : Place) → kept (listThatTones (c .given) p) ≡ listThatTones (c .given) p
   list-kept p = kept-rising (listThatTones (c .given) p) (list-bytes c p) (list-legal p .rising)
@@ -262,7 +299,9 @@ module _ (c : Call) (ok : Accepted c) where
   through-point other p t q m e =
       let l = listThatTones (c .given) p in
       toned-entry p t ∙ ap (entryOf (kindIn (c .given)) l) e
-      ∙ Table.through-points l (list-bytes c p) (kindIn (c .given)) (no-spline (kindIn (c .given)) other (c .contract .lent .tension)) q (rw (list-kept p) m)
+      ∙ Table.through-points l (list-bytes c p) (kindIn (c .given))
+      (no-spline (kindIn (c .given)) other (c .contract .in-types .tension)) q
+      (rw (list-kept p) m)
 
 -- ---- two runs
 entry-alike : {j k : CurveInterpolation} {l m : List Point} {x y : ℕ} → j ≡ k → l ≡ m → x ≡ y
@@ -297,13 +336,15 @@ module _ (a b : Call) (share : Share a b) where
   same-toned p t = record { within = same-place p (t .within); not-alpha = λ alpha. t .not-alpha (rw (share .format) alpha) }
 
   same-list : (p : Place) → listThatTones (a .given) p ≡ listThatTones (b .given) p
-  same-list p = rw (share .format, same-view (a .given .set) (b .given .set) (share .set))
+  same-list p = rw (share .format, same-view (a .given .job .set) (b .given .job .set) (share .set))
 
 module _ (a b : Call) (share : Share a b) (a-ok : Accepted a) (b-ok : Accepted b) where
   pub in-order : IsLinear (a .given) → NoListFalls (a .given) → (p : Place) → TonedAt (a .given) p → input a p ≤ input b p → output a p ≤ output b p
   in-order linear rising p t below =
       let l = listThatTones (a .given) p in
-      let never-falls = of-toning-list NeverFalls (a .given .format) (viewOf (a .given .set)) rising (p .channel) in
+      let never-falls =
+      of-toning-list NeverFalls (a .given .job .format) (viewOf (a .given .job .set)) rising
+      (p .channel) in
       let of-a : output a p ≡ entryOf Linear l (input a p) = toned-entry a a-ok p t ∙ rw linear in
       let of-b : output b p ≡ entryOf Linear l (input b p) =
       toned-entry b b-ok p (same-toned a b share p t) ∙ rw (← same-list a b share p, ← share .set .kind, linear) in
@@ -314,12 +355,13 @@ module _ (a b : Call) (share : Share a b) (a-ok : Accepted a) (b-ok : Accepted b
   same-byte : (p : Place) → Within (a .given) p → input a p ≡ input b p → output a p ≡ output b p
   same-byte p w e =
       at-place a a-ok p w
-      ∙ toned-alike (p .channel) (share .format) (same-view (a .given .set) (b .given .set) (share .set)) e
+      ∙ toned-alike (p .channel) (share .format)
+      (same-view (a .given .job .set) (b .given .job .set) (share .set)) e
       ∙ sym (at-place b b-ok p (same-place a b share p w))
 
   -- index k of the tight rows is a place's in both
   same-at : (p : Place) (k : ℕ) → Within (a .given) p → inOutput (a .given) p ≡ k → input a p ≡ input b p
-      → getD (a .out) k 0 ≡ getD (b .out) k 0
+      → getD (a .after .first) k 0 ≡ getD (b .after .first) k 0
   same-at p k w index e =
       let b-index : inOutput (b .given) p ≡ k = rw (← share .format, ← share .width) index in
       rw index at (same-byte p w e) ∙ rw b-index
@@ -331,9 +373,9 @@ module _ (a b : Call) (share : Share a b) (a-ok : Accepted a) (b-ok : Accepted b
       ext-getD 0 (written a) (written b) (long ∙ same ∙ sym (written-long b b-ok))
       (λ k h.
       let place = place-of (a .given) k (omega arith) in
-      getD-take (size (a .given)) (a .out) k 0 (omega arith)
+      getD-take (size (a .given)) (a .after .first) k 0 (omega arith)
       ∙ same-at (place .0) k (place .1) (place .2) (alike (place .0) (place .1))
-      ∙ sym (getD-take (size (b .given)) (b .out) k 0 (omega arith)))
+      ∙ sym (getD-take (size (b .given)) (b .after .first) k 0 (omega arith)))
 
   same-chroma : (a-plane b-plane a-out b-out : List ℕ)
       → (IsYuv (a .given) → take (length a-plane) a-out ≡ a-plane) → (IsYuv (b .given) → take (length b-plane) b-out ≡ b-plane)
@@ -347,8 +389,14 @@ module _ (a b : Call) (share : Share a b) (a-ok : Accepted a) (b-ok : Accepted b
   pub same-bytes : AlikeInRows a b → AlikeInChroma a b → WriteTheSame a b
   same-bytes rows alike = record {
     out = same-rows rows;
-    cb = same-chroma (a .given .cb .bytes) (b .given .cb .bytes) (a .cb) (b .cb) (alpha-and-chroma a a-ok .cb) (alpha-and-chroma b b-ok .cb) (alike .cb);
-    cr = same-chroma (a .given .cr .bytes) (b .given .cr .bytes) (a .cr) (b .cr) (alpha-and-chroma a a-ok .cr) (alpha-and-chroma b b-ok .cr) (alike .cr);
+    cb =
+        same-chroma (a .given .lent .cb .bytes) (b .given .lent .cb .bytes)
+        (a .after .cb) (b .after .cb)
+        (alpha-and-chroma a a-ok .cb) (alpha-and-chroma b b-ok .cb) (alike .cb);
+    cr =
+        same-chroma (a .given .lent .cr .bytes) (b .given .lent .cr .bytes)
+        (a .after .cr) (b .after .cr)
+        (alpha-and-chroma a a-ok .cr) (alpha-and-chroma b b-ok .cr) (alike .cr);
   }
 
 -- ---- no place is padding
@@ -357,17 +405,20 @@ unfolding inRow
 no-padding c ok p w padding =
     let r = c .given in
     let inside = along-row r p w in
-    let below : along r p < r .plane .step = omega (arith, Checked.accepted-run r ok .plane .rows .stepped) in
+    let below : along r p < r .lent .plane .step =
+    omega (arith, Checked.accepted-run r ok .plane .rows .stepped) in
     false≢true
     (sym (rw (
-      place-row (p .row) (r .plane .step) (along r p) below,
-      place-in (p .row) (r .plane .step) (along r p) below,
-      lt-ltb (p .row) (r .height) (w .row),
+      place-row (p .row) (r .lent .plane .step) (along r p) below,
+      place-in (p .row) (r .lent .plane .step) (along r p) below,
+      lt-ltb (p .row) (r .job .height) (w .row),
       lt-ltb (along r p) (rowBytes r) inside,
     ) at padding))
 
-pub alike-but-padding : (a b : Call) → Share a b → Accepted a → a .given .plane .step ≡ b .given .plane .step
-    → ((k : ℕ) → (IsPadding (a .given) k → ⊥) → getD (a .given .plane .bytes) k 0 ≡ getD (b .given .plane .bytes) k 0)
+pub alike-but-padding : (a b : Call) → Share a b → Accepted a
+    → a .given .lent .plane .step ≡ b .given .lent .plane .step
+    → ((k : ℕ) → (IsPadding (a .given) k → ⊥)
+    → getD (a .given .lent .plane .bytes) k 0 ≡ getD (b .given .lent .plane .bytes) k 0)
     → AlikeInRows a b
 alike-but-padding a b share ok step alike p w =
     alike (inPlane (a .given) p) (no-padding a ok p w) ∙ rw (step, share .format)

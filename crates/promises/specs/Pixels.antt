@@ -20,7 +20,17 @@ use Rattle.sets.specs.Carried.{carriedOf}
 use Rattle.sets.specs.SameLaws.{same-refl}
 use Rattle.formats.specs.declared.PixelFormat.{PixelFormat}
 use Rattle.formats.specs.declared.PixelFormat.the-variants.{Gray8}
-use Rattle.pictures.specs.Runs.{Run, PlaneOf, Lent, rowBytes, accepted, answer, first, chroma, stepOf}
+use Rattle.pictures.specs.Runs.{
+  PlaneOf,
+  Run,
+  InTypes,
+  rowBytes,
+  answer,
+  accepted,
+  first,
+  chroma,
+  stepOf,
+}
 use Rattle.promises.specs.Words.{Call, Accepted, Share, Place, TonedAt, input, output}
 use Rattle.promises.specs.Demand3.{exact}
 
@@ -55,28 +65,30 @@ abbrev pub linear : List Point → Channel → Curves
 linear master red =
     record { master = stored master; red = red; green = absent; blue = absent; interpolation = Linear }
 
-abbrev noBytes : PlaneOf
+abbrev pub noBytes : PlaneOf
 noBytes = record { bytes = []; step = 0 }
 
 abbrev pub runOf : Strip → Run
 runOf g = record {
-  set = record {
-    master = stored (g .by .list);
-    red = absent;
-    green = absent;
-    blue = absent;
-    interpolation = g .by .kind;
+  job = record {
+    set = record {
+      master = stored (g .by .list);
+      red = absent;
+      green = absent;
+      blue = absent;
+      interpolation = g .by .kind;
+    };
+    format = g .format;
+    width = 1;
+    height = g .height;
+    planes = 3;
   };
-  format = g .format;
-  width = 1;
-  height = g .height;
-  planes = 3;
-  plane = record { bytes = g .plane; step = g .step };
-  cb = record { bytes = g .chroma; step = 1 };
-  cr = noBytes;
-  out = 0 ∷ 0 ∷ 0 ∷ 0 ∷ [];
-  outCb = 0 ∷ [];
-  outCr = [];
+  lent = record {
+    plane = record { bytes = g .plane; step = g .step };
+    cb = record { bytes = g .chroma; step = 1 };
+    cr = noBytes;
+    outputs = record { first = 0 ∷ 0 ∷ 0 ∷ 0 ∷ []; cb = 0 ∷ []; cr = [] };
+  };
 }
 
 -- each number is a byte
@@ -89,44 +101,51 @@ byte-at [] a k h = absurd (omega arith)
 byte-at (x ∷ l) a zero h = a .0
 byte-at (x ∷ l) a (suc k) h = byte-at l (a .1) k (omega arith)
 
-pub lent-bytes : (g : Strip) → AreBytes (g .plane) → Lent (runOf g)
-lent-bytes g bytes = record {
+pub types-of : (g : Strip) → AreBytes (g .plane) → InTypes (runOf g)
+types-of g bytes = record {
   plane = byte-at (g .plane) bytes;
   points = record { master = rw (take-length (g .by .list)) (g .by .bytes); red = tt; green = tt; blue = tt };
   tension = g .by .tension;
 }
 
 -- the call that a run is
-abbrev pub ranOn : (r : Run) → Lent r → Call
-ranOn r lent = record {
+abbrev pub ranOn : (r : Run) → InTypes r → Call
+ranOn r in-types = record {
   given = r;
   answered = record {
     answer = answer r;
     step = cond (accepted r) (rowBytes r) 0;
-    «cb_step» = stepOf r (r .cb);
-    «cr_step» = stepOf r (r .cr);
+    «cb_step» = stepOf r (r .lent .cb);
+    «cr_step» = stepOf r (r .lent .cr);
   };
-  out = first r;
-  cb = chroma r (r .cb) (r .outCb);
-  cr = chroma r (r .cr) (r .outCr);
+  after = record {
+    first = first r;
+    cb = chroma r (r .lent .cb) (r .lent .outputs .cb);
+    cr = chroma r (r .lent .cr) (r .lent .outputs .cr);
+  };
   contract = record {
-    answer-is = refl;
-    step-is = refl;
-    cb-step-is = refl;
-    cr-step-is = refl;
-    out-is = refl;
-    cb-is = refl;
-    cr-is = refl;
-    lent = lent;
+    answer = refl;
+    step = refl;
+    cb-step = refl;
+    cr-step = refl;
+    first = refl;
+    cb = refl;
+    cr = refl;
+    in-types = in-types;
   };
 }
 
 abbrev pub ran : (g : Strip) → AreBytes (g .plane) → Call
-ran g bytes = ranOn (runOf g) (lent-bytes g bytes)
+ran g bytes = ranOn (runOf g) (types-of g bytes)
 
 pub shared : (g h : Strip) (g-bytes : AreBytes (g .plane)) (h-bytes : AreBytes (h .plane)) → g .by ≡ h .by → g .format ≡ h .format
     → g .height ≡ h .height → Share (ran g g-bytes) (ran h h-bytes)
-shared g h g-bytes h-bytes by format height = record { set = rw by (same-refl (runOf h .set)); format = format; width = refl; height = height }
+shared g h g-bytes h-bytes by format height = record {
+  set = rw by (same-refl (runOf h .job .set));
+  format = format;
+  width = refl;
+  height = height;
+}
 
 -- the first byte
 abbrev pub here : Place

@@ -54,8 +54,9 @@ lookup-replaces {table} call zero =
 pub apply-tone-lut-tones : {f : PixelFormat} {w h step : ℕ} {table old new : List ℕ} {r : Answer} → LutCall f w h step table old r new → numberOf r ≡ 0
     → ExactPlane f w h step table old new
 apply-tone-lut-tones {f} {w} {h} {step} {table} {old} {new} {r} call zero =
-    let rows = lut-done f w h step (length old) (sym (call .answer-is) ∙ number-unique r Done zero) .rows in
-    let is : new ≡ tonedWithin f w h step table old = rw zero at (call .plane-is) in
+    let rows = lut-done f w h step (length old)
+    (sym (call .answer) ∙ number-unique r Done zero) .rows in
+    let is : new ≡ tonedWithin f w h step table old = rw zero at (call .plane) in
     let p = bytesAPixel f in
     let pixel = plane-pixel w h step p (alphaOf f) (same table) old in
     record {

@@ -3,6 +3,7 @@
 ghost use Prim.Native.Nat.{_<_, _≤_, _+_};
 ghost use lib.ListN.{length};
 use formats::format_of;
+use pictures::Job;
 use sets::Curves;
 
 // What a hexadecimal digit in lower case stands for.
@@ -119,12 +120,15 @@ fn tone_picture(line: &[u8; 727]) {
     let mut out_cb = [0u8; 24];
     let mut out_cr = [0u8; 24];
     let format = format_of(byte_at(line, 1));
-    let toned = pictures::apply_pixels(
-        set_of(line),
+    let job = Job {
+        set: set_of(line),
         format,
-        byte_at(line, 2) as u32,
-        byte_at(line, 3) as u32,
-        byte_at(line, 5) as usize,
+        width: byte_at(line, 2) as u32,
+        height: byte_at(line, 3) as u32,
+        planes: byte_at(line, 5) as usize,
+    };
+    let toned = pictures::apply_pixels(
+        job,
         front(&plane, byte_at(line, 7)),
         byte_at(line, 4) as usize,
         front(&cb, byte_at(line, 8)),

@@ -2,7 +2,7 @@
 -- document 01's order, and what stands in lent memory after it. Definitions only.
 use Prim.Native.Nat.{ℕ, _/_}
 use mathlib.Core.Path.{_≡_}
-use mathlib.Core.Bool.{cond, _&&_}
+use mathlib.Core.Bool.{cond}
 use mathlib.Core.List.{List, [], _∷_, _++_}
 use lib.Dec.{ltb, eqb}
 use lib.IntN.{ℤ}
@@ -15,10 +15,10 @@ use Rattle.points.specs.declared.Point.{Point}
 use Rattle.points.specs.Points.{countCheck}
 use Rattle.tables.specs.Kinds.{kindOf}
 use Rattle.tables.specs.Tables.{byteTable, fineTable, lengthCheck}
+use Rattle.sets.specs.declared.Curves.{Curves}
 use Rattle.sets.specs.Sets.{View}
-use Rattle.formats.specs.declared.Lengths.{Lengths}
 use Rattle.formats.specs.Formats.{formatOf, lastFormat}
-use Rattle.formats.specs.Checks.{chromaRead, lutChecks, pictureChecks}
+use Rattle.formats.specs.Checks.{lutChecks, pictureChecks}
 use Rattle.records.specs.declared.RecordRead.{RecordRead}
 use Rattle.records.specs.Format.{pointBytes, pairs, kindCheck, readRecord}
 use Rattle.records.specs.Checks.{recordChecks}
@@ -26,7 +26,7 @@ use Rattle.records.specs.Views.{HandedBack}
 use Rattle.writing.specs.Encode.{encode}
 use Rattle.pictures.specs.declared.Toned.{Toned}
 use Rattle.pictures.specs.OneTable.{tonedWithin}
-use Rattle.pictures.specs.Runs.{given, tablesOf, tightRows, SetCall}
+use Rattle.pictures.specs.Runs.{Outputs, Lent, Run, held, SetCall}
 use Rattle.lookup.specs.Lookup.{lookupChecks, lookedUp}
 
 -- ---- what a caller gives
@@ -86,57 +86,52 @@ pub record TonePlane (table : List ℕ) (format w h step : ℕ) (old : List ℕ)
   pub plane : new ≡ cond (eqb r 0) (tonedWithin (formatOf format) w h step table old) old
 
 -- ---- tone_picture
--- 1 to 7 of the record, whose lists have then passed 3 and 4; 8 of the format's number, then 8 to 13 of the set call
-abbrev pub tonePictureChecks : List ℕ → ℕ → ℕ → ℕ → ℕ → ℕ → Lengths → List Check
-tonePictureChecks stored format w h planes step held =
-    recordChecks stored ++ (formatCheck format ∷ []) ++ pictureChecks (formatOf format) w h planes step held
+-- what a caller asks: as a run of the set call, but the record's bytes in place of the set and the
+-- format's number in place of the format
+pub record PictureAsked : Type 0 where
+  pub stored : List ℕ
+  pub format : ℕ
+  pub width : ℕ
+  pub height : ℕ
+  pub planes : ℕ
+  pub lent : Lent
 
-abbrev pub lengthsOf : List ℕ → List ℕ → List ℕ → List ℕ → List ℕ → List ℕ → Lengths
-lengthsOf y u v outY outU outV = record {
-  plane = length y;
-  cb = length u;
-  cr = length v;
-  out = length outY;
-  «out_cb» = length outU;
-  «out_cr» = length outV;
+-- the run of the set call by a set
+abbrev pub runOf : PictureAsked → Curves → Run
+runOf asked set = record {
+  job = record {
+    set = set;
+    format = formatOf (asked .format);
+    width = asked .width;
+    height = asked .height;
+    planes = asked .planes;
+  };
+  lent = asked .lent;
 }
 
--- a chroma output: "for YUV each chroma plane is copied whole"
-abbrev pub chromaOut : ℕ → ℕ → List ℕ → List ℕ → List ℕ
-chromaOut r format chroma old = cond (eqb r 0 && chromaRead (formatOf format)) (chroma ++ drop (length chroma) old) old
+-- 1 to 7 of the record, whose lists have then passed 3 and 4; 8 of the format's number, then 8 to
+-- 13 of the set call
+abbrev pub tonePictureChecks : PictureAsked → List Check
+tonePictureChecks asked =
+    recordChecks (asked .stored) ++ (formatCheck (asked .format) ∷ [])
+    ++ pictureChecks (formatOf (asked .format)) (asked .width) (asked .height) (asked .planes)
+    (asked .lent .plane .step) (held (asked .lent))
 
 -- the run of the set call that a call answered with 0 is, on the set that the record's reader
--- handed back. A caller gives no chroma steps and gets none: they are 0
-pub record PictureRun
-    (stored : List ℕ)
-    (format w h planes : ℕ)
-    (y : List ℕ)
-    (step : ℕ)
-    (u v oldY oldU oldV newY newU newV : List ℕ)
-    : Type 0 where
+-- handed back
+pub record PictureRun (asked : PictureAsked) (after : Outputs) : Type 0 where
   pub handed : RecordRead
   pub toned : Toned
-  pub read : HandedBack (readRecord stored) handed
-  pub call : SetCall (given (handed .set) (formatOf format) w h planes y step u 0 v 0 oldY oldU
-      oldV) toned newY newU newV
+  pub read : HandedBack (readRecord (asked .stored)) handed
+  pub call : SetCall (runOf asked (handed .set)) toned after
   pub done : toned .answer ≡ Done
 
--- the number answered; the outputs: tight rows toned by the record's set, chroma copied, or on a
--- refusal unchanged; and with 0 the run
-pub record TonePicture
-    (stored : List ℕ)
-    (format w h planes : ℕ)
-    (y : List ℕ)
-    (step : ℕ)
-    (u v oldY oldU oldV : List ℕ)
-    (r : ℕ)
-    (newY newU newV : List ℕ)
-    : Type 0 where
-  pub number : r ≡ numberOf (firstRefusal (tonePictureChecks stored format w h planes step (lengthsOf y u v oldY oldU oldV)))
-  pub first : newY ≡ cond (eqb r 0) (tightRows (formatOf format) w h step (tablesOf (formatOf format) (setOf stored)) y oldY) oldY
-  pub cb : newU ≡ chromaOut r format u oldU
-  pub cr : newV ≡ chromaOut r format v oldV
-  pub run : r ≡ 0 → PictureRun stored format w h planes y step u v oldY oldU oldV newY newU newV
+-- the number answered; on a refusal the outputs unchanged; and with 0 the run, which says what the
+-- outputs hold: `PictureLaws` has it by the record's bytes
+pub record TonePicture (asked : PictureAsked) (r : ℕ) (after : Outputs) : Type 0 where
+  pub number : r ≡ numberOf (firstRefusal (tonePictureChecks asked))
+  pub unchanged : (r ≡ 0 → ⊥) → after ≡ asked .lent .outputs
+  pub run : r ≡ 0 → PictureRun asked after
 
 -- ---- tone_record_table
 -- 1 to 7 of the record, then 13: the table is 256 bytes

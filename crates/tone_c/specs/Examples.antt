@@ -33,7 +33,6 @@ use Rattle.tone_c.specs.Boundary.{
   toneFineTableChecks,
   tonePlaneChecks,
   tonePictureChecks,
-  lengthsOf,
   toneRecordTableChecks,
   toneRecordCopyChecks,
 }
@@ -92,7 +91,19 @@ longer = 0x10 ∷ 0 ∷ 0 ∷ []
 -- of planes of 4 bytes, chroma of 1 byte, and a last output of so many bytes
 abbrev pictureAnswered : List ℕ → ℕ → ℕ → ℕ → ℕ → ℕ → Answer
 pictureAnswered stored format w planes step room =
-    firstRefusal (tonePictureChecks stored format w 1 planes step (lengthsOf (replicate 4 5) (1 ∷ []) (2 ∷ []) (replicate 4 0) (0 ∷ []) (replicate room 0)))
+    firstRefusal (tonePictureChecks (record {
+      stored = stored;
+      format = format;
+      width = w;
+      height = 1;
+      planes = planes;
+      lent = record {
+        plane = record { bytes = replicate 4 5; step = step };
+        cb = record { bytes = 1 ∷ []; step = 0 };
+        cr = record { bytes = 2 ∷ []; step = 0 };
+        outputs = record { first = replicate 4 0; cb = 0 ∷ []; cr = replicate room 0 };
+      };
+    }))
 
 -- the record's 7 before all others; an unknown format, or one that the set call does not take, before a width of 4,097; the output last
 pub picture-order : (pictureAnswered longer 12 4097 0 0 0 ≡ TrailingBytes) × (pictureAnswered empty 12 4097 0 0 0 ≡ UnsupportedFormat)
@@ -105,8 +116,23 @@ picture-order = (refl, refl, refl, refl, refl, refl, refl, refl)
 -- chroma of 2 and of 3 bytes: each output is measured by its own plane
 abbrev roomAnswered : ℕ → ℕ → ℕ → Answer
 roomAnswered roomY roomU roomV =
-    firstRefusal (tonePictureChecks empty 6 4 1 3 4 (lengthsOf (replicate 4 5) (replicate 2 6)
-    (replicate 3 7) (replicate roomY 0) (replicate roomU 0) (replicate roomV 0)))
+    firstRefusal (tonePictureChecks (record {
+      stored = empty;
+      format = 6;
+      width = 4;
+      height = 1;
+      planes = 3;
+      lent = record {
+        plane = record { bytes = replicate 4 5; step = 4 };
+        cb = record { bytes = replicate 2 6; step = 0 };
+        cr = record { bytes = replicate 3 7; step = 0 };
+        outputs = record {
+          first = replicate roomY 0;
+          cb = replicate roomU 0;
+          cr = replicate roomV 0;
+        };
+      };
+    }))
 
 pub picture-rooms : (roomAnswered 4 2 3 ≡ Done) × (roomAnswered 3 4 4 ≡ OutputTooSmall)
     × (roomAnswered 4 1 4 ≡ OutputTooSmall) × (roomAnswered 4 4 2 ≡ OutputTooSmall)

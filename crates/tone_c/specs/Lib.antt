@@ -1,3 +1,4 @@
 pub mod Boundary
+pub mod PictureLaws
 pub mod Examples
 pub mod Version

@@ -6,6 +6,7 @@ ghost use Rattle.tone_c.specs.Version.{version};
 use answers::first_of;
 use answers::room_for;
 use formats::format_of;
+use pictures::Job;
 use pictures::apply_pixels;
 use pictures::apply_tone_lut;
 use records::read_record;
@@ -36,7 +37,10 @@ pub extern "C" fn tone_table(
     end_slope: i16,
     table: &mut [u8],
 ) -> u8
-    ensures { λ r. ⌜ ToneTable (now (points .entry)) kind «tension» «start_slope» «end_slope» (now (table .entry)) r (now (table .exit)) ⌝ }
+    ensures { λ r. ⌜
+        ToneTable (now (points .entry)) kind «tension» «start_slope» «end_slope»
+        (now (table .entry)) r (now (table .exit))
+        ⌝ }
 {
     let answer = first_of(given::check(points, kind), room_for(256, table.len()));
     if !answer.is_done() {
@@ -58,7 +62,10 @@ pub extern "C" fn tone_fine_table(
     end_slope: i16,
     table: &mut [f32],
 ) -> u8
-    ensures { λ r. ⌜ ToneFineTable (now (points .entry)) kind «tension» «start_slope» «end_slope» (now (table .entry)) r (now (table .exit)) ⌝ }
+    ensures { λ r. ⌜
+        ToneFineTable (now (points .entry)) kind «tension» «start_slope» «end_slope»
+        (now (table .entry)) r (now (table .exit))
+        ⌝ }
 {
     let answer = given::check(points, kind);
     if !answer.is_done() {
@@ -88,7 +95,10 @@ pub extern "C" fn tone_plane(
     plane: &mut [u8],
     step: usize,
 ) -> u8
-    ensures { λ r. ⌜ TonePlane (now (table .entry)) format width height step (now (plane .entry)) r (now (plane .exit)) ⌝ }
+    ensures { λ r. ⌜
+        TonePlane (now (table .entry)) format width height step (now (plane .entry)) r
+        (now (plane .exit))
+        ⌝ }
 {
     let known = given::format_answer(format);
     if !known.is_done() {
@@ -101,6 +111,7 @@ pub extern "C" fn tone_plane(
 
 // Tones a picture by the set that a record holds into tight rows at the front of out_y; for YUV the chroma planes u and v are copied.
 // y is the luma or colour plane. The chroma planes of other formats are not read, and their outputs stay.
+// A caller gives no chroma steps and gets none: they are 0.
 #[no_mangle]
 pub extern "C" fn tone_picture<'a, 'x, 'y, 'z>(
     record: &[u8],
@@ -116,7 +127,29 @@ pub extern "C" fn tone_picture<'a, 'x, 'y, 'z>(
     out_u: &'y mut [u8],
     out_v: &'z mut [u8],
 ) -> u8
-    ensures { λ r. ⌜ TonePicture (now («record» .entry)) format width height planes (now (y .entry)) «y_step» (now (u .entry)) (now (v .entry)) (now («out_y» .entry)) (now («out_u» .entry)) (now («out_v» .entry)) r (now («out_y» .exit)) (now («out_u» .exit)) (now («out_v» .exit)) ⌝ }
+    ensures { λ r. ⌜
+        TonePicture (record {
+          stored = now («record» .entry);
+          format = format;
+          width = width;
+          height = height;
+          planes = planes;
+          lent = record {
+            plane = record { bytes = now (y .entry); step = «y_step» };
+            cb = record { bytes = now (u .entry); step = 0 };
+            cr = record { bytes = now (v .entry); step = 0 };
+            outputs = record {
+              first = now («out_y» .entry);
+              cb = now («out_u» .entry);
+              cr = now («out_v» .entry);
+            };
+          };
+        }) r (record {
+          first = now («out_y» .exit);
+          cb = now («out_u» .exit);
+          cr = now («out_v» .exit);
+        })
+        ⌝ }
 {
     let read = read_record(record);
     let of_record = read.answer;
@@ -126,22 +159,14 @@ pub extern "C" fn tone_picture<'a, 'x, 'y, 'z>(
     }
     let set = read.set;
     let pixel_format = format_of(format);
-    let toned = apply_pixels(
+    let job = Job {
         set,
-        pixel_format,
+        format: pixel_format,
         width,
         height,
         planes,
-        y,
-        y_step,
-        u,
-        0,
-        v,
-        0,
-        out_y,
-        out_u,
-        out_v,
-    );
+    };
+    let toned = apply_pixels(job, y, y_step, u, 0, v, 0, out_y, out_u, out_v);
     let answer = toned.answer;
     answer.number()
 }
@@ -149,7 +174,9 @@ pub extern "C" fn tone_picture<'a, 'x, 'y, 'z>(
 // Writes the byte table of the master of the set that a record holds to the front of table.
 #[no_mangle]
 pub extern "C" fn tone_record_table(record: &[u8], table: &mut [u8]) -> u8
-    ensures { λ r. ⌜ ToneRecordTable (now («record» .entry)) (now (table .entry)) r (now (table .exit)) ⌝ }
+    ensures { λ r. ⌜
+        ToneRecordTable (now («record» .entry)) (now (table .entry)) r (now (table .exit))
+        ⌝ }
 {
     let read = read_record(record);
     let of_record = read.answer;
@@ -167,7 +194,10 @@ pub extern "C" fn tone_record_table(record: &[u8], table: &mut [u8]) -> u8
 // Writes the set that a record holds to the front of out with the present writer, and its length to written.
 #[no_mangle]
 pub extern "C" fn tone_record_copy(record: &[u8], out: &mut [u8], written: &mut usize) -> u8
-    ensures { λ r. ⌜ ToneRecordCopy (now («record» .entry)) (now (out .entry)) (now (written .entry)) r (now (out .exit)) (now (written .exit)) ⌝ }
+    ensures { λ r. ⌜
+        ToneRecordCopy (now («record» .entry)) (now (out .entry)) (now (written .entry)) r
+        (now (out .exit)) (now (written .exit))
+        ⌝ }
 {
     let read = read_record(record);
     let answer = read.answer;

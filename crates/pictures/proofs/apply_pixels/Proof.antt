@@ -6,8 +6,8 @@ use borrow.Author.Tests.{eq-eqb, ne-eqb, not-true, not-false}
 use Rattle.answers.specs.Numbers.{isDone, done-is}
 use Rattle.answers.specs.Checks.{first-then}
 use Rattle.sets.specs.Sets.{curveChecks, setChecks, setAnswer}
-use Rattle.formats.specs.Checks.{pictureChecks, pictureAnswer}
-use Rattle.pictures.specs.Runs.{Run, Lent, given, hasChroma, held, answer}
+use Rattle.formats.specs.Checks.{pictureAnswer}
+use Rattle.pictures.specs.Runs.{Run, InTypes, hasChroma, checksOfPicture, answer}
 use Rattle.pictures.specs.RunLaws.{Accepted, accepted-run}
 use Rattle.pictures.proofs.Owned.{points-told, tension-told}
 use Rattle.pictures.proofs.Ends as Ends
@@ -17,26 +17,33 @@ use Rattle.pictures.proofs.apply_pixels.Tie as tie
 -- the run, and its answer
 abbrev run : tie.After-first-of → Run
 run c =
-    let A = c .before .before .before .before .before .before .before .before .before .args in
-    given (A .set) (A .format) (A .width) (A .height) (A .planes) (A .plane .now) (A .step) (A .cb .now) (A .cb-step) (A .cr .now) (A .cr-step)
-    (A .out .now) (A .out-cb .now) (A .out-cr .now)
+    let A = c .before .before .before .before .before .before .before .before .before .before .before .before .args in
+    record {
+      job = A .job;
+      lent = record {
+        plane = record { bytes = A .plane .now; step = A .step };
+        cb = record { bytes = A .cb .now; step = A .cb-step };
+        cr = record { bytes = A .cr .now; step = A .cr-step };
+        outputs = record { first = A .out .now; cb = A .out-cb .now; cr = A .out-cr .now };
+      };
+    }
 
 answered : (c : tie.After-first-of) → c .first-of .result ≡ answer (run c)
 unfolding answer setAnswer pictureAnswer
 answered c =
     let r = run c in
-    first-then (setChecks curveChecks (r .set)) (pictureChecks (r .format) (r .width) (r .height) (r .planes) (r .plane .step) (held r))
+    first-then (setChecks curveChecks (r .job .set)) (checksOfPicture r)
     (c .before .before .check .ensures) (c .before .picture-answer .ensures) (c .first-of .ensures)
 
--- what it was lent
-lent : (c : tie.After-first-of) → Lent (run c)
-lent c =
-    let k = c .before .before .before .before .before .before .before .before in
+-- what follows from the types
+in-types : (c : tie.After-first-of) → InTypes (run c)
+in-types c =
+    let k = c .before .before .before .before .before .before .before .before .before .before .before in
     let own = k .before .good .0 in
     record {
       plane = λ i inside. k .shared-slice-known .given i .fits;
-      points = points-told (run c .set) _ own;
-      tension = tension-told (run c .set) _ own;
+      points = points-told (run c .job) _ own;
+      tension = tension-told (run c .job) _ own;
     }
 
 -- past the refusal
@@ -54,7 +61,8 @@ returns : tie.Need-returns
 returns c =
     let k = c .before in
     rw (c .refused .ensures)
-    (Ends.refused _ (lent (k .before .before)) (answered (k .before .before)) (sym (k .before .is-done .ensures) ∙ not-true _ (k .if1 .taken)))
+    (Ends.refused _ (in-types (k .before .before)) (answered (k .before .before))
+    (sym (k .before .is-done .ensures) ∙ not-true _ (k .if1 .taken)))
 
 tone-first-requires : tie.Need-tone-first-requires
 tone-first-requires c κs =
@@ -81,7 +89,8 @@ returns-2 c =
     let yuv = cb .before .before in
     let row = yuv .before .before in
     let k = row .before .before .before .before .before in
-    Ends.done-chroma _ (lent (k .before .before)) (answered (k .before .before)) (is-done k) (rw (row .bytes-a-pixel .ensures))
+    Ends.done-chroma _ (in-types (k .before .before)) (answered (k .before .before)) (is-done k)
+    (rw (row .bytes-a-pixel .ensures))
     (row .before .before .before .tone-first .ensures)
     (is-yuv yuv)
     (cb .copy-bytes .ensures)
@@ -91,7 +100,8 @@ returns-3 : tie.Need-returns-3
 returns-3 c =
     let row = c .before .before in
     let k = row .before .before .before .before .before in
-    Ends.done _ (lent (k .before .before)) (answered (k .before .before)) (is-done k) (rw (row .bytes-a-pixel .ensures))
+    Ends.done _ (in-types (k .before .before)) (answered (k .before .before)) (is-done k)
+    (rw (row .bytes-a-pixel .ensures))
     (row .before .before .before .tone-first .ensures)
     (ne-eqb _ 3 (λ e. c .if2 .left (c .before .planes-read .ensures ∙ e)))
 
@@ -99,7 +109,7 @@ pub apply-pixels-spec : {M : Type 1} → statement M
 apply-pixels-spec =
     tie.close
     (tie.spec
-    (omega arith) (omega arith) (omega arith) (omega arith) (omega arith)
+    (omega arith) (omega arith) (omega arith) (omega arith) (omega arith) (omega arith) (omega arith)
     returns
     tone-first-requires
     (omega arith)

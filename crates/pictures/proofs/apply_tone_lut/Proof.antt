@@ -26,14 +26,19 @@ returns c =
     let alpha = toned .before .before in
     let k = alpha .before .before .before in
     record {
-      answer-is = k .before .before .lut-answer .ensures;
-      plane-is = rw (sym (k .before .is-done .ensures) ∙ k .if1 .taken, ← alpha .before .bytes-a-pixel .ensures, ← alpha .alpha .ensures) (toned .tone-rows .ensures);
+      answer = k .before .before .lut-answer .ensures;
+      plane =
+          rw (
+            sym (k .before .is-done .ensures) ∙ k .if1 .taken,
+            ← alpha .before .bytes-a-pixel .ensures,
+            ← alpha .alpha .ensures,
+          ) (toned .tone-rows .ensures);
     }
 
 returns-2 : tie.Need-returns-2
 returns-2 c = record {
-  answer-is = c .before .before .lut-answer .ensures;
-  plane-is = rw (sym (c .before .is-done .ensures) ∙ c .if1 .left);
+  answer = c .before .before .lut-answer .ensures;
+  plane = rw (sym (c .before .is-done .ensures) ∙ c .if1 .left);
 }
 
 pub apply-tone-lut-spec : {M : Type 1} → statement M

@@ -3,24 +3,23 @@
 use native.Mathlib.Omega.{arith}
 use Prim.Native.Nat.{ℕ}
 use mathlib.Core.Path.{_≡_, refl, sym, ap, _∙_}
-use mathlib.Core.Bool.{false, cond, false≢true}
+use mathlib.Core.Bool.{false, false≢true}
 use mathlib.Core.List.{List, [], _∷_, _++_}
-use lib.Dec.{eqb}
 use Rattle.answers.specs.declared.Answer.{Answer}
 use Rattle.answers.specs.declared.Answer.the-variants.{Done}
-use Rattle.answers.specs.Numbers.{numberOf, isDone, told-refused, told-done, number-unique}
+use Rattle.answers.specs.Numbers.{numberOf, isDone, done-is, told-refused, told-done, number-unique}
 use Rattle.answers.specs.Checks.{Check, firstRefusal, first-then, first-stops, first-goes-on}
-use Rattle.sets.specs.Sets.{View, curveChecks, setChecks, setAnswer}
-use Rattle.formats.specs.Formats.{formatOf}
-use Rattle.formats.specs.Checks.{pictureChecks}
+use Rattle.single.specs.RuleLaws.{by-test}
+use Rattle.sets.specs.Sets.{curveChecks, setChecks, setAnswer}
 use Rattle.records.specs.declared.RecordRead.{RecordRead}
 use Rattle.records.specs.Format.{readRecord}
 use Rattle.records.specs.Checks.{recordChecks}
 use Rattle.records.specs.CheckLaws.{read-answer}
 use Rattle.records.specs.Views.{HandedBack}
 use Rattle.pictures.specs.declared.Toned.{Toned}
-use Rattle.pictures.specs.Runs.{Run, given, held, answer, first, chroma, tablesOf, tightRows, SetCall}
-use Rattle.tone_c.specs.Boundary.{formatCheck, lengthsOf, TonePicture}
+use Rattle.pictures.specs.Runs.{Outputs, Run, checksOfPicture, answer, SetCall}
+use Rattle.pictures.specs.RunLaws.{refused-outputs}
+use Rattle.tone_c.specs.Boundary.{formatCheck, PictureAsked, runOf, TonePicture}
 use Rattle.tone_c.proofs.tone_picture.Statement.{statement}
 use Rattle.tone_c.proofs.tone_picture.Tie as tie
 
@@ -29,41 +28,39 @@ abbrev front : List ℕ → ℕ → List Check
 front stored format = recordChecks stored ++ (formatCheck format ∷ [])
 
 -- the set call answers for the picture, on a set that has passed
-of-picture : (r : Run) → setAnswer (r .set) ≡ Done
-    → answer r ≡ firstRefusal (pictureChecks (r .format) (r .width) (r .height) (r .planes) (r .plane .step) (held r))
+of-picture : (r : Run) → setAnswer (r .job .set) ≡ Done → answer r ≡ firstRefusal (checksOfPicture r)
 unfolding answer setAnswer
-of-picture r passed = sym (first-goes-on (setChecks curveChecks (r .set)) _ passed refl)
+of-picture r passed = sym (first-goes-on (setChecks curveChecks (r .job .set)) _ passed refl)
 
--- the ends of the call, said of its arguments
-module _ {stored y u v outY outU outV : List ℕ} {format w h planes step r : ℕ} where
+-- a number that is not 0 is a refusal's
+not-done : (a : Answer) {r : ℕ} → r ≡ numberOf a → (r ≡ 0 → ⊥) → isDone a ≡ false
+not-done a e other = by-test (isDone a) (λ t. absurd (other (e ∙ ap numberOf (done-is a t)))) (λ t. t)
+
+-- the ends of the call
+module _ (asked : PictureAsked) {r : ℕ} where
   -- a is the record's refusal or the format's
-  refused : {a : Answer} → a ≡ firstRefusal (front stored format) → isDone a ≡ false → r ≡ numberOf a
-      → TonePicture stored format w h planes y step u v outY outU outV r outY outU outV
-  refused is bad e = record {
-    number = e ∙ ap numberOf (first-stops (front stored format) _ is bad);
-    first = rw (e, bad);
-    cb = rw (e, bad);
-    cr = rw (e, bad);
-    run = λ zero. absurd (false≢true (sym bad ∙ ap (λ (n : ℕ). eqb n 0) (sym e ∙ zero)));
+  refused : {a : Answer} → a ≡ firstRefusal (front (asked .stored) (asked .format)) → isDone a ≡ false → r ≡ numberOf a
+      → TonePicture asked r (asked .lent .outputs)
+  refused {a} is bad e = record {
+    number = e ∙ ap numberOf (first-stops (front (asked .stored) (asked .format)) _ is bad);
+    unchanged = λ other. refl;
+    run = λ zero. absurd (false≢true (sym bad ∙ ap isDone (number-unique a Done (sym e ∙ zero))));
   }
 
   -- neither is refused: the set call answers, on the set that the reader handed back
-  called : {handed : RecordRead} {t : Toned} {newY newU newV : List ℕ} → firstRefusal (front stored format) ≡ Done
-      → HandedBack (readRecord stored) handed
-      → SetCall (given (handed .set) (formatOf format) w h planes y step u 0 v 0 outY outU outV) t newY newU newV
-      → r ≡ numberOf (t .answer) → TonePicture stored format w h planes y step u v outY outU outV r newY newU newV
-  unfolding first chroma
+  called : {handed : RecordRead} {t : Toned} {after : Outputs}
+      → firstRefusal (front (asked .stored) (asked .format)) ≡ Done
+      → HandedBack (readRecord (asked .stored)) handed → SetCall (runOf asked (handed .set)) t after
+      → r ≡ numberOf (t .answer) → TonePicture asked r after
   called {handed} {t} passed read call e =
-      let f = formatOf format in
-      let checks = pictureChecks f w h planes step (lengthsOf y u v outY outU outV) in
+      let run = runOf asked (handed .set) in
       record {
-        number = e ∙ ap numberOf (first-goes-on (front stored format) checks passed (call .answer-is ∙ of-picture _ (read .legal)));
-        first =
-            rw e
-            ((rw (← call .answer-is) at (call .out-is))
-            ∙ ap (λ (set : View). cond (isDone (t .answer)) (tightRows f w h step (tablesOf f set) y outY) outY) (read .set));
-        cb = rw e (rw (← call .answer-is) at (call .cb-is));
-        cr = rw e (rw (← call .answer-is) at (call .cr-is));
+        number =
+            e
+            ∙ ap numberOf
+            (first-goes-on (front (asked .stored) (asked .format)) (checksOfPicture run) passed
+            (call .answer ∙ of-picture run (read .legal)));
+        unchanged = λ other. refused-outputs call (not-done (t .answer) e other);
         run = λ zero. record {
           handed = handed;
           toned = t;
@@ -90,7 +87,9 @@ accepted c = sym (answered (c .before .before)) ∙ told-done _ (c .before .is-d
 returns : tie.Need-returns
 returns c =
     let k = c .before .before in
-    refused (answered (k .before)) (told-refused (k .before .first-of .result) (k .is-done .ensures) (c .before .if1 .taken)) (c .number .ensures)
+    refused _ (answered (k .before))
+    (told-refused (k .before .first-of .result) (k .is-done .ensures) (c .before .if1 .taken))
+    (c .number .ensures)
 
 returns-2 : tie.Need-returns-2
 returns-2 c =
@@ -98,7 +97,7 @@ returns-2 c =
     let p = t .before .before .before .before in
     let k = p .before .before in
     let read = k .before .before .before .before .read-record .ensures in
-    called (accepted k) read (rw (p .format-of .ensures) at (t .apply-pixels .ensures)) (c .number2 .ensures)
+    called _ (accepted k) read (rw (p .format-of .ensures) at (t .apply-pixels .ensures)) (c .number2 .ensures)
 
 pub tone-picture-spec : {M : Type 1} → statement M
 tone-picture-spec =

@@ -38,8 +38,10 @@ returns-2 c =
     let checks = lutChecks (formatOf (A .format)) (A .width) (A .height) (A .step) (length (A .plane .now)) in
     let call = rw (p .format-of .ensures) at (t .apply-tone-lut .ensures) in
     record {
-      number = c .number2 .ensures ∙ ap numberOf (first-goes-on (formatCheck (A .format) ∷ []) checks (accepted (p .before)) (call .answer-is));
-      plane = rw (c .number2 .ensures) (call .plane-is);
+      number =
+          c .number2 .ensures
+          ∙ ap numberOf (first-goes-on (formatCheck (A .format) ∷ []) checks (accepted (p .before)) (call .answer));
+      plane = rw (c .number2 .ensures) (call .plane);
     }
 
 pub tone-plane-spec : {M : Type 1} → statement M
