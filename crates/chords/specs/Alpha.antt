@@ -1,7 +1,7 @@
 -- The tangents of CentripetalCatmullRom and ChordalCatmullRom: the three-term tangent of Barry and Goldman ("A recursive evaluation algorithm for a class of
 -- Catmull-Rom splines", 1988), as `alpha_catmull_rom_tangents` of the Rust has it. Definitions only.
 use Prim.Native.Nat.{ℕ, _+_}
-use mathlib.Core.Bool.{Bool, cond, _||_}
+use mathlib.Core.Bool.{Bool, true, false, cond, _||_}
 use mathlib.Core.List.{List}
 use lib.Dec.{eqb}
 use lib.Ieee.{Float}
@@ -51,6 +51,13 @@ alphaTangent centripetal first last l c r =
 unfoldable pub alphaAt : Bool → List Float → List Float → ℕ → ℕ → Float
 alphaAt centripetal xs ys n i =
     alphaTangent centripetal (eqb i 0) (eqb (i + 1) n) (knotAt xs ys (before i)) (knotAt xs ys i) (knotAt xs ys (after n i))
+
+-- the tangents of the two kinds
+abbrev pub centripetalAt : List Float → List Float → ℕ → ℕ → Float
+centripetalAt = alphaAt true
+
+abbrev pub chordalAt : List Float → List Float → ℕ → ℕ → Float
+chordalAt = alphaAt false
 
 -- ---- the rows that the code makes of the segments: chords, and the spacings that belong to a row of them
 unfoldable pub chordAt : List Float → List Float → ℕ → Float

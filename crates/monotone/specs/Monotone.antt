@@ -4,7 +4,7 @@
 --   α = mᵢ / Δᵢ,   β = mᵢ₊₁ / Δᵢ,   τ = 3 / √(α² + β²).
 -- Document 01 calls α and β a and b. Definitions only.
 use Prim.Native.Nat.{ℕ, zero, suc, _+_, _-_}
-use mathlib.Core.Bool.{Bool, cond}
+use mathlib.Core.Bool.{Bool, true, false, cond}
 use mathlib.Core.List.{List}
 use lib.Dec.{eqb}
 use lib.Ieee.{Float, lt}
@@ -67,6 +67,13 @@ unfoldable pub monotoneAt : Bool → List Float → List Float → ℕ → ℕ �
 monotoneAt box xs ys n i =
     cond (eqb (i + 1) n) (reached box xs ys n i)
     (adjusted box (secantAt xs ys i) (reached box xs ys n i) (meanAt xs ys n (i + 1)) .left)
+
+-- MonotoneCubic's tangents, and those of "the Box kind"
+abbrev pub circleAt : List Float → List Float → ℕ → ℕ → Float
+circleAt = monotoneAt false
+
+abbrev pub boxAt : List Float → List Float → ℕ → ℕ → Float
+boxAt = monotoneAt true
 
 -- ---- the rows that the code makes of the segments, by the row of secants ds: first mᵢ₊₁, and β
 unfoldable pub rightMean : List Float → ℕ → ℕ → Float
