@@ -2,7 +2,6 @@
 -- A need c of a function of which the job is the first parameter has `own = c .good .0`.
 use mathlib.Core.List.{List}
 use Prim.Native.Nat.{_<_}
-use lib.Dec.{lit<}
 use mir.Val.{Val}
 use denote.Shadow.{shadow}
 use denote.Struct.Field.{Field}
@@ -12,24 +11,11 @@ use Rattle.points.specs.Points.{listOf}
 use Rattle.points.specs.Order.{All, Bytes, all-take}
 use Rattle.points.specs.Owned.{bytes-told}
 use Rattle.points.proofs.Curve as CurveType
-use Rattle.tables.specs.declared.CurveInterpolation.{CurveInterpolation}
-use Rattle.tables.specs.declared.CurveInterpolation.the-variants.{
-  Linear,
-  CatmullRom,
-  MonotoneCubic,
-  MonotoneCubicBox,
-  NaturalCubic,
-  CentripetalCatmullRom,
-  ChordalCatmullRom,
-  Cardinal,
-  ClampedCubic,
-  NotAKnotCubic,
-}
-use Rattle.tables.proofs.CurveInterpolation as KindType
+use Rattle.tables.specs.Kinds.{carriedOf}
+use Rattle.tables.proofs.Owned.{tension-owned}
 use Rattle.sets.specs.declared.Channel.{Channel}
 use Rattle.sets.specs.declared.Curves.{Curves}
 use Rattle.sets.specs.Sets.{viewOf, channelOf}
-use Rattle.sets.specs.Carried.{carriedOf}
 use Rattle.sets.specs.Lists.{OfColour, EveryList}
 use Rattle.sets.proofs.Channel as ChannelType
 use Rattle.sets.proofs.Curves as SetType
@@ -54,23 +40,12 @@ set-points-told s vs own = record {
   blue = colour-told (s .blue) _ (own .1 .1 .1 .1 .1 .0);
 }
 
-kind-told : (k : CurveInterpolation) (vs : List Val) → IsOwned KindType.the-field k vs → carriedOf k .tension < 256
-kind-told Linear vs own = lit< tt
-kind-told CatmullRom vs own = lit< tt
-kind-told MonotoneCubic vs own = lit< tt
-kind-told MonotoneCubicBox vs own = lit< tt
-kind-told NaturalCubic vs own = lit< tt
-kind-told CentripetalCatmullRom vs own = lit< tt
-kind-told ChordalCatmullRom vs own = lit< tt
-kind-told (Cardinal q) vs own = own .1 .1 .1 .1 .0 .1
-kind-told (ClampedCubic start end) vs own = lit< tt
-kind-told NotAKnotCubic vs own = lit< tt
-
 set-tension-told : (s : Curves) (vs : List Val) → IsOwned SetType.the-field s vs
     → carriedOf (s .interpolation) .tension < 256
-set-tension-told s vs own = kind-told (s .interpolation) _ (own .1 .1 .1 .1 .1 .1 .0)
+set-tension-told s vs own = tension-owned (s .interpolation) _ (own .1 .1 .1 .1 .1 .1 .0)
 
-pub points-told : (j : Job) (vs : List Val) → IsOwned JobType.the-field j vs → EveryList (All Bytes) (viewOf (j .set))
+pub points-told : (j : Job) (vs : List Val) → IsOwned JobType.the-field j vs
+    → EveryList (All Bytes) (viewOf (j .set))
 points-told j vs own = set-points-told (j .set) _ (own .1 .1 .0)
 
 pub tension-told : (j : Job) (vs : List Val) → IsOwned JobType.the-field j vs

@@ -16,8 +16,8 @@ use Rattle.tables.specs.Tables.{byteTable}
 use Rattle.sets.specs.declared.Colour.{Colour}
 use Rattle.sets.specs.declared.Colour.the-variants.{Red, Green, Blue}
 use Rattle.sets.specs.Sets.{View, viewOf, colourOf, ownOrMaster, curveChecks, setChecks}
-use Rattle.sets.specs.Carried.{carriedOf}
 use Rattle.sets.specs.Lists.{EveryList}
+use Rattle.tables.specs.Kinds.{carriedOf}
 use Rattle.rows.specs.Bytes.{three, rowByte}
 use Rattle.rows.specs.Rows.{tightByte}
 use Rattle.formats.specs.declared.PixelFormat.{PixelFormat}

@@ -18,7 +18,7 @@ use Rattle.tables.specs.declared.CurveInterpolation.the-variants.{Linear, Monot
 use Rattle.sets.specs.declared.Channel.{Channel}
 use Rattle.sets.specs.Sets.{setAnswer}
 use Rattle.sets.specs.SameLaws.{Full}
-use Rattle.sets.specs.Carried.{carriedOf}
+use Rattle.tables.specs.Kinds.{carriedOf}
 use Rattle.rows.specs.Rows.{needed}
 use Rattle.formats.specs.Formats.{formatOf, bytesAPixel}
 use Rattle.records.specs.declared.RecordRead.{RecordRead}

@@ -3,7 +3,7 @@
 -- curves, and records survive writing then reading. What a call gives with another number is the first demand's.
 use Prim.Native.Nat.{ℕ, _≤_, _<_}
 use mathlib.Core.Path.{_≡_}
-use mathlib.Core.Bool.{true, false}
+use mathlib.Core.Bool.{false}
 use mathlib.Core.List.{List, [], _∷_, _++_}
 use lib.IntN.{ℤ}
 use lib.ListN.{length, take, drop}
@@ -22,8 +22,8 @@ use Rattle.points.specs.declared.Sorted.{Sorted}
 use Rattle.points.specs.Points.{listOf, kept, SortedFrom}
 use Rattle.points.specs.Order.{All, Bytes}
 use Rattle.tangents.specs.CatmullRom.{catmullRomAt, cardinalAt}
-use Rattle.monotone.specs.Monotone.{monotoneAt}
-use Rattle.chords.specs.Alpha.{alphaAt}
+use Rattle.monotone.specs.Monotone.{circleAt, boxAt}
+use Rattle.chords.specs.Alpha.{centripetalAt, chordalAt}
 use Rattle.spline.specs.declared.SplineBoundary.the-variants.{Natural, Clamped, NotAKnot}
 use Rattle.spline.specs.Segments.{slopeOf}
 use Rattle.sampling.specs.Pieces.{pieceHeight}
@@ -41,12 +41,12 @@ use Rattle.tables.specs.declared.CurveInterpolation.the-variants.{
   NotAKnotCubic,
 }
 use Rattle.tables.specs.declared.Lut.{Lut}
+use Rattle.tables.specs.Kinds.{LegalKind}
 use Rattle.tables.specs.Tables.{sampleOf, entryOf, BuiltTable, BuiltLut}
 use Rattle.table_facts.specs.Through.{byte-sample-finite, fine-sample-finite}
 use Rattle.lookup.specs.Lookup.{looked, LookupCall}
 use Rattle.sets.specs.declared.Curves.{Curves}
 use Rattle.sets.specs.Sets.{View, viewOf, setAnswer}
-use Rattle.sets.specs.Carried.{LegalKind}
 use Rattle.sets.specs.Legal.{Legal}
 use Rattle.sets.specs.Same.{Same}
 use Rattle.records.specs.declared.RecordRead.{RecordRead}
@@ -65,7 +65,6 @@ use Rattle.pictures.specs.OneTable.{LutCall}
 use Rattle.promises.specs.Words.{Call, Accepted, ExactPicture}
 use Rattle.promises.specs.Results.{straightly, hermiteBy, splineBy, ExactPlane}
 use Rattle.promises.specs.ResultFacts as Fact
-use Rattle.promises.specs.ListFacts.{of-its-bits}
 use Rattle.promises.specs.Drawn.{drawn}
 use Rattle.promises.specs.PictureFacts.{as-defined}
 
@@ -91,8 +90,7 @@ pub samples-finite : (kind : CurveInterpolation) → LegalKind kind
     → ((v : ℕ) → v < 256 → T (finite (sampleOf kind l 256 v)))
     × ((v : ℕ) → v < 4096 → T (finite (sampleOf kind l 4096 v)))
 samples-finite kind legal l bytes =
-    let bits = of-its-bits kind legal in
-    (byte-sample-finite l bytes kind bits, fine-sample-finite l bytes kind bits)
+    (byte-sample-finite l bytes kind legal, fine-sample-finite l bytes kind legal)
 
 -- `lookup`: each value replaced
 pub lookup : {table old new : List Float} {r : Answer} → LookupCall table old r new → numberOf r ≡ 0
@@ -127,20 +125,20 @@ module _ (l : List Point) (S v : ℕ) where
   cardinal q = drawn l S v (Cardinal q)
 
   -- Fritsch and Carlson, "Monotone Piecewise Cubic Interpolation", 1980: the circle, and the box
-  pub monotone-cubic : sampleOf MonotoneCubic l S v ≡ hermiteBy l S v (monotoneAt false)
+  pub monotone-cubic : sampleOf MonotoneCubic l S v ≡ hermiteBy l S v circleAt
   unfolding pieceHeight
   monotone-cubic = drawn l S v MonotoneCubic
 
-  pub monotone-cubic-box : sampleOf MonotoneCubicBox l S v ≡ hermiteBy l S v (monotoneAt true)
+  pub monotone-cubic-box : sampleOf MonotoneCubicBox l S v ≡ hermiteBy l S v boxAt
   unfolding pieceHeight
   monotone-cubic-box = drawn l S v MonotoneCubicBox
 
   -- Barry and Goldman, "A recursive evaluation algorithm for a class of Catmull-Rom splines", 1988: by the root of the chord, and by the chord
-  pub centripetal-catmull-rom : sampleOf CentripetalCatmullRom l S v ≡ hermiteBy l S v (alphaAt true)
+  pub centripetal-catmull-rom : sampleOf CentripetalCatmullRom l S v ≡ hermiteBy l S v centripetalAt
   unfolding pieceHeight
   centripetal-catmull-rom = drawn l S v CentripetalCatmullRom
 
-  pub chordal-catmull-rom : sampleOf ChordalCatmullRom l S v ≡ hermiteBy l S v (alphaAt false)
+  pub chordal-catmull-rom : sampleOf ChordalCatmullRom l S v ≡ hermiteBy l S v chordalAt
   unfolding pieceHeight
   chordal-catmull-rom = drawn l S v ChordalCatmullRom
 

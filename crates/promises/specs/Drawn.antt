@@ -1,4 +1,5 @@
--- A sample is the clamped height of the piece in whose segment it lies, drawn from the numbers that its kind gives the two knots at the ends of it.
+-- A sample is the clamped height of the piece in whose segment it lies, drawn from the values that
+-- its kind gives the two knots at the ends of it.
 use Prim.Native.Nat.{ℕ, zero, suc, _+_, _-_, _≤_, _<_}
 use native.Mathlib.Omega.{arith}
 use mathlib.Core.Path.{_≡_}
@@ -17,7 +18,7 @@ use Rattle.points.specs.Knots.{rest, knots, at}
 use Rattle.segments.specs.Segments.{seek, segment}
 use Rattle.sampling.specs.Pieces.{pieceHeight, heightAt, sampled}
 use Rattle.tables.specs.declared.CurveInterpolation.{CurveInterpolation}
-use Rattle.tables.specs.Kinds.{formOf, numbersAt, numbersRow}
+use Rattle.tables.specs.Kinds.{formOf, knotValueAt, knotValueRow}
 use Rattle.tables.specs.Tables.{unclampedAt, sampleOf}
 use Rattle.promises.specs.Results.{xs, ys, n, x, i, a, b}
 
@@ -42,15 +43,17 @@ module _ (l : List Point) (S v : ℕ) where
   right-end = omega (arith, seek-most (xs l) (x l S v) (n l - 2) 0, two-knots (kept l))
 
   module _ (kind : CurveInterpolation) where
-    number : (k : ℕ) → k < n l → at (numbersRow kind (xs l) (ys l) (n l)) k ≡ numbersAt kind (xs l) (ys l) (n l) k
-    number k inside = getD-filled (n l) (numbersAt kind (xs l) (ys l) (n l)) (replicate 66 𝟎) k nan inside
+    value : (k : ℕ) → k < n l
+        → at (knotValueRow kind (xs l) (ys l) (n l)) k ≡ knotValueAt kind (xs l) (ys l) (n l) k
+    value k inside =
+        getD-filled (n l) (knotValueAt kind (xs l) (ys l) (n l)) (replicate 66 𝟎) k nan inside
 
     pub drawn : sampleOf kind l S v
         ≡ clamped (pieceHeight (formOf kind) (record {
           a = a l S v;
           b = b l S v;
-          p = numbersAt kind (xs l) (ys l) (n l) (i l S v);
-          q = numbersAt kind (xs l) (ys l) (n l) (i l S v + 1);
+          p = knotValueAt kind (xs l) (ys l) (n l) (i l S v);
+          q = knotValueAt kind (xs l) (ys l) (n l) (i l S v + 1);
         }) (x l S v))
     unfolding sampleOf sampled unclampedAt heightAt
-    drawn = rw (number (i l S v) (omega (arith, right-end)), number (i l S v + 1) right-end)
+    drawn = rw (value (i l S v) (omega (arith, right-end)), value (i l S v + 1) right-end)

@@ -1,30 +1,18 @@
 -- The list that tones a byte: what holds of every list in a set holds of it, and its table is the one that tones the byte.
 use Prim.Native.Nat.{ℕ, zero, suc, _<_}
-use mathlib.Core.Path.{_≡_, refl}
-use mathlib.Core.Logic.{inl, inr}
+use mathlib.Core.Path.{_≡_}
 use mathlib.Core.List.{List}
 use mathlib.Core.Option.{Option, none, some}
 use Rattle.lists.specs.Tabulate.{getD-tabulate}
 use Rattle.lists.specs.Test.{by-test}
 use Rattle.points.specs.declared.Point.{Point}
 use Rattle.tables.specs.declared.CurveInterpolation.{CurveInterpolation}
-use Rattle.tables.specs.declared.CurveInterpolation.the-variants.{
-  Linear,
-  CatmullRom,
-  MonotoneCubic,
-  MonotoneCubicBox,
-  NaturalCubic,
-  CentripetalCatmullRom,
-  ChordalCatmullRom,
-  Cardinal,
-  ClampedCubic,
-  NotAKnotCubic,
-}
+use Rattle.tables.specs.Kinds.{carriedOf}
+use Rattle.tables.specs.KindLaws.{spline-number}
 use Rattle.tables.specs.Tables.{entryOf}
-use Rattle.table_facts.specs.Through.{NoSpline, OfItsBits}
+use Rattle.table_facts.specs.Through.{NoSpline}
 use Rattle.sets.specs.declared.Colour.{Colour}
 use Rattle.sets.specs.declared.Colour.the-variants.{Red, Green, Blue}
-use Rattle.sets.specs.Carried.{carriedOf, LegalKind}
 use Rattle.sets.specs.Sets.{View, colourOf, ownOrMaster}
 use Rattle.sets.specs.Lists.{OfColour, EveryList}
 use Rattle.rows.specs.Bytes.{through}
@@ -60,26 +48,4 @@ toning-table f v j x h = rw (tables-of f v j) (getD-tabulate 256 (entryOf (v .ki
 
 -- a kind that is no spline, in the words of the table facts
 pub no-spline : (k : CurveInterpolation) → (IsSpline k → ⊥) → carriedOf k .tension < 256 → NoSpline k
-no-spline Linear other byte = tt
-no-spline CatmullRom other byte = tt
-no-spline MonotoneCubic other byte = tt
-no-spline MonotoneCubicBox other byte = tt
-no-spline NaturalCubic other byte = other (inl refl)
-no-spline CentripetalCatmullRom other byte = tt
-no-spline ChordalCatmullRom other byte = tt
-no-spline (Cardinal q) other byte = byte
-no-spline (ClampedCubic start end) other byte = other (inr (inl refl))
-no-spline NotAKnotCubic other byte = other (inr (inr refl))
-
--- a kind that code holds, in the words of the table facts
-pub of-its-bits : (k : CurveInterpolation) → LegalKind k → OfItsBits k
-of-its-bits Linear legal = tt
-of-its-bits CatmullRom legal = tt
-of-its-bits MonotoneCubic legal = tt
-of-its-bits MonotoneCubicBox legal = tt
-of-its-bits NaturalCubic legal = tt
-of-its-bits CentripetalCatmullRom legal = tt
-of-its-bits ChordalCatmullRom legal = tt
-of-its-bits (Cardinal q) legal = legal .tension
-of-its-bits (ClampedCubic start end) legal = (legal .start, legal .end)
-of-its-bits NotAKnotCubic legal = tt
+no-spline k other byte = record { form = λ e. other (spline-number k e); tension = byte }

@@ -14,10 +14,12 @@ use Rattle.answers.specs.declared.Answer.the-variants.{RecordTruncated, PointCo
 use Rattle.points.specs.declared.Point.{Point}
 use Rattle.points.specs.Points.{limit, rises}
 use Rattle.tables.specs.declared.CurveInterpolation.{CurveInterpolation}
+use Rattle.tables.specs.Kinds.{lastKind, carriesTension, carriesSlopes, kindBits}
 use Rattle.sets.specs.declared.Colour.{Colour}
 use Rattle.sets.specs.declared.Colour.the-variants.{Red, Green, Blue}
 use Rattle.sets.specs.Sets.{View, emptyView, default}
-use Rattle.records.specs.Format.{Parse, good, refused, _▷_, bit, carriedBits, kindBits, colourBit, pointOf, pairs, readPoints, readList, readField}
+use Rattle.records.specs.Format.{Parse, good, refused, _▷_, bit, carriedBits, colourBit, pointOf}
+use Rattle.records.specs.Format.{pairs, readPoints, readList, readField}
 use Rattle.records.specs.Format.{readNumber, readTension, readSlopes, readCarried, readAgreed, readKind, masterStep, colourStep, kindStep, endStep}
 use Rattle.records.specs.Format.{longest, readFields, result, readRecord}
 
@@ -77,17 +79,21 @@ unfolding readNumber
 number-fronts unnamed false n s m h = read _ s m (omega arith)
 number-fronts unnamed true n s zero h = absurd (omega arith)
 number-fronts unnamed true n [] (suc m) h = none-read RecordTruncated
-number-fronts unnamed true n (k ∷ s) (suc m) h = by-test (ltb 9 k) (λ e. rw e (none-read UnknownKind)) (λ e. rw e (read k s m (omega arith)))
+number-fronts unnamed true n (k ∷ s) (suc m) h =
+    by-test (ltb lastKind k) (λ e. rw e (none-read UnknownKind))
+    (λ e. rw e (read k s m (omega arith)))
 
-tension-fronts : (n : ℕ) (s : List ℕ) (m : ℕ) → 1 + n ≤ m → Fronts n (readTension s) (readTension (take m s))
+tension-fronts : (k n : ℕ) (s : List ℕ) (m : ℕ) → 1 + n ≤ m
+    → Fronts n (readTension k s) (readTension k (take m s))
 unfolding readTension
-tension-fronts n s zero h = absurd (omega arith)
-tension-fronts n [] (suc m) h = none-read RecordTruncated
-tension-fronts n (q ∷ s) (suc m) h = read _ s m (omega arith)
+tension-fronts k n s zero h = absurd (omega arith)
+tension-fronts k n [] (suc m) h = none-read RecordTruncated
+tension-fronts k n (q ∷ s) (suc m) h = read _ s m (omega arith)
 
-slopes-fronts : (n : ℕ) (s : List ℕ) (m : ℕ) → 4 + n ≤ m → Fronts n (readSlopes s) (readSlopes (take m s))
+slopes-fronts : (k n : ℕ) (s : List ℕ) (m : ℕ) → 4 + n ≤ m
+    → Fronts n (readSlopes k s) (readSlopes k (take m s))
 unfolding readSlopes
-slopes-fronts n s m h =
+slopes-fronts k n s m h =
     by-test (ltb (length s) 4) (λ g. rw (take-all m s (omega (arith, ltb-true (length s) 4 g)), g) (none-read RecordTruncated))
     (λ g.
     let long : 4 ≤ length (take m s) = rw (length-take m s) (omega (arith, ltb-false (length s) 4 g)) in
@@ -107,8 +113,9 @@ unfolding readCarried
 agreed-fronts map k n s m h =
     by-test (eqb (carriedBits map) (kindBits k))
     (λ e. rw e
-    (by-test (eqb k 7) (λ f. rw f (tension-fronts n s m (omega arith)))
-    (λ f. by-test (eqb k 8) (λ g. rw (f, g) (slopes-fronts n s m h)) (λ g. rw (f, g) (read _ s m (omega arith))))))
+    (by-test (carriesTension k) (λ f. rw f (tension-fronts k n s m (omega arith)))
+    (λ f. by-test (carriesSlopes k) (λ g. rw (f, g) (slopes-fronts k n s m h))
+    (λ g. rw (f, g) (read _ s m (omega arith))))))
     (λ e. rw e (none-read FieldMismatch))
 
 -- ---- the fields

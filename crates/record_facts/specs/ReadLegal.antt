@@ -7,7 +7,7 @@ use mathlib.Core.Option.{Option}
 use Prim.Native.Nat.{ℕ, zero, suc, _+_, _*_, _<_}
 use native.Mathlib.Omega.{arith}
 use borrow.Author.Tests.{ltb-true, ltb-false, not-false}
-use lib.Dec.{ltb, eqb, lit<, lit≤}
+use lib.Dec.{ltb, lit<, lit≤}
 use lib.IntN.{pos}
 use lib.ListN.{length, getD, drop}
 use lib.Seq.{getD-drop}
@@ -18,10 +18,11 @@ use Rattle.answers.specs.Checks.{_when_}
 use Rattle.points.specs.declared.Point.{Point}
 use Rattle.points.specs.Points.{limit, risesFrom}
 use Rattle.tables.specs.declared.CurveInterpolation.{CurveInterpolation}
-use Rattle.tables.specs.Kinds.{kindOf}
+use Rattle.tables.specs.declared.Carried.{Carried}
+use Rattle.tables.specs.Kinds.{carriesTension, carriesSlopes, nothing, LegalKind}
+use Rattle.tables.specs.KindLaws.{kind-legal}
 use Rattle.sets.specs.declared.Colour.{Colour}
 use Rattle.sets.specs.declared.Colour.the-variants.{Red, Green, Blue}
-use Rattle.sets.specs.Carried.{nothing, carriedOf, LegalKind}
 use Rattle.sets.specs.Legal.{LegalList, LegalColour, Legal}
 use Rattle.sets.specs.Sets.{View, emptyView, default, withColour}
 use Rattle.records.specs.Format.{
@@ -116,50 +117,41 @@ field-legal present least s b =
     (λ absent. (empty-legal, b))
 
 -- ---- the kind
-carries-nothing : (k : ℕ) → carriedOf (kindOf k 0 (pos 0) (pos 0)) ≡ nothing
-carries-nothing zero = refl
-carries-nothing (suc zero) = refl
-carries-nothing (suc (suc zero)) = refl
-carries-nothing (suc (suc (suc zero))) = refl
-carries-nothing (suc (suc (suc (suc zero)))) = refl
-carries-nothing (suc (suc (suc (suc (suc zero))))) = refl
-carries-nothing (suc (suc (suc (suc (suc (suc zero)))))) = refl
-carries-nothing (suc (suc (suc (suc (suc (suc (suc zero))))))) = refl
-carries-nothing (suc (suc (suc (suc (suc (suc (suc (suc zero)))))))) = refl
-carries-nothing (suc (suc (suc (suc (suc (suc (suc (suc (suc n))))))))) = refl
-
-plain-legal : (k : ℕ) → LegalKind (kindOf k 0 (pos 0) (pos 0))
-plain-legal k = record { tension = rw (carries-nothing k) (lit< tt); start = rw (carries-nothing k) (lit< tt); end = rw (carries-nothing k) (lit< tt) }
-
 slope-legal : (low high : ℕ) → low < 256 → high < 256 → mag (storedSlope low high) < 32768
 slope-legal low high l h =
     let n = low + high * 256 in
     by-test (ltb n 32768) (λ t. rw t (ltb-true n 32768 t)) (λ t. rw t (omega (arith, ltb-false n 32768 t)))
 
-tension-legal : (s : List ℕ) → AllBytes s → Finds LegalKind (readTension s)
+tension-legal : (k : ℕ) (s : List ℕ) → AllBytes s → Finds LegalKind (readTension k s)
 unfolding readTension
-tension-legal [] b = tt
-tension-legal (q ∷ s) b = (record { tension = b .byte 0; start = lit< tt; end = lit< tt }, bytes-rest q s b)
+tension-legal k [] b = tt
+tension-legal k (q ∷ s) b =
+    let c : Carried = record { tension = q; start = pos 0; end = pos 0 } in
+    (kind-legal k c (b .byte 0) (lit< tt) (lit< tt), bytes-rest q s b)
 
-slopes-legal : (s : List ℕ) → AllBytes s → Finds LegalKind (readSlopes s)
+slopes-legal : (k : ℕ) (s : List ℕ) → AllBytes s → Finds LegalKind (readSlopes k s)
 unfolding readSlopes
-slopes-legal s b =
+slopes-legal k s b =
     checked-has (Finds LegalKind) (λ a refusal. tt) (RecordTruncated when ltb (length s) 4 ∷ []) _
     (λ whole. (
-      record {
-        tension = lit< tt;
-        start = slope-legal (getD s 0 0) (getD s 1 0) (b .byte 0) (b .byte 1);
-        end = slope-legal (getD s 2 0) (getD s 3 0) (b .byte 2) (b .byte 3);
-      },
+      kind-legal k
+          (record {
+            tension = 0;
+            start = storedSlope (getD s 0 0) (getD s 1 0);
+            end = storedSlope (getD s 2 0) (getD s 3 0);
+          })
+          (lit< tt)
+          (slope-legal (getD s 0 0) (getD s 1 0) (b .byte 0) (b .byte 1))
+          (slope-legal (getD s 2 0) (getD s 3 0) (b .byte 2) (b .byte 3)),
       bytes-drop 4 s b,
     ))
 
 carried-legal : (k : ℕ) (s : List ℕ) → AllBytes s → Finds LegalKind (readCarried k s)
 unfolding readCarried
 carried-legal k s b =
-    either (Finds LegalKind) (eqb k 7) _ _ (λ cardinal. tension-legal s b)
-    (λ other. either (Finds LegalKind) (eqb k 8) _ _ (λ clamped. slopes-legal s b)
-    (λ plain. (plain-legal k, b)))
+    either (Finds LegalKind) (carriesTension k) _ _ (λ tension. tension-legal k s b)
+    (λ other. either (Finds LegalKind) (carriesSlopes k) _ _ (λ slopes. slopes-legal k s b)
+    (λ plain. (kind-legal k nothing (lit< tt) (lit< tt) (lit< tt), b)))
 
 -- any number is followed by bytes
 abbrev AnyNumber : ℕ → Type 0
@@ -172,9 +164,10 @@ number-bytes unnamed true [] b = tt
 number-bytes unnamed true (k ∷ s) b =
     checked-has (Finds AnyNumber) (λ a refusal. tt) (kindCheck k ∷ []) (good k s) (λ known. (tt, bytes-rest k s b))
 
-kind-legal : (unnamed : CurveInterpolation) (m : ℕ) (s : List ℕ) → AllBytes s → Finds LegalKind (readKind unnamed m s)
+read-kind-legal : (unnamed : CurveInterpolation) (m : ℕ) (s : List ℕ) → AllBytes s
+    → Finds LegalKind (readKind unnamed m s)
 unfolding readKind
-kind-legal unnamed m s b =
+read-kind-legal unnamed m s b =
     finds-then AnyNumber LegalKind (readNumber unnamed (bit 16 m) s) (readAgreed m) (number-bytes unnamed (bit 16 m) s b)
     (λ k t any c.
     checked-has (Finds LegalKind) (λ a refusal. tt) (bitsCheck m k ∷ []) (readCarried k t) (λ agrees. carried-legal k t c))
@@ -217,7 +210,7 @@ colour-legal colour m v s h b =
 
 kind-step-legal : (unnamed : CurveInterpolation) (m : ℕ) (v : View) (s : List ℕ) → LegalSet v → AllBytes s → Finds LegalSet (kindStep unnamed m v s)
 kind-step-legal unnamed m v s h b =
-    finds-then LegalKind LegalSet (readKind unnamed m s) _ (kind-legal unnamed m s b)
+    finds-then LegalKind LegalSet (readKind unnamed m s) _ (read-kind-legal unnamed m s b)
     (λ k t legal c. (
       record {
         lists = record { master = h .lists .master; red = h .lists .red; green = h .lists .green; blue = h .lists .blue };

@@ -1,32 +1,30 @@
 -- Reading what the writer wrote gives the same set back, for every set that the writer takes and every buffer with room.
 use Prim.Native.Nat.{ℕ, _+_, _-_, _*_, _/_, _%_, _≤_, _<_}
 use native.Mathlib.Omega.{arith}
-use mathlib.Core.Path.{_≡_, refl, ap}
+use mathlib.Core.Path.{_≡_, refl, sym, ap, subst}
 use mathlib.Core.List.{List, [], _∷_, _++_, append-assoc}
 use mathlib.Core.Option.{Option, none, some}
 use lib.ListN.{length, take, drop, length-append}
 use lib.Seq.{drop-at, take-append-seam}
 use lib.IntN.{ℤ, pos, negsuc}
 use lib.Signed.{mag}
-use borrow.Author.Tests.{le-ltb, lt-ltb}
+use lib.Dec.{eqb}
+use borrow.Author.Tests.{le-ltb, lt-ltb, eqb-true, eq-eqb}
+use Rattle.lists.specs.Test.{by-test}
 use Rattle.points.specs.declared.Point.{Point}
 use Rattle.tables.specs.declared.CurveInterpolation.{CurveInterpolation}
-use Rattle.tables.specs.declared.CurveInterpolation.the-variants.{
-  Linear,
-  CatmullRom,
-  MonotoneCubic,
-  MonotoneCubicBox,
-  NaturalCubic,
-  CentripetalCatmullRom,
-  ChordalCatmullRom,
-  Cardinal,
-  ClampedCubic,
-  NotAKnotCubic,
+use Rattle.tables.specs.Kinds.{
+  kindNumber,
+  LegalKind,
+  lastKind,
+  carriesTension,
+  carriesSlopes,
+  kindBits,
+  carriedOf,
 }
-use Rattle.tables.specs.Kinds.{kindNumber}
+use Rattle.tables.specs.KindLaws.{number-known, kind-carries}
 use Rattle.answers.specs.declared.Answer.the-variants.{Done}
 use Rattle.sets.specs.declared.Curves.{Curves}
-use Rattle.sets.specs.Carried.{LegalKind}
 use Rattle.sets.specs.Legal.{LegalList, LegalColour, Legal, legal-view}
 use Rattle.sets.specs.Sets.{View, viewOf, default}
 use Rattle.points.specs.Points.{limit}
@@ -34,7 +32,6 @@ use Rattle.records.specs.Format.{
   good,
   bit,
   carriedBits,
-  kindBits,
   pointBytes,
   pairs,
   readPoints,
@@ -45,6 +42,7 @@ use Rattle.records.specs.Format.{
   readTension,
   readSlopes,
   readCarried,
+  readAgreed,
   readKind,
   colourList,
   readFields,
@@ -128,20 +126,35 @@ slope-back (negsuc n) h =
     let back : 65535 - (65535 - n) ≡ n = omega arith in
     rw (sixteen (65535 - n), le-ltb (65535 - n) 32768 (omega arith), back)
 
--- the kind, with what it carries, at the end of a record
+-- what a kind carries, at the end of a record
+carried-back : (k : CurveInterpolation) → LegalKind k
+    → readCarried (kindNumber k) (carriedBytes k) ≡ good k []
+unfolding readCarried readTension readSlopes
+carried-back k h =
+    let c = carriedOf k in
+    let n = kindNumber k in
+    by-test (carriesTension n) (λ t. rw t (ap (λ i. good i []) (rw t at (kind-carries k))))
+    (λ t. by-test (carriesSlopes n)
+    (λ u.
+    rw (t, u, slope-back (c .start) (h .start), slope-back (c .end) (h .end))
+    (ap (λ i. good i []) (rw (t, u) at (kind-carries k))))
+    (λ u. rw (t, u) (ap (λ i. good i []) (rw (t, u) at (kind-carries k)))))
+
+-- the kind of number n, where bits 5 and 6 agree with it
+agreed-back : (k : CurveInterpolation) (m n : ℕ) → LegalKind k → n ≡ kindNumber k
+    → carriedBits m ≡ kindBits (kindNumber k) → readAgreed m n (carriedBytes k) ≡ good k []
+agreed-back k m n h e carried =
+    subst (λ (i : ℕ). readAgreed m i (carriedBytes k) ≡ good k []) (sym e)
+    (rw (eq-eqb (carriedBits m) (kindBits (kindNumber k)) carried) (carried-back k h))
+
 kind-back : (k : CurveInterpolation) (m : ℕ) → LegalKind k → bit 16 m ≡ namesKind k → carriedBits m ≡ kindBits (kindNumber k)
     → readKind default m (kindBytes k ++ carriedBytes k) ≡ good k []
-unfolding readKind readNumber readCarried readTension readSlopes
-kind-back Linear m h named carried = rw (named, carried)
-kind-back CatmullRom m h named carried = rw (named, carried)
-kind-back MonotoneCubic m h named carried = rw (named, carried)
-kind-back MonotoneCubicBox m h named carried = rw (named, carried)
-kind-back NaturalCubic m h named carried = rw (named, carried)
-kind-back CentripetalCatmullRom m h named carried = rw (named, carried)
-kind-back ChordalCatmullRom m h named carried = rw (named, carried)
-kind-back (Cardinal q) m h named carried = rw (named, carried)
-kind-back (ClampedCubic start end) m h named carried = rw (named, carried, slope-back start (h .start), slope-back end (h .end))
-kind-back NotAKnotCubic m h named carried = rw (named, carried)
+unfolding readKind readNumber
+kind-back k m h named carried =
+    let n = kindNumber k in
+    let d = kindNumber default in
+    by-test (eqb n d) (λ t. rw (named, t) (agreed-back k m d h (sym (eqb-true n d t)) carried))
+    (λ t. rw (named, t, le-ltb lastKind n (number-known k)) (agreed-back k m n h refl carried))
 
 -- ---- the record
 regroup : (a b c d e f : List ℕ) → a ++ b ++ c ++ d ++ e ++ f ≡ a ++ (b ++ (c ++ (d ++ (e ++ f))))

@@ -18,19 +18,10 @@ use Rattle.answers.specs.Numbers.{isDone}
 use Rattle.points.specs.declared.Point.{Point}
 use Rattle.points.specs.Points.{pt}
 use Rattle.tables.specs.declared.CurveInterpolation.{CurveInterpolation}
-use Rattle.tables.specs.declared.CurveInterpolation.the-variants.{
-  Linear,
-  CatmullRom,
-  MonotoneCubic,
-  MonotoneCubicBox,
-  NaturalCubic,
-  CentripetalCatmullRom,
-  ChordalCatmullRom,
-  Cardinal,
-  ClampedCubic,
-  NotAKnotCubic,
-}
-use Rattle.tables.specs.Kinds.{kindNumber, kindOf}
+use Rattle.tables.specs.declared.Carried.{Carried}
+use Rattle.tables.specs.Kinds.{kindNumber, lastKind, carriesTension, carriesSlopes, kindBits}
+use Rattle.tables.specs.Kinds.{nothing}
+use Rattle.tables.specs.KindLaws.{kindWith, number-back, carried-back}
 use Rattle.sets.specs.declared.Colour.the-variants.{Red, Green, Blue}
 use Rattle.sets.specs.Sets.{View, emptyView, default}
 use Rattle.records.specs.Format.{
@@ -40,7 +31,6 @@ use Rattle.records.specs.Format.{
   _▷_,
   bit,
   carriedBits,
-  kindBits,
   pairs,
   pointChecks,
   readPoints,
@@ -192,31 +182,9 @@ record CarriedOf (k : ℕ) (v : CurveInterpolation) (c : List ℕ) : Type 0 wher
   long : length c ≡ length (carriedBytes v)
   same : AllBytes c → c ≡ carriedBytes v
 
-pub plain-carries : (v : CurveInterpolation) → eqb (kindNumber v) 7 ≡ false
-    → eqb (kindNumber v) 8 ≡ false → carriedBytes v ≡ []
-plain-carries Linear h i = refl
-plain-carries CatmullRom h i = refl
-plain-carries MonotoneCubic h i = refl
-plain-carries MonotoneCubicBox h i = refl
-plain-carries NaturalCubic h i = refl
-plain-carries CentripetalCatmullRom h i = refl
-plain-carries ChordalCatmullRom h i = refl
-plain-carries (Cardinal q) h i = let z : _≡_ {A = ℕ} 0 1 = cc in absurd (omega arith)
-plain-carries (ClampedCubic start end) h i = let z : _≡_ {A = ℕ} 0 1 = cc in absurd (omega arith)
-plain-carries NotAKnotCubic h i = refl
-
-number-back : (k : ℕ) → k ≤ 9 → kindNumber (kindOf k 0 (pos 0) (pos 0)) ≡ k
-number-back zero h = refl
-number-back (suc zero) h = refl
-number-back (suc (suc zero)) h = refl
-number-back (suc (suc (suc zero))) h = refl
-number-back (suc (suc (suc (suc zero)))) h = refl
-number-back (suc (suc (suc (suc (suc zero))))) h = refl
-number-back (suc (suc (suc (suc (suc (suc zero)))))) h = refl
-number-back (suc (suc (suc (suc (suc (suc (suc zero))))))) h = refl
-number-back (suc (suc (suc (suc (suc (suc (suc (suc zero)))))))) h = refl
-number-back (suc (suc (suc (suc (suc (suc (suc (suc (suc zero))))))))) h = refl
-number-back (suc (suc (suc (suc (suc (suc (suc (suc (suc (suc k)))))))))) h = absurd (omega arith)
+pub plain-carries : (v : CurveInterpolation) → carriesTension (kindNumber v) ≡ false
+    → carriesSlopes (kindNumber v) ≡ false → carriedBytes v ≡ []
+plain-carries v h i = rw (h, i)
 
 -- a number of 16 bits and its bytes
 slope-spelled : (low high : ℕ) → low < 256 → high < 256
@@ -228,55 +196,66 @@ slope-spelled low high l h =
     by-test (ltb n 32768) (λ t. rw (t, low-is, high-is))
     (λ t. let back : 65535 - (65535 - n) ≡ n = omega arith in rw (t, back, low-is, high-is))
 
-tension-spelled : (s : List ℕ) → Spelled (CarriedOf 7) s (readTension s)
-unfolding readTension
-tension-spelled [] = refl
-tension-spelled (q ∷ s) =
-    record {
-      bytes = q ∷ [];
-      spelled =
-          record { number = refl; long = refl; same = λ b. refl };
-      whole = refl;
-    }
+module _ (k : ℕ) (known : ltb lastKind k ≡ false) where
+  -- a kind of this number, and what it carries
+  number : (c : Carried) → kindNumber (kindWith k c) ≡ k
+  number c = number-back k c (ltb-false lastKind k known)
 
-slopes-spelled : (s : List ℕ) → Spelled (CarriedOf 8) s (readSlopes s)
-unfolding readSlopes
-slopes-spelled [] = refl
-slopes-spelled (a ∷ []) = refl
-slopes-spelled (a ∷ b ∷ []) = refl
-slopes-spelled (a ∷ b ∷ c ∷ []) = refl
-slopes-spelled (a ∷ b ∷ c ∷ d ∷ s) =
-    let long : 4 ≤ length (a ∷ b ∷ c ∷ d ∷ s) = omega arith in
-    rw (le-ltb (length (a ∷ b ∷ c ∷ d ∷ s)) 4 long)
-    (record {
-      bytes = a ∷ b ∷ c ∷ d ∷ [];
-      spelled = record {
-        number = refl;
-        long = refl;
-        same = λ h.
-            sym
-            (ap (λ (t : List ℕ). t ++ slopeBytes (storedSlope c d))
-            (slope-spelled a b (h .byte 0) (h .byte 1))
-            ∙ ap (λ (t : List ℕ). a ∷ b ∷ t) (slope-spelled c d (h .byte 2) (h .byte 3)));
-      };
-      whole = refl;
-    })
+  tension-spelled : carriesTension k ≡ true → (s : List ℕ)
+      → Spelled (CarriedOf k) s (readTension k s)
+  unfolding readTension
+  tension-spelled t [] = refl
+  tension-spelled t (q ∷ s) =
+      let c : Carried = record { tension = q; start = pos 0; end = pos 0 } in
+      let bytes : carriedBytes (kindWith k c) ≡ q ∷ [] = rw (number c, t, carried-back k c, t) in
+      record {
+        bytes = q ∷ [];
+        spelled = record { number = number c; long = rw bytes; same = λ b. sym bytes };
+        whole = refl;
+      }
 
-carried-spelled : (k : ℕ) (s : List ℕ) → ltb 9 k ≡ false → Spelled (CarriedOf k) s (readCarried k s)
-unfolding readCarried
-carried-spelled k s known =
-    let F = Spelled (CarriedOf k) s in
-    either F (eqb k 7) _ _ (λ cardinal. rw (eqb-true k 7 cardinal) (tension-spelled s))
-    (λ other. either F (eqb k 8) _ _ (λ clamped. rw (eqb-true k 8 clamped) (slopes-spelled s))
-    (λ plain.
-    let number = number-back k (ltb-false 9 k known) in
-    let none = plain-carries (kindOf k 0 (pos 0) (pos 0)) (rw number other) (rw number plain) in
-    record {
-      bytes = [];
-      spelled =
-          record { number = number; long = rw none; same = λ b. sym none };
-      whole = refl;
-    }))
+  slopes-spelled : carriesTension k ≡ false → carriesSlopes k ≡ true → (s : List ℕ)
+      → Spelled (CarriedOf k) s (readSlopes k s)
+  unfolding readSlopes
+  slopes-spelled t u [] = refl
+  slopes-spelled t u (a ∷ []) = refl
+  slopes-spelled t u (a ∷ b ∷ []) = refl
+  slopes-spelled t u (a ∷ b ∷ c ∷ []) = refl
+  slopes-spelled t u (a ∷ b ∷ c ∷ d ∷ s) =
+      let long : 4 ≤ length (a ∷ b ∷ c ∷ d ∷ s) = omega arith in
+      let v : Carried = record { tension = 0; start = storedSlope a b; end = storedSlope c d } in
+      let bytes : carriedBytes (kindWith k v) ≡ slopeBytes (v .start) ++ slopeBytes (v .end) =
+      rw (number v, t, u, carried-back k v, t, u) in
+      rw (le-ltb (length (a ∷ b ∷ c ∷ d ∷ s)) 4 long)
+      (record {
+        bytes = a ∷ b ∷ c ∷ d ∷ [];
+        spelled = record {
+          number = number v;
+          long = rw bytes;
+          same = λ h.
+              sym
+              (bytes
+              ∙ ap (λ (t : List ℕ). t ++ slopeBytes (storedSlope c d))
+              (slope-spelled a b (h .byte 0) (h .byte 1))
+              ∙ ap (λ (t : List ℕ). a ∷ b ∷ t) (slope-spelled c d (h .byte 2) (h .byte 3)));
+        };
+        whole = refl;
+      })
+
+  carried-spelled : (s : List ℕ) → Spelled (CarriedOf k) s (readCarried k s)
+  unfolding readCarried
+  carried-spelled s =
+      let F = Spelled (CarriedOf k) s in
+      either F (carriesTension k) _ _ (λ t. tension-spelled t s)
+      (λ t. either F (carriesSlopes k) _ _ (λ u. slopes-spelled t u s)
+      (λ u.
+      let n = number nothing in
+      let none = plain-carries (kindWith k nothing) (rw n t) (rw n u) in
+      record {
+        bytes = [];
+        spelled = record { number = n; long = rw none; same = λ b. sym none };
+        whole = refl;
+      }))
 
 -- ---- the kind
 -- the byte that names a kind, in a record that names it
@@ -290,7 +269,7 @@ record KindOf (named : Bool) (m : ℕ) (v : CurveInterpolation) (c : List ℕ) :
   carried : CarriedOf (kindNumber v) v rest
   bytes : c ≡ kindByte named v ++ rest
 
-module _ (named : Bool) (m k : ℕ) (known : ltb 9 k ≡ false)
+module _ (named : Bool) (m k : ℕ) (known : ltb lastKind k ≡ false)
     (unnamed : named ≡ false → k ≡ kindNumber default) where
   kind-of : carriedBits m ≡ kindBits k → (v : CurveInterpolation) (c : List ℕ) → CarriedOf k v c
       → KindOf named m v (cond named (k ∷ []) [] ++ c)
@@ -308,7 +287,8 @@ module _ (named : Bool) (m k : ℕ) (known : ltb 9 k ≡ false)
       let c = cond named (k ∷ []) [] in
       checked-has (Spelled (KindOf named m) (c ++ s)) (λ a refusal. refusal) (bitsCheck m k ∷ []) (readCarried k s)
       (λ agrees. spelled-behind (CarriedOf k) (KindOf named m) c (c ++ s) s (readCarried k s) refl
-      (kind-of (eqb-true (carriedBits m) (kindBits k) (not-false _ (agrees .0)))) (carried-spelled k s known))
+      (kind-of (eqb-true (carriedBits m) (kindBits k) (not-false _ (agrees .0))))
+      (carried-spelled k known s))
 
 kind-spelled : (named : Bool) (m : ℕ) (s : List ℕ)
     → Spelled (KindOf named m) s (readNumber default named s ▷ readAgreed m)
@@ -316,7 +296,7 @@ unfolding readNumber
 kind-spelled false m s = agreed-spelled false m (kindNumber default) refl (λ e. refl) s
 kind-spelled true m [] = refl
 kind-spelled true m (k ∷ s) =
-    by-test (ltb 9 k) (λ above. rw above)
+    by-test (ltb lastKind k) (λ above. rw above)
     (λ known. rw known (agreed-spelled true m k known (λ e. absurd (true≢false e)) s))
 
 -- ---- the set

@@ -16,7 +16,7 @@ use Rattle.answers.specs.declared.Answer.{Answer}
 use Rattle.answers.specs.declared.Answer.the-variants.{RecordTruncated}
 use Rattle.answers.specs.Numbers.{isDone}
 use Rattle.tables.specs.declared.CurveInterpolation.{CurveInterpolation}
-use Rattle.tables.specs.declared.CurveInterpolation.the-variants.{Cardinal, ClampedCubic}
+use Rattle.tables.specs.Kinds.{kindOf}
 use Rattle.records.specs.Format.{
   Parse,
   good,
@@ -67,23 +67,27 @@ pub number-at : (unnamed : CurveInterpolation) (at : ℕ) (s : List ℕ) → at 
 unfolding readNumber
 number-at unnamed at s h = rw (drop-at s at h)
 
-pub tension-none : (at : ℕ) (s : List ℕ) → length s ≤ at → readTension (drop at s) ≡ refused RecordTruncated
+pub tension-none : (k at : ℕ) (s : List ℕ) → length s ≤ at
+    → readTension k (drop at s) ≡ refused RecordTruncated
 unfolding readTension
-tension-none at s h = rw (drop-of-length-le s {i = at} h)
+tension-none k at s h = rw (drop-of-length-le s {i = at} h)
 
-pub tension-at : (at : ℕ) (s : List ℕ) → at < length s → readTension (drop at s) ≡ good (Cardinal (getD s at 0)) (drop (at + 1) s)
+pub tension-at : (k at : ℕ) (s : List ℕ) → at < length s
+    → readTension k (drop at s) ≡ good (kindOf k (getD s at 0) (pos 0) (pos 0)) (drop (at + 1) s)
 unfolding readTension
-tension-at at s h = rw (drop-at s at h)
+tension-at k at s h = rw (drop-at s at h)
 
-pub slopes-short : (at : ℕ) (s : List ℕ) → length s - at < 4 → readSlopes (drop at s) ≡ refused RecordTruncated
+pub slopes-short : (k at : ℕ) (s : List ℕ) → length s - at < 4
+    → readSlopes k (drop at s) ≡ refused RecordTruncated
 unfolding readSlopes
-slopes-short at s h = rw (length-drop at s, lt-ltb (length s - at) 4 h)
+slopes-short k at s h = rw (length-drop at s, lt-ltb (length s - at) 4 h)
 
-pub slopes-at : (at : ℕ) (s : List ℕ) → 4 ≤ length s - at
-    → readSlopes (drop at s)
-    ≡ good (ClampedCubic (storedSlope (getD s at 0) (getD s (at + 1) 0)) (storedSlope (getD s (at + 2) 0) (getD s (at + 3) 0))) (drop (at + 4) s)
+pub slopes-at : (k at : ℕ) (s : List ℕ) → 4 ≤ length s - at →
+    let start = storedSlope (getD s at 0) (getD s (at + 1) 0) in
+    let end = storedSlope (getD s (at + 2) 0) (getD s (at + 3) 0) in
+    readSlopes k (drop at s) ≡ good (kindOf k 0 start end) (drop (at + 4) s)
 unfolding readSlopes
-slopes-at at s h =
+slopes-at k at s h =
     rw (
       length-drop at s,
       le-ltb (length s - at) 4 h,

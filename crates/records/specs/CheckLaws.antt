@@ -4,7 +4,7 @@ use native.Mathlib.Omega.{arith}
 use mathlib.Core.Path.{_≡_, refl, sym, ap}
 use mathlib.Core.Bool.{Bool, true, false, cond, not, true≢false}
 use mathlib.Core.List.{List, [], _∷_, _++_}
-use lib.Dec.{ltb, eqb}
+use lib.Dec.{ltb}
 use lib.ListN.{length, getD, drop}
 use borrow.Author.Tests.{le-ltb}
 use Rattle.lists.specs.Test.{by-test}
@@ -27,8 +27,7 @@ use Rattle.answers.specs.Checks.{
   AllPassed,
   all-passed,
 }
-use Rattle.tables.specs.declared.CurveInterpolation.the-variants.{Cardinal}
-use Rattle.tables.specs.Kinds.{kindNumber}
+use Rattle.tables.specs.Kinds.{kindNumber, lastKind, carriesTension, carriesSlopes}
 use Rattle.sets.specs.declared.Colour.the-variants.{Red, Green, Blue}
 use Rattle.sets.specs.Sets.{View, emptyView, default}
 use Rattle.records.specs.Format.{
@@ -155,18 +154,20 @@ step-read {p = good v s} f h = record { answer = h .answer; goes-on = h .goes-on
 step-read {p = refused a} f h = record { answer = h .answer; goes-on = h .goes-on }
 
 -- the kind
-tension-read : (s : List ℕ) → Reads (RecordTruncated when ltb (length s) 1 ∷ []) (drop 1 s) (readTension s)
+tension-read : (k : ℕ) (s : List ℕ)
+    → Reads (RecordTruncated when ltb (length s) 1 ∷ []) (drop 1 s) (readTension k s)
 unfolding readTension
-tension-read [] = record { answer = refl; goes-on = refl }
-tension-read (q ∷ s) =
-    rw (le-ltb (length (q ∷ s)) 1 (omega arith)) (checked-read (RecordTruncated when false ∷ []) (reads-on (Cardinal q) s))
+tension-read k [] = record { answer = refl; goes-on = refl }
+tension-read k (q ∷ s) =
+    rw (le-ltb (length (q ∷ s)) 1 (omega arith))
+    (checked-read (RecordTruncated when false ∷ []) (reads-on _ s))
 
 carried-read : (k : ℕ) (s : List ℕ) → Reads (RecordTruncated when ltb (length s) (carriedLength k) ∷ []) (drop (carriedLength k) s) (readCarried k s)
 unfolding readCarried readSlopes
 carried-read k s =
-    by-test (eqb k 7) (λ t. rw t (tension-read s))
+    by-test (carriesTension k) (λ t. rw t (tension-read k s))
     (λ t.
-    by-test (eqb k 8)
+    by-test (carriesSlopes k)
     (λ u. rw (t, u) (checked-read (RecordTruncated when ltb (length s) 4 ∷ []) (reads-on _ (drop 4 s))))
     (λ u. rw (t, u, le-ltb (length s) 0 (omega arith)) (checked-read (RecordTruncated when false ∷ []) (reads-on _ s))))
 
@@ -182,7 +183,7 @@ kind-read false m s =
     (agreed-read m (kindNumber default) s)
 kind-read true m [] = record { answer = refl; goes-on = refl }
 kind-read true m (k ∷ s) =
-    by-test (ltb 9 k) (λ t. rw t (record { answer = refl; goes-on = refl }))
+    by-test (ltb lastKind k) (λ t. rw t (record { answer = refl; goes-on = refl }))
     (λ t.
     rw t (checked-read (RecordTruncated when false ∷ UnknownKind when false ∷ []) (agreed-read m k s)))
 

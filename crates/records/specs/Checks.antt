@@ -4,11 +4,11 @@
 use Prim.Native.Nat.{ℕ, _*_}
 use mathlib.Core.Bool.{Bool, true, false, cond, not, _&&_}
 use mathlib.Core.List.{List, [], _∷_, _++_}
-use lib.Dec.{ltb, eqb}
+use lib.Dec.{ltb}
 use lib.ListN.{length, getD, drop}
 use Rattle.answers.specs.declared.Answer.the-variants.{ReservedBit, RecordTruncated, TrailingBytes}
 use Rattle.answers.specs.Checks.{Check, _when_}
-use Rattle.tables.specs.Kinds.{kindNumber}
+use Rattle.tables.specs.Kinds.{kindNumber, carriesTension, carriesSlopes}
 use Rattle.sets.specs.Sets.{default}
 use Rattle.records.specs.Format.{bit, pointBytes, pointChecks, kindCheck, bitsCheck}
 
@@ -37,7 +37,7 @@ afterByte stands s = cond stands (drop 1 s) s
 
 -- a tension is one byte, two slopes are four
 abbrev pub carriedLength : ℕ → ℕ
-carriedLength k = cond (eqb k 7) 1 (cond (eqb k 8) 4 0)
+carriedLength k = cond (carriesTension k) 1 (cond (carriesSlopes k) 4 0)
 
 -- "a missing kind byte, 5; then 6, and only then 2 for tension or slopes"
 abbrev pub kindChecks : Bool → ℕ → List ℕ → List Check

@@ -12,7 +12,11 @@ use Rattle.answers.specs.declared.Answer.the-variants.{
   FieldMismatch,
 }
 use Rattle.points.specs.Points.{risesFrom}
-use Rattle.tables.specs.declared.CurveInterpolation.the-variants.{Cardinal, ClampedCubic}
+use Rattle.tables.specs.declared.CurveInterpolation.the-variants.{
+  Cardinal,
+  ClampedCubic,
+  NotAKnotCubic,
+}
 use Rattle.sets.specs.declared.Colour.the-variants.{Red}
 use Rattle.sets.specs.Sets.{emptyView, withColour, withKind}
 use Rattle.records.specs.Format.{
@@ -77,7 +81,13 @@ pub no-kind-byte : readRecord (0x10 ∷ []) ≡ result (refused RecordTruncated)
 unfolding readRecord readFields readKind readNumber
 no-kind-byte = refl
 
--- 5 comes before 6
+-- 9 is a kind
+pub last-kind : readRecord (0x10 ∷ 9 ∷ [])
+    ≡ record { answer = Done; set = withKind NotAKnotCubic emptyView }
+unfolding readRecord readFields readKind readNumber readCarried
+last-kind = refl
+
+-- 10 is none; 5 comes before 6
 pub unknown-kind : readRecord (0x30 ∷ 10 ∷ []) ≡ result (refused UnknownKind)
 unfolding readRecord readFields readKind readNumber
 unknown-kind = refl

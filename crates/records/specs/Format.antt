@@ -21,8 +21,8 @@ use Rattle.answers.specs.Checks.{Check, _when_, refuses}
 use Rattle.points.specs.declared.Point.{Point}
 use Rattle.points.specs.Points.{pt, limit, countCheck}
 use Rattle.tables.specs.declared.CurveInterpolation.{CurveInterpolation}
-use Rattle.tables.specs.declared.CurveInterpolation.the-variants.{Cardinal, ClampedCubic}
-use Rattle.tables.specs.Kinds.{kindNumber, kindOf}
+use Rattle.tables.specs.Kinds.{kindNumber, lastKind, kindOf}
+use Rattle.tables.specs.Kinds.{carriesTension, carriesSlopes, kindBits}
 use Rattle.sets.specs.declared.Colour.{Colour}
 use Rattle.sets.specs.declared.Colour.the-variants.{Red, Green, Blue}
 use Rattle.sets.specs.Sets.{View, emptyView, default, withMaster, withColour, withKind, risingCheck}
@@ -114,13 +114,9 @@ signed16 n = cond (ltb n 32768) (pos n) (negsuc (65535 - n))
 abbrev pub storedSlope : ℕ → ℕ → ℤ
 storedSlope low high = signed16 (low + high * 256)
 
--- bits 5 and 6 of a kind, given by its number: bit 5 "with Cardinal only", bit 6 "with ClampedCubic only, and always then"
-abbrev pub kindBits : ℕ → ℕ
-kindBits k = cond (eqb k 7) 1 (cond (eqb k 8) 2 0)
-
 -- 5: "The kind byte is above 9"
 abbrev pub kindCheck : ℕ → Check
-kindCheck k = UnknownKind when ltb 9 k
+kindCheck k = UnknownKind when ltb lastKind k
 
 -- "a missing kind byte, 5"; where the record names no kind, it is the unnamed one
 unfoldable pub readNumber : CurveInterpolation → Bool → List ℕ → Parse ℕ
@@ -128,18 +124,22 @@ readNumber unnamed false s = good (kindNumber unnamed) s
 readNumber unnamed true [] = refused RecordTruncated
 readNumber unnamed true (k ∷ s) = checked (kindCheck k ∷ []) (good k s)
 
-unfoldable pub readTension : List ℕ → Parse CurveInterpolation
-readTension [] = refused RecordTruncated
-readTension (q ∷ s) = good (Cardinal q) s
+-- a kind of number k that carries a tension, and one that carries slopes
+unfoldable pub readTension : ℕ → List ℕ → Parse CurveInterpolation
+readTension k [] = refused RecordTruncated
+readTension k (q ∷ s) = good (kindOf k q (pos 0) (pos 0)) s
 
-unfoldable pub readSlopes : List ℕ → Parse CurveInterpolation
-readSlopes s =
-    checked (RecordTruncated when ltb (length s) 4 ∷ [])
-    (good (ClampedCubic (storedSlope (getD s 0 0) (getD s 1 0)) (storedSlope (getD s 2 0) (getD s 3 0))) (drop 4 s))
+unfoldable pub readSlopes : ℕ → List ℕ → Parse CurveInterpolation
+readSlopes k s =
+    let start = storedSlope (getD s 0 0) (getD s 1 0) in
+    let end = storedSlope (getD s 2 0) (getD s 3 0) in
+    checked (RecordTruncated when ltb (length s) 4 ∷ []) (good (kindOf k 0 start end) (drop 4 s))
 
 -- the kind of number k with what it carries: "only then 2 for tension or slopes"
 unfoldable pub readCarried : ℕ → List ℕ → Parse CurveInterpolation
-readCarried k s = cond (eqb k 7) (readTension s) (cond (eqb k 8) (readSlopes s) (good (kindOf k 0 (pos 0) (pos 0)) s))
+readCarried k s =
+    cond (carriesTension k) (readTension k s)
+    (cond (carriesSlopes k) (readSlopes k s) (good (kindOf k 0 (pos 0) (pos 0)) s))
 
 -- 6: "Bit 5 or bit 6 disagrees with the kind, tested before either's bytes"
 abbrev pub bitsCheck : ℕ → ℕ → Check

@@ -12,7 +12,6 @@ ghost use Rattle.records.specs.Format.{
   _▷_,
   bit,
   colourBit,
-  kindBits,
   pointBytes,
   pointOf,
   pairs,
@@ -44,6 +43,9 @@ use sets::Channel;
 use sets::Colour;
 use sets::Curves;
 use tables::CurveInterpolation;
+use tables::carries_slopes;
+use tables::carries_tension;
+use tables::kind_bits;
 use tables::kind_of;
 
 // What a field's reader found, and where the next field starts.
@@ -209,7 +211,7 @@ fn no_number(refusal: Answer) -> NumberRead
 pub fn check_kind(kind: u8) -> Answer
     ensures { λ r. ⌜ r ≡ firstRefusal (kindCheck kind ∷ []) ⌝ }
 {
-    if 9 < kind {
+    if CurveInterpolation::LAST_KIND < kind {
         Answer::UnknownKind
     } else {
         Answer::Done
@@ -253,8 +255,9 @@ fn no_kind(refusal: Answer) -> KindRead
     }
 }
 
-fn read_tension(s: &[u8], at: usize) -> KindRead
-    ensures { λ r. ⌜ kindParsed (now (s .entry)) r ≡ readTension (drop at (now (s .entry))) ⌝ }
+// A kind that carries a tension, and one that carries slopes.
+fn read_tension(s: &[u8], at: usize, k: u8) -> KindRead
+    ensures { λ r. ⌜ kindParsed (now (s .entry)) r ≡ readTension k (drop at (now (s .entry))) ⌝ }
 {
     if s.len() <= at {
         return no_kind(Answer::RecordTruncated);
@@ -262,7 +265,7 @@ fn read_tension(s: &[u8], at: usize) -> KindRead
     KindRead {
         answer: Answer::Done,
         next: at + 1,
-        kind: CurveInterpolation::Cardinal { tension_q8: s[at] },
+        kind: kind_of(k, s[at], 0, 0),
     }
 }
 
@@ -278,8 +281,8 @@ fn stored_slope(low: u8, high: u8) -> i16
     }
 }
 
-fn read_slopes(s: &[u8], at: usize) -> KindRead
-    ensures { λ r. ⌜ kindParsed (now (s .entry)) r ≡ readSlopes (drop at (now (s .entry))) ⌝ }
+fn read_slopes(s: &[u8], at: usize, k: u8) -> KindRead
+    ensures { λ r. ⌜ kindParsed (now (s .entry)) r ≡ readSlopes k (drop at (now (s .entry))) ⌝ }
 {
     if s.len() <= at {
         return no_kind(Answer::RecordTruncated);
@@ -290,23 +293,12 @@ fn read_slopes(s: &[u8], at: usize) -> KindRead
     KindRead {
         answer: Answer::Done,
         next: at + 4,
-        kind: CurveInterpolation::ClampedCubic {
-            start_slope_q8: stored_slope(s[at], s[at + 1]),
-            end_slope_q8: stored_slope(s[at + 2], s[at + 3]),
-        },
-    }
-}
-
-// Bits 5 and 6 that go with the kind of this number.
-pub fn kind_bits(k: u8) -> u8
-    ensures { λ r. ⌜ r ≡ kindBits k ⌝ }
-{
-    if k == 7 {
-        1
-    } else if k == 8 {
-        2
-    } else {
-        0
+        kind: kind_of(
+            k,
+            0,
+            stored_slope(s[at], s[at + 1]),
+            stored_slope(s[at + 2], s[at + 3]),
+        ),
     }
 }
 
@@ -314,10 +306,10 @@ pub fn kind_bits(k: u8) -> u8
 fn read_carried(s: &[u8], at: usize, k: u8) -> KindRead
     ensures { λ r. ⌜ kindParsed (now (s .entry)) r ≡ readCarried k (drop at (now (s .entry))) ⌝ }
 {
-    if k == 7 {
-        read_tension(s, at)
-    } else if k == 8 {
-        read_slopes(s, at)
+    if carries_tension(k) {
+        read_tension(s, at, k)
+    } else if carries_slopes(k) {
+        read_slopes(s, at, k)
     } else {
         KindRead {
             answer: Answer::Done,

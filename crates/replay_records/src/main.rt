@@ -112,12 +112,12 @@ fn put_kind(line: &mut [u8], at: usize, kind: CurveInterpolation) -> usize {
     let at = put_all(line, at, b" K");
     let number = kind.number();
     let at = put_decimal(line, at, number as u64);
-    let carried = sets::carried_by(kind);
-    if number == 7 {
+    let carried = tables::carried_by(kind);
+    if tables::carries_tension(number) {
         let at = put(line, at, b' ');
         return put_decimal(line, at, carried.tension as u64);
     }
-    if number == 8 {
+    if tables::carries_slopes(number) {
         let at = put_slope(line, at, carried.start);
         return put_slope(line, at, carried.end);
     }

@@ -6,11 +6,11 @@ ghost use Rattle.sets.specs.Same.{Same, SameCurve, SameChannel};
 ghost use Rattle.sameness.specs.Decides.{Decides};
 use points::Curve;
 use points::Point;
-use sets::Carried;
 use sets::Channel;
 use sets::Curves;
-use sets::carried_by;
+use tables::Carried;
 use tables::CurveInterpolation;
+use tables::carried_by;
 
 // Two points.
 fn same_point(p: Point, q: Point) -> bool

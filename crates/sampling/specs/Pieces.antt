@@ -12,7 +12,8 @@ use Rattle.sampling.specs.declared.Form.{Form}
 use Rattle.sampling.specs.declared.Form.the-variants.{Straight, Cubic, Spline}
 use Rattle.sampling.specs.declared.Piece.{Piece}
 
--- the piece i of the curve with the knots in xs and ys and the numbers at them, tangents or second derivatives, in ms
+-- the piece i of the curve with the knots in xs and ys and the values at them, tangents or second
+-- derivatives, in ms
 abbrev pub pieceAt : List Float → List Float → List Float → ℕ → Piece
 pieceAt xs ys ms i = record { a = knotAt xs ys i; b = knotAt xs ys (i + 1); p = at ms i; q = at ms (i + 1) }
 

@@ -1,7 +1,6 @@
 pub mod Sets
 pub mod Lists
 pub mod Replaced
-pub mod Carried
 pub mod Legal
 pub mod Same
 pub mod SameLaws

@@ -1,10 +1,10 @@
-// A set of curves: a master, three optional colours and a kind. Its members replaced, its lists checked, what its kind carries, and the table of a channel.
+// A set of curves: a master, three optional colours and a kind. Its members replaced, its lists
+// checked, and the table of a channel.
 // Every open function answers for any set, whatever its lists claim.
 ghost use mathlib.Core.Path.{_≡_};
 ghost use mathlib.Core.Bool.{false};
 ghost use mathlib.Core.Option.{none};
 ghost use Rattle.sets.specs.declared.Colour.the-variants.{Red, Green, Blue};
-ghost use Rattle.sets.specs.Carried.{carriedOf, LegalKind};
 ghost use Rattle.sets.specs.Sets.{
   viewOf,
   channelOf,
@@ -199,50 +199,6 @@ impl Curves {
         let green = self.green.check();
         let blue = self.blue.check();
         first_of(first_of(first_of(master, red), green), blue)
-    }
-}
-
-// What a kind carries beside its number.
-pub struct Carried {
-    pub tension: u8,
-    pub start: i16,
-    pub end: i16,
-}
-
-impl Carried {
-    const NOTHING: Carried = Carried {
-        tension: 0,
-        start: 0,
-        end: 0,
-    };
-}
-
-// What a kind carries; zeros where it carries nothing.
-pub fn carried_by(kind: CurveInterpolation) -> Carried
-    ensures { λ r. ⌜ (r ≡ carriedOf kind) × LegalKind kind ⌝ }
-{
-    match kind {
-        CurveInterpolation::Linear => Carried::NOTHING,
-        CurveInterpolation::CatmullRom => Carried::NOTHING,
-        CurveInterpolation::MonotoneCubic => Carried::NOTHING,
-        CurveInterpolation::MonotoneCubicBox => Carried::NOTHING,
-        CurveInterpolation::NaturalCubic => Carried::NOTHING,
-        CurveInterpolation::CentripetalCatmullRom => Carried::NOTHING,
-        CurveInterpolation::ChordalCatmullRom => Carried::NOTHING,
-        CurveInterpolation::Cardinal { tension_q8 } => Carried {
-            tension: tension_q8,
-            start: 0,
-            end: 0,
-        },
-        CurveInterpolation::ClampedCubic {
-            start_slope_q8,
-            end_slope_q8,
-        } => Carried {
-            tension: 0,
-            start: start_slope_q8,
-            end: end_slope_q8,
-        },
-        CurveInterpolation::NotAKnotCubic => Carried::NOTHING,
     }
 }
 

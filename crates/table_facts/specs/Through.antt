@@ -8,7 +8,6 @@ use mathlib.Core.List.{List, List·Memᴰ}
 use Prim.Native.Nat.{ℕ, _*_, _<_}
 use native.Mathlib.Omega.{arith}
 use lib.Dec.{T, lit<}
-use lib.Signed.{mag}
 use lib.ListN.{length, replicate}
 use lib.Ieee.{Float, nan}
 use lib.Ieee.Scale.{finite}
@@ -49,84 +48,61 @@ use Rattle.tables.specs.declared.CurveInterpolation.the-variants.{
   NotAKnotCubic,
 }
 use Rattle.sampling.specs.declared.Form.the-variants.{Cubic, Spline}
-use Rattle.tables.specs.Kinds.{formOf, numbersAt, numbersRow}
+use Rattle.tables.specs.Kinds.{carriedOf, LegalKind, formOf, knotValueAt, knotValueRow}
 use Rattle.sampling.specs.Pieces.{pieceHeight, heightAt, sampled}
 use Rattle.tables.specs.Tables.{unclampedAt, sampleOf, entryOf}
 use Rattle.table_facts.specs.Given.{sampleX, sample-x-is, fine-x-is}
 use Rattle.table_facts.specs.Given.{linear-height, given-rows}
 
--- the seven kinds that are none of document 01's "Splines (4, 8, 9)"; Cardinal's tension is a byte
-abbrev pub NoSpline : CurveInterpolation → Type 0
-NoSpline Linear = Unit {0}
-NoSpline CatmullRom = Unit {0}
-NoSpline MonotoneCubic = Unit {0}
-NoSpline MonotoneCubicBox = Unit {0}
-NoSpline NaturalCubic = ⊥
-NoSpline CentripetalCatmullRom = Unit {0}
-NoSpline ChordalCatmullRom = Unit {0}
-NoSpline (Cardinal q) = q < 256
-NoSpline (ClampedCubic start end) = ⊥
-NoSpline NotAKnotCubic = ⊥
-
--- what a kind carries has its bits: Cardinal's tension is a byte, "ClampedCubic carries two slopes,
--- signed 16-bit". So it is of every kind that code holds, although ℕ and ℤ have larger numbers.
-abbrev pub OfItsBits : CurveInterpolation → Type 0
-OfItsBits Linear = Unit {0}
-OfItsBits CatmullRom = Unit {0}
-OfItsBits MonotoneCubic = Unit {0}
-OfItsBits MonotoneCubicBox = Unit {0}
-OfItsBits NaturalCubic = Unit {0}
-OfItsBits CentripetalCatmullRom = Unit {0}
-OfItsBits ChordalCatmullRom = Unit {0}
-OfItsBits (Cardinal q) = q < 256
-OfItsBits (ClampedCubic start end) = (mag start < 32768) × (mag end < 32768)
-OfItsBits NotAKnotCubic = Unit {0}
+-- none of document 01's "Splines (4, 8, 9)"; a tension is a byte, which is said of Cardinal alone
+pub record NoSpline (k : CurveInterpolation) : Type 0 where
+  pub form : formOf k ≡ Spline → ⊥
+  pub tension : carriedOf k .tension < 256
 
 -- k is drawn by cubic pieces, with tangents by one of the Hermite rules
-record IsHermite (k : CurveInterpolation) : Type 0 where
+record DrawnByCubics (k : CurveInterpolation) : Type 0 where
   form : formOf k ≡ Cubic
-  rule : HermiteRule (numbersAt k)
-
--- each of the seven is Linear or one of those
-straight-or-hermite : (k : CurveInterpolation) → NoSpline k → (k ≡ Linear) ⊎ IsHermite k
-straight-or-hermite Linear h = inl refl
-straight-or-hermite CatmullRom h = inr (record { form = refl; rule = catmull-rom })
-straight-or-hermite MonotoneCubic h = inr (record { form = refl; rule = monotone false })
-straight-or-hermite MonotoneCubicBox h = inr (record { form = refl; rule = monotone true })
-straight-or-hermite NaturalCubic h = absurd h
-straight-or-hermite CentripetalCatmullRom h = inr (record { form = refl; rule = alpha true })
-straight-or-hermite ChordalCatmullRom h = inr (record { form = refl; rule = alpha false })
-straight-or-hermite (Cardinal q) h = inr (record { form = refl; rule = cardinal q (omega arith) })
-straight-or-hermite (ClampedCubic start end) h = absurd h
-straight-or-hermite NotAKnotCubic h = absurd h
+  rule : HermiteRule (knotValueAt k)
 
 -- k is drawn by spline pieces, with second derivatives by a boundary rule
-record IsSpline (k : CurveInterpolation) : Type 0 where
+record DrawnBySplines (k : CurveInterpolation) : Type 0 where
   form : formOf k ≡ Spline
   boundary : SplineBoundary
-  slopes : SlopesWithin boundary
-  numbers : (xs ys : List Float) (n i : ℕ) → numbersAt k xs ys n i ≡ secondAt xs ys n boundary i
+  slopes : LegalKind k → SlopesWithin boundary
+  second : (xs ys : List Float) (n i : ℕ) → knotValueAt k xs ys n i ≡ secondAt xs ys n boundary i
 
--- each of the ten is one of the seven or one of those
-spline-or-not : (k : CurveInterpolation) → OfItsBits k → IsSpline k ⊎ NoSpline k
-spline-or-not Linear h = inr tt
-spline-or-not CatmullRom h = inr tt
-spline-or-not MonotoneCubic h = inr tt
-spline-or-not MonotoneCubicBox h = inr tt
-spline-or-not NaturalCubic h =
-    inl (record { form = refl; boundary = Natural; slopes = tt; numbers = λ xs ys n i. refl })
-spline-or-not CentripetalCatmullRom h = inr tt
-spline-or-not ChordalCatmullRom h = inr tt
-spline-or-not (Cardinal q) h = inr h
-spline-or-not (ClampedCubic start end) h =
-    inl (record {
+-- each of the ten is Linear, or is drawn in one of the two ways
+three-ways : (k : CurveInterpolation) → carriedOf k .tension < 256
+    → (k ≡ Linear) ⊎ DrawnByCubics k ⊎ DrawnBySplines k
+three-ways Linear byte = inl refl
+three-ways CatmullRom byte = inr (inl (record { form = refl; rule = catmull-rom }))
+three-ways MonotoneCubic byte = inr (inl (record { form = refl; rule = monotone false }))
+three-ways MonotoneCubicBox byte = inr (inl (record { form = refl; rule = monotone true }))
+three-ways NaturalCubic byte =
+    inr (inr (record {
+      form = refl;
+      boundary = Natural;
+      slopes = λ legal. tt;
+      second = λ xs ys n i. refl;
+    }))
+three-ways CentripetalCatmullRom byte = inr (inl (record { form = refl; rule = alpha true }))
+three-ways ChordalCatmullRom byte = inr (inl (record { form = refl; rule = alpha false }))
+three-ways (Cardinal q) byte =
+    inr (inl (record { form = refl; rule = cardinal q (omega arith) }))
+three-ways (ClampedCubic start end) byte =
+    inr (inr (record {
       form = refl;
       boundary = Clamped (slopeOf start) (slopeOf end);
-      slopes = (slope-of-within start (h .0), slope-of-within end (h .1));
-      numbers = λ xs ys n i. refl;
-    })
-spline-or-not NotAKnotCubic h =
-    inl (record { form = refl; boundary = NotAKnot; slopes = tt; numbers = λ xs ys n i. refl })
+      slopes = λ legal. (slope-of-within start (legal .start), slope-of-within end (legal .end));
+      second = λ xs ys n i. refl;
+    }))
+three-ways NotAKnotCubic byte =
+    inr (inr (record {
+      form = refl;
+      boundary = NotAKnot;
+      slopes = λ legal. tt;
+      second = λ xs ys n i. refl;
+    }))
 
 -- a height in 256ths of a byte is not clamped
 byte-kept : (z : Float) (y : ℕ) → y < 256 → Is z (256 * y) 0 256 → clamped z ≡ z
@@ -141,86 +117,83 @@ module _ (l : List Point) (bytes : All Bytes l) where
   is-kept : IsKept (kept l)
   is-kept = kept-is-kept l bytes
 
-  -- the numbers at the knots, by their rule and in a row
-  abbrev numberAt : CurveInterpolation → ℕ → Float
-  numberAt k i = numbersAt k (xRow ks) (yRow ks) (length ks) i
+  -- the values at the knots, by their rule and in a row
+  abbrev valueAt : CurveInterpolation → ℕ → Float
+  valueAt k i = knotValueAt k (xRow ks) (yRow ks) (length ks) i
 
-  abbrev numbers : CurveInterpolation → List Float
-  numbers k = numbersRow k (xRow ks) (yRow ks) (length ks)
+  abbrev knotValues : CurveInterpolation → List Float
+  knotValues k = knotValueRow k (xRow ks) (yRow ks) (length ks)
 
-  made : (k : CurveInterpolation) (i : ℕ) → i < length ks → at (numbers k) i ≡ numberAt k i
-  made k i h = getD-filled (length ks) (numberAt k) (replicate 66 𝟎) i nan h
+  made : (k : CurveInterpolation) (i : ℕ) → i < length ks → at (knotValues k) i ≡ valueAt k i
+  made k i h = getD-filled (length ks) (valueAt k) (replicate 66 𝟎) i nan h
 
   -- a Hermite kind is drawn by cubic pieces
   hermite-height : (k : CurveInterpolation) → formOf k ≡ Cubic → (x : Float)
-      → unclampedAt k l x ≡ cubicOf (kept l) (numbers k) x
+      → unclampedAt k l x ≡ cubicOf (kept l) (knotValues k) x
   unfolding unclampedAt heightAt pieceHeight
   hermite-height k e x = rw e
 
   -- and a spline by its own
   spline-height : (k : CurveInterpolation) → formOf k ≡ Spline → (x : Float)
-      → unclampedAt k l x ≡ splineAt (xRow ks) (yRow ks) (numbers k) (length ks) x
+      → unclampedAt k l x ≡ splineAt (xRow ks) (yRow ks) (knotValues k) (length ks) x
   unfolding unclampedAt heightAt pieceHeight
   spline-height k e x = rw e
 
   -- ---- every tangent and every second derivative is finite
-  second-small : (k : CurveInterpolation) → IsSpline k → (i : ℕ) → i < length ks
-      → Within (numberAt k i) 225
-  second-small k s i inside =
-      rw (s .numbers (xRow ks) (yRow ks) (length ks) i)
-      (second-within (given-rows l bytes) (s .boundary) (s .slopes) i inside)
+  second-small : (k : CurveInterpolation) → LegalKind k → DrawnBySplines k → (i : ℕ) → i < length ks
+      → Within (valueAt k i) 225
+  second-small k h s i inside =
+      rw (s .second (xRow ks) (yRow ks) (length ks) i)
+      (second-within (given-rows l bytes) (s .boundary) (s .slopes h) i inside)
 
-  pub numbers-finite : (k : CurveInterpolation) → OfItsBits k → (i : ℕ)
+  pub knot-values-finite : (k : CurveInterpolation) → LegalKind k → (i : ℕ)
       → i < length (knots (kept l))
-      → T (finite (numbersAt k (xRow (knots (kept l))) (yRow (knots (kept l)))
+      → T (finite (knotValueAt k (xRow (knots (kept l))) (yRow (knots (kept l)))
       (length (knots (kept l))) i))
-  numbers-finite k h i inside = elim (spline-or-not k h) [
-    | inl spline ↦ second-small k spline i inside .most .fin
-    | inr other ↦ elim (straight-or-hermite k other) [
-      | inl e ↦ rw e (𝟎-is .0)
-      | inr hermite ↦ tangent-finite (given-rows l bytes) (hermite .rule) i inside
-    ]
+  knot-values-finite k h i inside = elim (three-ways k (h .tension)) [
+    | inl e ↦ rw e (𝟎-is .0)
+    | inr (inl cubics) ↦ tangent-finite (given-rows l bytes) (cubics .rule) i inside
+    | inr (inr splines) ↦ second-small k h splines i inside .most .fin
   ]
 
-  height-finite : (k : CurveInterpolation) → OfItsBits k → (x : Float) → InRange x
+  height-finite : (k : CurveInterpolation) → LegalKind k → (x : Float) → InRange x
       → T (finite (unclampedAt k l x))
-  height-finite k h x p = elim (spline-or-not k h) [
-    | inl spline ↦
-        let small : (i : ℕ) → i < length ks → Within (at (numbers k) i) 225 =
-        λ i inside. rw (made k i inside) (second-small k spline i inside) in
-        rw (spline-height k (spline .form) x)
-        (spline-within (given-rows l bytes) (numbers k) small x p .most .fin)
-    | inr other ↦ elim (straight-or-hermite k other) [
-      | inl e ↦ rw (e, linear-height l x) (straight-finite (given-rows l bytes) x p)
-      | inr hermite ↦
-          rw (hermite-height k (hermite .form) x)
-          (kind-finite (given-rows l bytes) (hermite .rule) (numbers k) (made k) x p)
-    ]
+  height-finite k h x p = elim (three-ways k (h .tension)) [
+    | inl e ↦ rw (e, linear-height l x) (straight-finite (given-rows l bytes) x p)
+    | inr (inl cubics) ↦
+        rw (hermite-height k (cubics .form) x)
+        (kind-finite (given-rows l bytes) (cubics .rule) (knotValues k) (made k) x p)
+    | inr (inr splines) ↦
+        let small : (i : ℕ) → i < length ks → Within (at (knotValues k) i) 225 =
+        λ i inside. rw (made k i inside) (second-small k h splines i inside) in
+        rw (spline-height k (splines .form) x)
+        (spline-within (given-rows l bytes) (knotValues k) small x p .most .fin)
   ]
 
   -- and every sample, so none is NaN: for any S ..
-  pub sample-finite : (k : CurveInterpolation) → OfItsBits k → (S v : ℕ) → InRange (sampleX S v)
+  pub sample-finite : (k : CurveInterpolation) → LegalKind k → (S v : ℕ) → InRange (sampleX S v)
       → T (finite (sampleOf k l S v))
   unfolding sampleOf sampled
   sample-finite k h S v p = clamped-finite (unclampedAt k l (sampleX S v)) (height-finite k h (sampleX S v) p)
 
   -- .. of 256 samples and of 4,096
-  pub byte-sample-finite : (k : CurveInterpolation) → OfItsBits k → (v : ℕ) → v < 256
+  pub byte-sample-finite : (k : CurveInterpolation) → LegalKind k → (v : ℕ) → v < 256
       → T (finite (sampleOf k l 256 v))
   byte-sample-finite k h v inside = sample-finite k h 256 v (sample-256 v inside)
 
-  pub fine-sample-finite : (k : CurveInterpolation) → OfItsBits k → (v : ℕ) → v < 4096
+  pub fine-sample-finite : (k : CurveInterpolation) → LegalKind k → (v : ℕ) → v < 4096
       → T (finite (sampleOf k l 4096 v))
   fine-sample-finite k h v inside = sample-finite k h 4096 v (sample-4096 v inside)
 
   -- ---- through points
   height-through : (k : CurveInterpolation) → NoSpline k → (p : Point) → List·Memᴰ p (kept l) → (x : Float) → Is x (p .x) 0 1
       → Is (unclampedAt k l x) (256 * p .y) 0 256
-  height-through k h p m x e = elim (straight-or-hermite k h) [
+  height-through k h p m x e = elim (three-ways k (h .tension)) [
     | inl linear ↦ rw (linear, linear-height l x) (straight-at-point (kept l) is-kept x p m e)
-    | inr hermite ↦
-        rw (hermite-height k (hermite .form) x)
-        (kind-at-point (kept l) is-kept (hermite .rule) (numbers k) (made k) x p m e)
+    | inr (inl cubics) ↦
+        rw (hermite-height k (cubics .form) x)
+        (kind-at-point (kept l) is-kept (cubics .rule) (knotValues k) (made k) x p m e)
+    | inr (inr splines) ↦ absurd (h .form (splines .form))
   ]
 
   -- for any S: a sample that stands at a kept point's x has the point's height, exactly

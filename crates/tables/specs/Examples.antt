@@ -1,9 +1,10 @@
--- The kinds' numbers and forms, and the answers of a table build, computed where a slip would show.
+-- The kinds' numbers, what they carry, their forms, and the answers of a table build, computed
+-- where a slip would show.
 -- Each value is document 01's: the sentence is quoted above it.
 use mathlib.Core.Path.{_≡_, refl}
 use mathlib.Core.List.{List, [], _∷_}
 use Prim.Native.Nat.{ℕ}
-use lib.IntN.{ℤ}
+use lib.IntN.{ℤ, pos}
 use Rattle.answers.specs.Numbers.{numberOf}
 use Rattle.answers.specs.Checks.{firstRefusal}
 use Rattle.points.specs.declared.Curve.{Curve}
@@ -22,7 +23,8 @@ use Rattle.tables.specs.declared.CurveInterpolation.the-variants.{
   ClampedCubic,
   NotAKnotCubic,
 }
-use Rattle.tables.specs.Kinds.{kindNumber, kindOf, formOf}
+use Rattle.tables.specs.Kinds.{kindNumber, lastKind, kindOf, kindBits, nothing, carriedOf}
+use Rattle.tables.specs.Kinds.{formOf}
 use Rattle.tables.specs.Tables.{tableChecks}
 
 -- ---- the kinds
@@ -43,6 +45,22 @@ kinds q start end = refl
 pub numbers : (q : ℕ) (start end : ℤ)
     → tenNumbers (λ k. kindNumber (kindOf k q start end)) ≡ tenNumbers (λ k. k)
 numbers q start end = refl
+
+pub last-kind : lastKind ≡ 9
+last-kind = refl
+
+-- "Cardinal carries a tension q", "ClampedCubic carries two slopes", and the others nothing
+pub carried : (q : ℕ) (start end : ℤ)
+    → tenNumbers (λ k. carriedOf (kindOf k q start end))
+    ≡ nothing ∷ nothing ∷ nothing ∷ nothing ∷ nothing ∷ nothing ∷ nothing
+    ∷ record { tension = q; start = pos 0; end = pos 0 }
+    ∷ record { tension = 0; start = start; end = end }
+    ∷ nothing ∷ []
+carried q start end = refl
+
+-- bit 5 "with Cardinal only", bit 6 "with ClampedCubic only", as a number; none past the last kind
+pub bits : (tenNumbers kindBits ≡ 0 ∷ 0 ∷ 0 ∷ 0 ∷ 0 ∷ 0 ∷ 0 ∷ 1 ∷ 2 ∷ 0 ∷ []) × (kindBits 10 ≡ 0)
+bits = (refl, refl)
 
 -- "Linear", "Hermite kinds (1, 2, 3, 5, 6, 7)", "Splines (4, 8, 9; ..)"
 pub forms : (q : ℕ) (start end : ℤ)

@@ -1,16 +1,18 @@
--- The ten kinds: their numbers, how a piece is drawn, and the number that stands at each knot, as document 01's section "Kinds and tables" has them.
--- Definitions only.
-use Prim.Native.Nat.{ℕ, zero, suc}
-use mathlib.Core.Bool.{true, false}
+-- The ten kinds: their numbers, what they carry, how a piece is drawn, and the value at each knot,
+-- as document 01's sections "Kinds and tables" and "Stored record" have them. Definitions only.
+use Prim.Native.Nat.{ℕ, zero, suc, _<_}
+use mathlib.Core.Bool.{Bool, cond}
 use mathlib.Core.List.{List}
-use lib.IntN.{ℤ}
+use lib.Dec.{eqb}
+use lib.IntN.{ℤ, pos}
+use lib.Signed.{mag}
 use lib.ListN.{replicate}
 use lib.Ieee.{Float}
 use Rattle.lists.specs.Tabulate.{filled}
 use Rattle.single.specs.Constants.{𝟎}
 use Rattle.tangents.specs.CatmullRom.{catmullRomAt, cardinalAt}
-use Rattle.monotone.specs.Monotone.{monotoneAt}
-use Rattle.chords.specs.Alpha.{alphaAt}
+use Rattle.monotone.specs.Monotone.{circleAt, boxAt}
+use Rattle.chords.specs.Alpha.{centripetalAt, chordalAt}
 use Rattle.spline.specs.declared.SplineBoundary.the-variants.{Natural, Clamped, NotAKnot}
 use Rattle.spline.specs.Segments.{slopeOf}
 use Rattle.spline.specs.Second.{secondAt}
@@ -27,10 +29,11 @@ use Rattle.tables.specs.declared.CurveInterpolation.the-variants.{
   ClampedCubic,
   NotAKnotCubic,
 }
+use Rattle.tables.specs.declared.Carried.{Carried}
 use Rattle.sampling.specs.declared.Form.{Form}
 use Rattle.sampling.specs.declared.Form.the-variants.{Straight, Cubic, Spline}
 
--- "Kinds, numbered 0 to 9"
+-- ---- numbers: "Kinds, numbered 0 to 9"
 abbrev pub kindNumber : CurveInterpolation → ℕ
 kindNumber Linear = 0
 kindNumber CatmullRom = 1
@@ -43,7 +46,11 @@ kindNumber (Cardinal q) = 7
 kindNumber (ClampedCubic start end) = 8
 kindNumber NotAKnotCubic = 9
 
--- the kind of a number below 10, with a tension and two slopes for the kinds that carry them
+-- the number of the last kind
+abbrev pub lastKind : ℕ
+lastKind = 9
+
+-- the kind of a number up to the last, with a tension and two slopes for the kinds that carry them
 abbrev pub kindOf : ℕ → ℕ → ℤ → ℤ → CurveInterpolation
 kindOf zero q start end = Linear
 kindOf (suc zero) q start end = CatmullRom
@@ -56,6 +63,43 @@ kindOf (suc (suc (suc (suc (suc (suc (suc zero))))))) q start end = Cardinal q
 kindOf (suc (suc (suc (suc (suc (suc (suc (suc zero)))))))) q start end = ClampedCubic start end
 kindOf (suc (suc (suc (suc (suc (suc (suc (suc (suc n))))))))) q start end = NotAKnotCubic
 
+-- ---- what a kind carries beside its number
+-- "Cardinal carries a tension", "ClampedCubic carries two slopes": by the kind's number
+abbrev pub carriesTension : ℕ → Bool
+carriesTension k = eqb k 7
+
+abbrev pub carriesSlopes : ℕ → Bool
+carriesSlopes k = eqb k 8
+
+-- bits 5 and 6 of a kind in a stored record: bit 5 "with Cardinal only", bit 6 "with ClampedCubic
+-- only, and always then"
+abbrev pub kindBits : ℕ → ℕ
+kindBits k = cond (carriesTension k) 1 (cond (carriesSlopes k) 2 0)
+
+abbrev pub nothing : Carried
+nothing = record { tension = 0; start = pos 0; end = pos 0 }
+
+-- 0 where the kind carries nothing
+abbrev pub carriedOf : CurveInterpolation → Carried
+carriedOf Linear = nothing
+carriedOf CatmullRom = nothing
+carriedOf MonotoneCubic = nothing
+carriedOf MonotoneCubicBox = nothing
+carriedOf NaturalCubic = nothing
+carriedOf CentripetalCatmullRom = nothing
+carriedOf ChordalCatmullRom = nothing
+carriedOf (Cardinal q) = record { tension = q; start = pos 0; end = pos 0 }
+carriedOf (ClampedCubic start end) = record { tension = 0; start = start; end = end }
+carriedOf NotAKnotCubic = nothing
+
+-- a tension is a byte, a slope is of 16 bits: so it is of every kind that code holds, although ℕ
+-- and ℤ have larger numbers
+pub record LegalKind (k : CurveInterpolation) : Type 0 where
+  pub tension : carriedOf k .tension < 256
+  pub start : mag (carriedOf k .start) < 32768
+  pub end : mag (carriedOf k .end) < 32768
+
+-- ---- how it is drawn
 -- "Linear", "Hermite kinds (1, 2, 3, 5, 6, 7)", "Splines (4, 8, 9)"
 abbrev pub formOf : CurveInterpolation → Form
 formOf Linear = Straight
@@ -69,19 +113,20 @@ formOf (Cardinal q) = Cubic
 formOf (ClampedCubic start end) = Spline
 formOf NotAKnotCubic = Spline
 
--- the number at each of n knots: a Hermite kind's tangent, a spline's second derivative
-abbrev pub numbersAt : CurveInterpolation → List Float → List Float → ℕ → ℕ → Float
-numbersAt Linear xs ys n i = 𝟎
-numbersAt CatmullRom xs ys n i = catmullRomAt xs ys n i
-numbersAt MonotoneCubic xs ys n i = monotoneAt false xs ys n i
-numbersAt MonotoneCubicBox xs ys n i = monotoneAt true xs ys n i
-numbersAt NaturalCubic xs ys n i = secondAt xs ys n Natural i
-numbersAt CentripetalCatmullRom xs ys n i = alphaAt true xs ys n i
-numbersAt ChordalCatmullRom xs ys n i = alphaAt false xs ys n i
-numbersAt (Cardinal q) xs ys n i = cardinalAt q xs ys n i
-numbersAt (ClampedCubic start end) xs ys n i = secondAt xs ys n (Clamped (slopeOf start) (slopeOf end)) i
-numbersAt NotAKnotCubic xs ys n i = secondAt xs ys n NotAKnot i
+-- the value at each of n knots: a Hermite kind's tangent, a spline's second derivative
+abbrev pub knotValueAt : CurveInterpolation → List Float → List Float → ℕ → ℕ → Float
+knotValueAt Linear xs ys n i = 𝟎
+knotValueAt CatmullRom xs ys n i = catmullRomAt xs ys n i
+knotValueAt MonotoneCubic xs ys n i = circleAt xs ys n i
+knotValueAt MonotoneCubicBox xs ys n i = boxAt xs ys n i
+knotValueAt NaturalCubic xs ys n i = secondAt xs ys n Natural i
+knotValueAt CentripetalCatmullRom xs ys n i = centripetalAt xs ys n i
+knotValueAt ChordalCatmullRom xs ys n i = chordalAt xs ys n i
+knotValueAt (Cardinal q) xs ys n i = cardinalAt q xs ys n i
+knotValueAt (ClampedCubic start end) xs ys n i =
+    secondAt xs ys n (Clamped (slopeOf start) (slopeOf end)) i
+knotValueAt NotAKnotCubic xs ys n i = secondAt xs ys n NotAKnot i
 
 -- the row of them, with zeros behind
-abbrev pub numbersRow : CurveInterpolation → List Float → List Float → ℕ → List Float
-numbersRow kind xs ys n = filled n (numbersAt kind xs ys n) (replicate 66 𝟎)
+abbrev pub knotValueRow : CurveInterpolation → List Float → List Float → ℕ → List Float
+knotValueRow kind xs ys n = filled n (knotValueAt kind xs ys n) (replicate 66 𝟎)

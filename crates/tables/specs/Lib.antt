@@ -1,4 +1,5 @@
 pub mod Kinds
+pub mod KindLaws
 pub mod Tables
 pub mod TableLaws
 pub mod Examples

@@ -20,7 +20,7 @@ use Rattle.points.specs.Knots.{knots, xRow, yRow}
 use Rattle.tables.specs.declared.CurveInterpolation.{CurveInterpolation}
 use Rattle.tables.specs.declared.Lut.{Lut}
 use Rattle.sampling.specs.Pieces.{heightAt, sampled}
-use Rattle.tables.specs.Kinds.{formOf, numbersRow}
+use Rattle.tables.specs.Kinds.{formOf, knotValueRow}
 
 -- the height at x of the curve of a given list, unclamped
 unfoldable pub unclampedAt : CurveInterpolation → List Point → Float → Float
@@ -29,7 +29,7 @@ unclampedAt kind l x =
     let xs = xRow ks in
     let ys = yRow ks in
     let n = length ks in
-    heightAt (formOf kind) xs ys (numbersRow kind xs ys n) n x
+    heightAt (formOf kind) xs ys (knotValueRow kind xs ys n) n x
 
 -- sample v of S
 unfoldable pub sampleOf : CurveInterpolation → List Point → ℕ → ℕ → Float

@@ -6,7 +6,17 @@ ghost use lib.ListN.{length, replicate};
 ghost use Rattle.answers.specs.Checks.{firstRefusal};
 ghost use Rattle.single.specs.Constants.{𝟎};
 ghost use Rattle.points.specs.Points.{listOf};
-ghost use Rattle.tables.specs.Kinds.{kindNumber, kindOf, formOf, numbersRow};
+ghost use Rattle.tables.specs.Kinds.{
+  kindNumber,
+  kindOf,
+  carriesTension,
+  carriesSlopes,
+  kindBits,
+  carriedOf,
+  LegalKind,
+  formOf,
+  knotValueRow,
+};
 ghost use Rattle.tables.specs.Tables.{fineTable, bytesOf, tableOf};
 ghost use Rattle.tables.specs.Tables.{isTableLength, lengthCheck, BuiltTable, BuiltLut};
 use answers::Answer;
@@ -36,8 +46,25 @@ pub enum CurveInterpolation {
     NotAKnotCubic,
 }
 
+// What a kind carries beside its number.
+pub struct Carried {
+    pub tension: u8,
+    pub start: i16,
+    pub end: i16,
+}
+
+impl Carried {
+    const NOTHING: Carried = Carried {
+        tension: 0,
+        start: 0,
+        end: 0,
+    };
+}
+
 impl CurveInterpolation {
-    // The kind's number.
+    // The number of the last kind.
+    pub const LAST_KIND: u8 = 9;
+
     pub fn number(self) -> u8
         ensures { λ r. ⌜ r ≡ kindNumber self ⌝ }
     {
@@ -59,7 +86,7 @@ impl CurveInterpolation {
     }
 }
 
-// The kind of a number below 10, with a tension and two slopes for the kinds that carry them.
+// The kind of a number up to the last, with a tension and two slopes for the kinds that carry them.
 pub fn kind_of(k: u8, tension_q8: u8, start_slope_q8: i16, end_slope_q8: i16) -> CurveInterpolation
     ensures { λ r. ⌜ r ≡ kindOf k «tension_q8» «start_slope_q8» «end_slope_q8» ⌝ }
 {
@@ -77,6 +104,62 @@ pub fn kind_of(k: u8, tension_q8: u8, start_slope_q8: i16, end_slope_q8: i16) ->
             end_slope_q8,
         },
         _ => CurveInterpolation::NotAKnotCubic,
+    }
+}
+
+// Whether the kind of this number carries a tension.
+pub fn carries_tension(k: u8) -> bool
+    ensures { λ r. ⌜ r ≡ carriesTension k ⌝ }
+{
+    k == 7
+}
+
+// Whether it carries two slopes.
+pub fn carries_slopes(k: u8) -> bool
+    ensures { λ r. ⌜ r ≡ carriesSlopes k ⌝ }
+{
+    k == 8
+}
+
+// Bits 5 and 6 that go with the kind of this number.
+pub fn kind_bits(k: u8) -> u8
+    ensures { λ r. ⌜ r ≡ kindBits k ⌝ }
+{
+    if carries_tension(k) {
+        1
+    } else if carries_slopes(k) {
+        2
+    } else {
+        0
+    }
+}
+
+// What a kind carries; zeros where it carries nothing.
+pub fn carried_by(kind: CurveInterpolation) -> Carried
+    ensures { λ r. ⌜ (r ≡ carriedOf kind) × LegalKind kind ⌝ }
+{
+    match kind {
+        CurveInterpolation::Linear => Carried::NOTHING,
+        CurveInterpolation::CatmullRom => Carried::NOTHING,
+        CurveInterpolation::MonotoneCubic => Carried::NOTHING,
+        CurveInterpolation::MonotoneCubicBox => Carried::NOTHING,
+        CurveInterpolation::NaturalCubic => Carried::NOTHING,
+        CurveInterpolation::CentripetalCatmullRom => Carried::NOTHING,
+        CurveInterpolation::ChordalCatmullRom => Carried::NOTHING,
+        CurveInterpolation::Cardinal { tension_q8 } => Carried {
+            tension: tension_q8,
+            start: 0,
+            end: 0,
+        },
+        CurveInterpolation::ClampedCubic {
+            start_slope_q8,
+            end_slope_q8,
+        } => Carried {
+            tension: 0,
+            start: start_slope_q8,
+            end: end_slope_q8,
+        },
+        CurveInterpolation::NotAKnotCubic => Carried::NOTHING,
     }
 }
 
@@ -107,10 +190,16 @@ fn form_of(kind: CurveInterpolation) -> Form
     }
 }
 
-// The numbers at n knots, tangents or second derivatives, to the front of a row of zeros.
-fn numbers(kind: CurveInterpolation, xs: &[f32; 66], ys: &[f32; 66], n: usize, row: &mut [f32; 66])
+// The values at n knots, tangents or second derivatives, to the front of a row of zeros.
+fn knot_values(
+    kind: CurveInterpolation,
+    xs: &[f32; 66],
+    ys: &[f32; 66],
+    n: usize,
+    row: &mut [f32; 66],
+)
     requires { ⌜ (2 ≤ n) × (n ≤ 66) × (now row ≡ replicate 66 𝟎) ⌝ }
-    ensures { λ _. ⌜ now (row .exit) ≡ numbersRow kind (now (xs .entry)) (now (ys .entry)) n ⌝ }
+    ensures { λ _. ⌜ now (row .exit) ≡ knotValueRow kind (now (xs .entry)) (now (ys .entry)) n ⌝ }
 {
     match kind {
         CurveInterpolation::Linear => {}
@@ -150,7 +239,7 @@ fn sample_curve(curve: Curve, kind: CurveInterpolation, samples: &mut [f32])
     let ys = knots.ys;
     let n = knots.count;
     let mut ms = [0.0; 66];
-    numbers(kind, &xs, &ys, n, &mut ms);
+    knot_values(kind, &xs, &ys, n, &mut ms);
     sampling::fill(form_of(kind), &xs, &ys, &ms, n, samples);
 }
 

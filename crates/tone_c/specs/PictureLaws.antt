@@ -7,7 +7,7 @@ use mathlib.Core.List.{List}
 use lib.Dec.{eqb}
 use borrow.Author.Tests.{eqb-true}
 use Rattle.answers.specs.Numbers.{isDone}
-use Rattle.single.specs.RuleLaws.{by-test}
+use Rattle.lists.specs.Test.{by-test}
 use Rattle.sets.specs.Sets.{View}
 use Rattle.formats.specs.Formats.{formatOf}
 use Rattle.formats.specs.Checks.{chromaRead}

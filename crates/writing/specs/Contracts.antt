@@ -6,7 +6,7 @@ use lib.ListN as ListN
 use lib.ListN.{take}
 use Rattle.answers.specs.declared.Answer.the-variants.{Done}
 use Rattle.sets.specs.declared.Curves.{Curves}
-use Rattle.sets.specs.Carried.{LegalKind}
+use Rattle.tables.specs.Kinds.{LegalKind}
 use Rattle.sets.specs.SameLaws.{Full}
 use Rattle.records.specs.Format.{longest}
 use Rattle.writing.specs.declared.Draft.{Draft}

@@ -14,22 +14,9 @@ use Rattle.answers.specs.Numbers.{isDone}
 use Rattle.answers.specs.Checks.{Check, firstRefusal, roomCheck}
 use Rattle.points.specs.declared.Point.{Point}
 use Rattle.tables.specs.declared.CurveInterpolation.{CurveInterpolation}
-use Rattle.tables.specs.declared.CurveInterpolation.the-variants.{
-  Linear,
-  CatmullRom,
-  MonotoneCubic,
-  MonotoneCubicBox,
-  NaturalCubic,
-  CentripetalCatmullRom,
-  ChordalCatmullRom,
-  Cardinal,
-  ClampedCubic,
-  NotAKnotCubic,
-}
-use Rattle.tables.specs.Kinds.{kindNumber}
+use Rattle.tables.specs.Kinds.{kindNumber, carriesTension, carriesSlopes, kindBits, carriedOf}
 use Rattle.sets.specs.declared.Curves.{Curves}
 use Rattle.sets.specs.Sets.{View, viewOf, default, curveChecks, setChecks}
-use Rattle.records.specs.Format.{kindBits}
 
 -- ---- the lists
 -- "x, y pairs"
@@ -69,16 +56,10 @@ slopeBytes v = lowFirst (unsigned16 v)
 
 -- "5 tension byte, 6 start and end slope"
 abbrev pub carriedBytes : CurveInterpolation → List ℕ
-carriedBytes Linear = []
-carriedBytes CatmullRom = []
-carriedBytes MonotoneCubic = []
-carriedBytes MonotoneCubicBox = []
-carriedBytes NaturalCubic = []
-carriedBytes CentripetalCatmullRom = []
-carriedBytes ChordalCatmullRom = []
-carriedBytes (Cardinal q) = q ∷ []
-carriedBytes (ClampedCubic start end) = slopeBytes start ++ slopeBytes end
-carriedBytes NotAKnotCubic = []
+carriedBytes k =
+    let c = carriedOf k in
+    cond (carriesTension (kindNumber k)) (c .tension ∷ [])
+    (cond (carriesSlopes (kindNumber k)) (slopeBytes (c .start) ++ slopeBytes (c .end)) [])
 
 -- ---- the bit map
 abbrev pub oneIf : Bool → ℕ

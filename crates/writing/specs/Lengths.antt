@@ -9,18 +9,7 @@ use lib.ListN.{length, length-append}
 use Rattle.lists.specs.Test.{by-test}
 use Rattle.points.specs.declared.Point.{Point}
 use Rattle.tables.specs.declared.CurveInterpolation.{CurveInterpolation}
-use Rattle.tables.specs.declared.CurveInterpolation.the-variants.{
-  Linear,
-  CatmullRom,
-  MonotoneCubic,
-  MonotoneCubicBox,
-  NaturalCubic,
-  CentripetalCatmullRom,
-  ChordalCatmullRom,
-  Cardinal,
-  ClampedCubic,
-  NotAKnotCubic,
-}
+use Rattle.tables.specs.Kinds.{kindNumber, carriesTension, carriesSlopes}
 use Rattle.sets.specs.Sets.{View}
 use Rattle.sets.specs.Legal.{LegalList, LegalColour, Legal}
 use Rattle.writing.specs.Encode.{pairBytes, fieldBytes, masterField, namesKind, kindBytes, carriedBytes, encode}
@@ -44,16 +33,10 @@ pub kind-length : (k : CurveInterpolation) → length (kindBytes k) ≤ 1
 kind-length k = by-test (namesKind k) (λ t. rw t (lit≤ tt)) (λ t. rw t (lit≤ tt))
 
 carried-length : (k : CurveInterpolation) → length (carriedBytes k) ≤ 4
-carried-length Linear = lit≤ tt
-carried-length CatmullRom = lit≤ tt
-carried-length MonotoneCubic = lit≤ tt
-carried-length MonotoneCubicBox = lit≤ tt
-carried-length NaturalCubic = lit≤ tt
-carried-length CentripetalCatmullRom = lit≤ tt
-carried-length ChordalCatmullRom = lit≤ tt
-carried-length (Cardinal q) = lit≤ tt
-carried-length (ClampedCubic start end) = lit≤ tt
-carried-length NotAKnotCubic = lit≤ tt
+carried-length k =
+    by-test (carriesTension (kindNumber k)) (λ t. rw t (lit≤ tt))
+    (λ t. by-test (carriesSlopes (kindNumber k)) (λ u. rw (t, u) (lit≤ tt))
+    (λ u. rw (t, u) (lit≤ tt)))
 
 pub record FieldLengths (v : View) : Type 0 where
   pub master : length (fieldBytes (masterField (v .master))) ≤ longestField

@@ -11,8 +11,8 @@ use lib.Dec.{eqb, lit≤}
 use Rattle.lists.specs.Test.{by-test}
 use Rattle.points.specs.declared.Point.{Point}
 use Rattle.tables.specs.declared.CurveInterpolation.{CurveInterpolation}
-use Rattle.tables.specs.Kinds.{kindNumber}
-use Rattle.records.specs.Format.{bit, carriedBits, kindBits}
+use Rattle.tables.specs.Kinds.{kindNumber, carriesTension, carriesSlopes, kindBits}
+use Rattle.records.specs.Format.{bit, carriedBits}
 use Rattle.writing.specs.Encode.{namesKind, oneIf, bitsUnder, there, mapOf}
 
 -- ---- what is above a list of marks, and each mark
@@ -37,7 +37,8 @@ mark-back above bs b = rw (marks-under (oneIf b + 2 * above) bs) (lowest b above
 
 pub carried-small : (n : ℕ) → kindBits n ≤ 2
 carried-small n =
-    by-test (eqb n 7) (λ t. rw t (lit≤ tt)) (λ t. rw t (by-test (eqb n 8) (λ u. rw u (lit≤ tt)) (λ u. rw u (lit≤ tt))))
+    by-test (carriesTension n) (λ t. rw t (lit≤ tt))
+    (λ t. rw t (by-test (carriesSlopes n) (λ u. rw u (lit≤ tt)) (λ u. rw u (lit≤ tt))))
 
 -- ---- what the reader finds in the map
 module _ (m r g b : Option (List Point)) (k : CurveInterpolation) where

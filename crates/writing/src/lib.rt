@@ -8,9 +8,8 @@ ghost use lib.ListN.{length, drop};
 ghost use Rattle.answers.specs.declared.Answer.the-variants.{Done};
 ghost use Rattle.points.specs.Points.{listOf};
 ghost use Rattle.sets.specs.Sets.{viewOf, channelOf, curveAnswer, channelAnswer, setAnswer};
-ghost use Rattle.sets.specs.Carried.{LegalKind};
+ghost use Rattle.tables.specs.Kinds.{LegalKind};
 ghost use Rattle.points.specs.Points.{limit};
-ghost use Rattle.records.specs.Format.{};
 ghost use Rattle.writing.specs.Encode.{pairBytes, fieldBytes, masterField, namesKind, kindBytes, unsigned16, slopeBytes, carriedBytes, mapOf, encode};
 ghost use Rattle.writing.specs.Contracts.{bytesMade, Room, Appended, Holds, Wrote};
 ghost use Rattle.records.specs.Format.{longest};
@@ -20,6 +19,10 @@ use points::Curve;
 use sets::Channel;
 use sets::Curves;
 use tables::CurveInterpolation;
+use tables::carried_by;
+use tables::carries_slopes;
+use tables::carries_tension;
+use tables::kind_bits;
 
 // The most bytes that a record has: the map, four lists of a count and 64 points, the kind, two slopes.
 pub const LONGEST_RECORD: usize = 1 + 4 * (1 + 2 * Curve::LIMIT) + 1 + 4;
@@ -114,14 +117,13 @@ impl Draft {
         requires { ⌜ Room (carriedBytes k) self ⌝ }
         ensures { λ r. ⌜ Appended (carriedBytes k) self r × LegalKind k ⌝ }
     {
-        if let CurveInterpolation::Cardinal { tension_q8 } = k {
-            return self.push(tension_q8);
+        let number = k.number();
+        let carried = carried_by(k);
+        if carries_tension(number) {
+            return self.push(carried.tension);
         }
-        if let CurveInterpolation::ClampedCubic {
-            start_slope_q8,
-            end_slope_q8,
-        } = k {
-            return self.push_slope(start_slope_q8).push_slope(end_slope_q8);
+        if carries_slopes(number) {
+            return self.push_slope(carried.start).push_slope(carried.end);
         }
         self
     }
@@ -174,7 +176,7 @@ fn map_byte(master: Channel, set: Curves) -> u8
         + mark(set.green.present, 4)
         + mark(set.blue.present, 8)
         + mark(names_kind(k), 16)
-        + records::kind_bits(k.number()) * 32
+        + kind_bits(k.number()) * 32
 }
 
 // The record of a set whose lists are legal.

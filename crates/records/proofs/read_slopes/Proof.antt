@@ -11,22 +11,22 @@ use Rattle.records.proofs.read_slopes.Tie as tie
 returns : tie.Need-returns
 returns c =
     let a = c .before .before .before .args in
-    rw (c .no-kind .ensures) (sym (slopes-short (a .at) (a .s .now) (omega arith)))
+    rw (c .no-kind .ensures) (sym (slopes-short (a .k) (a .at) (a .s .now) (omega arith)))
 
 returns-2 : tie.Need-returns-2
 returns-2 c =
     let a = c .before .before .before .before .args in
-    rw (c .no-kind2 .ensures) (sym (slopes-short (a .at) (a .s .now) (omega arith)))
+    rw (c .no-kind2 .ensures) (sym (slopes-short (a .k) (a .at) (a .s .now) (omega arith)))
 
 returns-3 : tie.Need-returns-3
 returns-3 c =
-    let b = c .before .before .before in
+    let b = c .before .before .before .before in
     let a = b .before .before .before .before .before .before .args in
     let x = b .stored-slope in
-    let y = c .stored-slope2 in
+    let y = c .before .stored-slope2 in
     let start : toZ w16 (ofZ w16 (x .result)) ≡ x .result = search needs in
     let end : toZ w16 (ofZ w16 (y .result)) ≡ y .result = search needs in
-    rw (start, end, x .ensures, y .ensures) (sym (slopes-at (a .at) (a .s .now) (omega arith)))
+    rw (c .kind-of .ensures, start, end, x .ensures, y .ensures) (sym (slopes-at (a .k) (a .at) (a .s .now) (omega arith)))
 
 pub read-slopes-spec : {M : Type 1} → statement M
 read-slopes-spec =
@@ -36,5 +36,5 @@ read-slopes-spec =
     returns
     (omega arith) (omega arith)
     returns-2
-    (omega arith) (omega arith) (omega arith) (omega arith) (omega arith) (omega arith) (omega arith) (omega arith) (omega arith) (omega arith)
+    (omega arith) (omega arith) (omega arith) (omega arith) (omega arith) (omega arith) (omega arith) (omega arith) (omega arith) (omega arith) (omega arith)
     returns-3)

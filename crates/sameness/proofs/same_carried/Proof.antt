@@ -3,7 +3,7 @@ use mathlib.Core.Path.{_≡_, ap, _∙_}
 use mir.Syntax.{w16}
 use mir.Val.{SFits}
 use borrow.Author.Needs.{needs}
-use Rattle.sets.specs.declared.Carried.{Carried}
+use Rattle.tables.specs.declared.Carried.{Carried}
 use Rattle.sameness.proofs.Deciding.{decides-as, decides-both, decides-equal, decides-signed}
 use Rattle.sameness.proofs.same_carried.Statement.{statement}
 use Rattle.sameness.proofs.same_carried.Tie as tie

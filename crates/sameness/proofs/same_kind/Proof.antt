@@ -1,8 +1,8 @@
 -- `same_kind`: a kind is known by its number and what it carries.
 use native.Mathlib.Omega.{arith}
 use mathlib.Core.Path.{sym, ap, _∙_}
-use Rattle.tables.specs.Kinds.{kindNumber}
-use Rattle.sets.specs.Carried.{carriedOf, kind-unique}
+use Rattle.tables.specs.Kinds.{kindNumber, carriedOf}
+use Rattle.tables.specs.KindLaws.{kind-unique}
 use Rattle.sameness.proofs.Deciding.{decides-as, decides-both, decides-equal}
 use Rattle.sameness.proofs.same_kind.Statement.{statement}
 use Rattle.sameness.proofs.same_kind.Tie as tie

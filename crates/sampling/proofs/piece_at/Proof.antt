@@ -1,4 +1,4 @@
--- `piece_at`: two knots and their numbers.
+-- `piece_at`: two knots and the values at them.
 use native.Mathlib.Omega.{arith}
 use mathlib.Core.Path.{_≡_}
 use lib.Ieee.{Float}

@@ -17,7 +17,7 @@ use Rattle.points.specs.Kept.{kept-is-kept, kept-length}
 use Rattle.points.specs.Shape.{knots-shape, knots-length}
 use Rattle.tables.specs.declared.CurveInterpolation.{CurveInterpolation}
 use Rattle.sampling.specs.declared.Form.{Form}
-use Rattle.tables.specs.Kinds.{formOf, numbersRow}
+use Rattle.tables.specs.Kinds.{formOf, knotValueRow}
 use Rattle.sampling.specs.Pieces.{heightAt, sampled}
 use Rattle.tables.specs.Tables.{unclampedAt, sampleOf, fineTable}
 use Rattle.tables.proofs.sample_curve.Statement.{statement}
@@ -38,13 +38,14 @@ module _ (given sorted : Curve) {k : Knots}
         omega (arith, knots-length (kept l), kept-length l, most),
       )
 
-  table : (kind : CurveInterpolation) (S : ℕ) {form : Form} {ms new : List Float} → form ≡ formOf kind → ms ≡ numbersRow kind (k .xs) (k .ys) (k .count)
+  table : (kind : CurveInterpolation) (S : ℕ) {form : Form} {ms new : List Float} → form ≡ formOf kind
+      → ms ≡ knotValueRow kind (k .xs) (k .ys) (k .count)
       → new ≡ tabulate S (sampled (heightAt form (k .xs) (k .ys) ms (k .count)) S) → new ≡ fineTable kind (listOf given) S
   unfolding sampleOf unclampedAt
   table kind S f m e = rw (f, m, rows .xs, rows .ys, rows .count) at e
 
-numbers-requires : tie.Need-numbers-requires
-numbers-requires c κs =
+knot-values-requires : tie.Need-knot-values-requires
+knot-values-requires c κs =
     let k = c .before .before .before .before .before in
     let n = k .before in
     let given = n .before .before in
@@ -71,14 +72,14 @@ returns c =
     let n = k .before in
     table (n .before .before .args .curve) (n .sorted .result) (n .sorted .ensures)
     (k .knots .ensures) _ _ (m .form-of .ensures)
-    (m .before .numbers .ensures) (f .fill .ensures)
+    (m .before .knot-values .ensures) (f .fill .ensures)
 
 pub sample-curve-spec : {M : Type 1} → statement M
 sample-curve-spec =
     tie.close
     (tie.spec
     (omega arith) (omega arith)
-    numbers-requires
+    knot-values-requires
     (omega arith)
     fill-requires
     (omega arith)

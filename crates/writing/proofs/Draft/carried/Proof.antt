@@ -1,88 +1,98 @@
--- `Draft::carried`: by the two kinds that carry something; the others carry nothing.
+-- `Draft::carried`: by what the kind's number says that it carries.
 use native.Mathlib.Omega.{arith}
-use mathlib.Core.Path.{_≡_, refl}
-use mathlib.Core.List.{[], _∷_}
-use lib.Dec.{lit<}
+use mathlib.Core.Path.{_≡_, sym, _∙_}
+use mathlib.Core.Bool.{Bool}
+use mathlib.Core.List.{_++_}
 use mir.Syntax.{w16}
 use mir.Val.{toZ, ofZ}
-use types.Run.{OneOf, miss}
-use denote.Enum.Declared.{tagOf}
-use Rattle.tables.proofs.CurveInterpolation.{the-type}
-use Rattle.tables.specs.declared.CurveInterpolation.{CurveInterpolation}
-use Rattle.tables.specs.declared.CurveInterpolation.the-variants.{
-  Linear,
-  CatmullRom,
-  MonotoneCubic,
-  MonotoneCubicBox,
-  NaturalCubic,
-  CentripetalCatmullRom,
-  ChordalCatmullRom,
-  Cardinal,
-  ClampedCubic,
-  NotAKnotCubic,
-}
-use Rattle.sets.specs.Carried.{nothing, carriedOf, LegalKind}
-use Rattle.writing.specs.Encode.{slopeBytes, carriedBytes}
-use Rattle.writing.proofs.Laws.{appended-none, appended-then, appended-as, room-first, room-rest}
 use borrow.Author.Needs.{needs}
+use Rattle.tables.specs.Kinds.{kindNumber, carriesTension, carriesSlopes}
+use Rattle.writing.specs.Encode.{slopeBytes}
+use Rattle.writing.specs.Contracts.{Room}
+use Rattle.writing.proofs.Laws.{appended-none, appended-then, room-first, room-rest}
 use Rattle.writing.proofs.Draft.carried.Statement.{statement}
 use Rattle.writing.proofs.Draft.carried.Tie as tie
 
--- neither kind 7 nor kind 8
-carries-nothing : (k : CurveInterpolation) → OneOf (0 ∷ 1 ∷ 2 ∷ 3 ∷ 4 ∷ 5 ∷ 6 ∷ 8 ∷ 9 ∷ []) (tagOf the-type k)
-    → OneOf (0 ∷ 1 ∷ 2 ∷ 3 ∷ 4 ∷ 5 ∷ 6 ∷ 7 ∷ 9 ∷ []) (tagOf the-type k) → ([] ≡ carriedBytes k) × (carriedOf k ≡ nothing)
-carries-nothing Linear h i = (refl, refl)
-carries-nothing CatmullRom h i = (refl, refl)
-carries-nothing MonotoneCubic h i = (refl, refl)
-carries-nothing MonotoneCubicBox h i = (refl, refl)
-carries-nothing NaturalCubic h i = (refl, refl)
-carries-nothing CentripetalCatmullRom h i = (refl, refl)
-carries-nothing ChordalCatmullRom h i = (refl, refl)
-carries-nothing (Cardinal q) h i = absurd (miss (0 ∷ 1 ∷ 2 ∷ 3 ∷ 4 ∷ 5 ∷ 6 ∷ 8 ∷ 9 ∷ []) 7 tt h)
-carries-nothing (ClampedCubic start end) h i = absurd (miss (0 ∷ 1 ∷ 2 ∷ 3 ∷ 4 ∷ 5 ∷ 6 ∷ 7 ∷ 9 ∷ []) 8 tt i)
-carries-nothing NotAKnotCubic h i = (refl, refl)
+-- ---- what is carried passes through 16 bits
+start-back : (c : tie.After-carried-by) → let s = c .carried-by .result .start in toZ w16 (ofZ w16 s) ≡ s
+start-back c = search needs
 
-nothing-legal : (k : CurveInterpolation) → carriedOf k ≡ nothing → LegalKind k
-nothing-legal k e = record { tension = rw e (lit< tt); start = rw e (lit< tt); end = rw e (lit< tt) }
+end-back : (c : tie.After-carried-by) → let s = c .carried-by .result .end in toZ w16 (ofZ w16 s) ≡ s
+end-back c = search needs
 
+-- ---- what the tests of the number say of the kind
+tension-test : (c : tie.After-carries-tension) {b : Bool} → c .carries-tension .result ≡ b
+    → carriesTension (kindNumber (c .before .before .before .args .k)) ≡ b
+tension-test c e = rw (c .before .before .number .ensures) at (sym (c .carries-tension .ensures) ∙ e)
+
+slopes-test : (c : tie.After-carries-slopes) {b : Bool} → c .carries-slopes .result ≡ b
+    → carriesSlopes (kindNumber (c .before .before .before .before .before .args .k)) ≡ b
+slopes-test c e = rw (c .before .before .before .before .number .ensures) at (sym (c .carries-slopes .ensures) ∙ e)
+
+-- ---- a tension
 push-requires : tie.Need-push-requires
-push-requires c κs = rw (c .before .k .given .1) at (c .before .before .before .pre)
+push-requires c κs =
+    let by = c .before .before in
+    rw (by .carried-by .ensures .0) (rw (tension-test (c .before) (c .if1 .taken)) at (by .before .before .pre))
 
 returns : tie.Need-returns
-returns c = rw (c .before .before .k .given .1) (c .push .ensures, search needs)
+returns c =
+    let i = c .before in
+    let by = i .before .before .carried-by .ensures in
+    (rw (tension-test (i .before) (i .if1 .taken), sym (by .0)) (c .push .ensures), by .1)
+
+-- ---- two slopes
+both-room : (c : tie.Then2) → let by = c .before .before .before .before in let r = by .carried-by .result in
+    Room (slopeBytes (r .start) ++ slopeBytes (r .end)) (by .before .before .args .self)
+both-room c =
+    let i = c .before .before in
+    let by = i .before .before in
+    rw (by .carried-by .ensures .0)
+    (rw (tension-test (i .before) (i .if1 .left), slopes-test (c .before) (c .if2 .taken)) at (by .before .before .pre))
 
 push-slope-requires : tie.Need-push-slope-requires
 push-slope-requires c κs =
-    let k = c .before .k2 .given in
-    let start : toZ w16 (ofZ w16 (k .0 .0)) ≡ k .0 .0 = search needs in
-    rw start (room-first (slopeBytes (k .0 .0)) (slopeBytes (k .0 .1 .0)) (rw (k .1) at (c .before .before .before .before .pre)))
+    let by = c .before .before .before .before .before in
+    let r = by .carried-by .result in
+    rw (start-back by) (room-first (slopeBytes (r .start)) (slopeBytes (r .end)) (both-room (c .before)))
 
 push-slope-requires-2 : tie.Need-push-slope-requires-2
 push-slope-requires-2 c κs =
-    let k = c .before .before .k2 .given in
-    let start : toZ w16 (ofZ w16 (k .0 .0)) ≡ k .0 .0 = search needs in
-    let end : toZ w16 (ofZ w16 (k .0 .1 .0)) ≡ k .0 .1 .0 = search needs in
-    rw end
-    (room-rest (slopeBytes (k .0 .0)) (slopeBytes (k .0 .1 .0)) (rw (k .1) at (c .before .before .before .before .before .pre)) (rw start at (c .push-slope .ensures)))
+    let f = c .before in
+    let j = f .before .before in
+    let by = j .before .before .before .before in
+    let r = by .carried-by .result in
+    rw (end-back by)
+    (room-rest (slopeBytes (r .start)) (slopeBytes (r .end)) (both-room j) (rw (start-back by) at (f .push-slope .ensures)))
 
 returns-2 : tie.Need-returns-2
 returns-2 c =
-    let k = c .before .before .before .k2 .given in
-    let start : toZ w16 (ofZ w16 (k .0 .0)) ≡ k .0 .0 = search needs in
-    let end : toZ w16 (ofZ w16 (k .0 .1 .0)) ≡ k .0 .1 .0 = search needs in
-    rw (k .1) (appended-then (rw start at (c .before .push-slope .ensures)) (rw end at (c .push-slope2 .ensures)), search needs)
+    let f = c .before .before in
+    let j = f .before .before in
+    let i = j .before .before in
+    let by = i .before .before in
+    let both = appended-then (rw (start-back by) at (f .push-slope .ensures)) (rw (end-back by) at (c .push-slope2 .ensures)) in (
+      rw (
+        tension-test (i .before) (i .if1 .left),
+        slopes-test (j .before) (j .if2 .taken),
+        sym (by .carried-by .ensures .0),
+      )
+          both,
+      by .carried-by .ensures .1,
+    )
 
 returns-3 : tie.Need-returns-3
 returns-3 c =
-    let k = c .before .before .args .k in
-    let n = carries-nothing k (c .before .match .keys2) (c .match2 .keys2) in
-    (appended-as appended-none (n .0), nothing-legal k (n .1))
+    let i = c .before .before in (
+      rw (tension-test (i .before) (i .if1 .left), slopes-test (c .before) (c .if2 .left)) appended-none,
+      i .before .before .carried-by .ensures .1,
+    )
 
 pub carried-spec : {M : Type 1} → statement M
 carried-spec =
     tie.close
     (tie.spec
-    (omega arith)
+    (omega arith) (omega arith) (omega arith)
     push-requires
     returns
     (omega arith)

@@ -1,8 +1,8 @@
 -- `carried_by`: the arms are the definition's.
 use native.Mathlib.Omega.{arith}
 use borrow.Author.Needs.{needs}
-use Rattle.sets.proofs.carried_by.Statement.{statement}
-use Rattle.sets.proofs.carried_by.Tie as tie
+use Rattle.tables.proofs.carried_by.Statement.{statement}
+use Rattle.tables.proofs.carried_by.Tie as tie
 
 returns-9 : tie.Need-returns-9
 returns-9 c = rw (c .before .kind2 .given .1) (search needs)

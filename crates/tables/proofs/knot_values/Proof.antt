@@ -1,4 +1,4 @@
--- `tables::numbers`: each kind its rule.
+-- `tables::knot_values`: each kind its rule.
 use mathlib.Core.Path.{_≡_, refl, sym, ap, _∙_}
 use mathlib.Core.List.{List}
 use Prim.Native.Nat.{ℕ, _≤_}
@@ -10,8 +10,8 @@ use Rattle.lists.specs.Stored.{Stored, stored-none, stored-kept, stored-front}
 use Rattle.single.specs.Constants.{𝟎}
 use Rattle.spline.specs.Segments.{slopeOf}
 use borrow.Author.Needs.{needs}
-use Rattle.tables.proofs.numbers.Statement.{statement}
-use Rattle.tables.proofs.numbers.Tie as tie
+use Rattle.tables.proofs.knot_values.Statement.{statement}
+use Rattle.tables.proofs.knot_values.Tie as tie
 
 -- n knots, and a row l of zeros
 abbrev Given : ℕ → List Float → Type 0
@@ -24,7 +24,7 @@ long given = (given .0, given .1, rw (given .2))
 made : {f : ℕ → Float} {n : ℕ} {l m : List Float} → Stored f 0 n l m → Given n l → m ≡ filled n f (replicate 66 𝟎)
 made r given = stored-front (rw (given .2) at r) refl (given .1)
 
--- Linear has no numbers: its row is all 0
+-- Linear has no values at the knots: its row is all 0
 none : {n : ℕ} {l : List Float} → Given n l → l ≡ filled n (λ i. 𝟎) (replicate 66 𝟎)
 none given =
     made
@@ -76,8 +76,8 @@ returns-9 c =
 returns-10 : tie.Need-returns-10
 returns-10 c = let k = c .before .before in rw (k .enum-told8 .given .1) (made (c .second-derivatives3 .ensures) (k .before .before .pre))
 
-pub numbers-spec : {M : Type 1} → statement M
-numbers-spec =
+pub knot-values-spec : {M : Type 1} → statement M
+knot-values-spec =
     tie.close
     (tie.spec
     (omega arith) (omega arith) (omega arith) (omega arith) (omega arith) (omega arith) (omega arith) (omega arith)
