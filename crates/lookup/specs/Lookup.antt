@@ -48,6 +48,6 @@ lookedUp table values =
     cond (isDone (firstRefusal (lookupChecks (length table)))) (tabulate (length values) (looked table values)) values
 
 -- the call: its answer, and the values after it
-pub record LookupCall (table values : List Float) (answer : Answer) (after : List Float) : Type 0 where
-  pub answer-is : answer ≡ firstRefusal (lookupChecks (length table))
-  pub replaced : after ≡ lookedUp table values
+pub record LookupCall (table old : List Float) (r : Answer) (new : List Float) : Type 0 where
+  pub answer : r ≡ firstRefusal (lookupChecks (length table))
+  pub values : new ≡ lookedUp table old

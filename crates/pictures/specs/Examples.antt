@@ -45,7 +45,7 @@ use Rattle.formats.specs.declared.PixelFormat.the-variants.{Gray8, Rgb24, Cmyk,
 use Rattle.formats.specs.Checks.{lutAnswer}
 use Rattle.formats.specs.Examples.{yuv, others}
 use Rattle.pictures.specs.declared.Toned.{Toned}
-use Rattle.pictures.specs.OneTable.{LutCall, tonedWithin}
+use Rattle.pictures.specs.OneTable.{OneTableCall, tonedWithin}
 use Rattle.pictures.specs.Runs.{
   Outputs,
   Run,
@@ -115,7 +115,7 @@ left w h step f =
     cond (isDone (lutAnswer f w h step (length plane))) (tonedWithin f w h step more plane) plane
 
 pub left-is : (w h step : ℕ) (f : PixelFormat) (a : Answer) (after : List ℕ)
-    → LutCall f w h step more plane a after → after ≡ left w h step f
+    → OneTableCall f w h step more plane a after → after ≡ left w h step f
 left-is w h step f a after c =
     c .plane ∙ ap (λ b. cond (isDone b) (tonedWithin f w h step more plane) plane) (c .answer)
 
@@ -320,7 +320,7 @@ refused-by-set = (refl, refl)
 
 -- ---- "These must not pass": none of these can stand beside the contract of a call
 -- "a picture call that tones its first row and copies the rest": byte 0 of the second row is copied
-pub first-row-within : (a : Answer) → LutCall Gray8 2 2 9 more plane a (firstRow 11 12) → ⊥
+pub first-row-within : (a : Answer) → OneTableCall Gray8 2 2 9 more plane a (firstRow 11 12) → ⊥
 unfolding lutAnswered each tabulate planeByte inRow rowByte toned
 first-row-within a c =
     let left = left-is 2 2 9 Gray8 a (firstRow 11 12) c in
@@ -337,7 +337,7 @@ first-row-by-set t cb cr c =
     omega (arith, copied)
 
 -- "one that copies the whole picture"
-pub copied-within : (a : Answer) → LutCall Gray8 2 2 9 more plane a plane → ⊥
+pub copied-within : (a : Answer) → OneTableCall Gray8 2 2 9 more plane a plane → ⊥
 unfolding lutAnswered each tabulate planeByte inRow rowByte toned
 copied-within a c =
     let copied : _≡_ {A = ℕ} 1 11 = ap (λ (l : List ℕ). getD l 0 0) (left-is 2 2 9 Gray8 a plane c) in
@@ -354,7 +354,7 @@ copied-by-set t cb cr c =
 
 -- "a call that answers 13 on sufficient space, or some number always"
 pub not-always-refused : (a : Answer) (new : List ℕ) (t : Toned) (after : Outputs)
-    → LutCall Gray8 2 2 9 more plane a new → SetCall (picture 2 2 9 Gray8) t after
+    → OneTableCall Gray8 2 2 9 more plane a new → SetCall (picture 2 2 9 Gray8) t after
     → (a ≡ Done) × (t .answer ≡ Done)
 unfolding answered lutAnswered
 not-always-refused a new t after c d = (c .answer, d .answer)

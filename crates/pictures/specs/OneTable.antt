@@ -18,6 +18,6 @@ abbrev pub tonedWithin : PixelFormat → ℕ → ℕ → ℕ → List ℕ → Li
 tonedWithin f w h step table plane = each (planeByte (w * bytesAPixel f) h step (rowByte (bytesAPixel f) (alphaOf f) (same table))) plane
 
 -- the answer a, and the plane: toned, or on a refusal unchanged
-pub record LutCall (f : PixelFormat) (w h step : ℕ) (table old : List ℕ) (a : Answer) (new : List ℕ) : Type 0 where
+pub record OneTableCall (f : PixelFormat) (w h step : ℕ) (table old : List ℕ) (a : Answer) (new : List ℕ) : Type 0 where
   pub answer : a ≡ lutAnswer f w h step (length old)
   pub plane : new ≡ cond (isDone a) (tonedWithin f w h step table old) old

@@ -10,7 +10,7 @@ ghost use Rattle.sets.specs.Sets.{viewOf, setAnswer};
 ghost use Rattle.rows.specs.Rows.{Rows};
 ghost use Rattle.formats.specs.Formats.{bytesAPixel};
 ghost use Rattle.formats.specs.Checks.{Supported};
-ghost use Rattle.pictures.specs.OneTable.{LutCall};
+ghost use Rattle.pictures.specs.OneTable.{OneTableCall};
 ghost use Rattle.pictures.specs.Runs.{tablesOf, tightRows, SetCall};
 use answers::Answer;
 use answers::first_of;
@@ -68,7 +68,7 @@ pub fn apply_tone_lut(
     height: u32,
 ) -> Answer
     ensures { λ r. ⌜
-        LutCall format width height step table (now (plane .entry)) r (now (plane .exit))
+        OneTableCall format width height step table (now (plane .entry)) r (now (plane .exit))
         ⌝ }
 {
     let w = width as usize;

@@ -3,7 +3,7 @@
 // by hand, which tools/walk_planes.py writes.
 ghost use mathlib.Core.Path.{_≡_};
 ghost use Prim.Native.Nat.{_+_, _*_, _≤_, min};
-ghost use Rattle.pictures.specs.OneTable.{LutCall};
+ghost use Rattle.pictures.specs.OneTable.{OneTableCall};
 ghost use Rattle.pictures.specs.Runs.{SetCall};
 ghost use Rattle.planes.specs.Planes.{rowOf};
 use answers::Answer;
@@ -121,7 +121,7 @@ pub fn tone_plane<'a>(
     height: u32,
 ) -> Answer
     ensures { λ r. ⌜
-        LutCall format width height (plane .entry .step) table (now (plane .entry .bytes)) r
+        OneTableCall format width height (plane .entry .step) table (now (plane .entry .bytes)) r
         (now (plane .exit .0))
         ⌝ }
 {

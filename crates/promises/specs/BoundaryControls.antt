@@ -23,11 +23,11 @@ use Rattle.rows.specs.Rows.{needed}
 use Rattle.formats.specs.Formats.{formatOf, bytesAPixel}
 use Rattle.records.specs.declared.RecordRead.{RecordRead}
 use Rattle.records.specs.Format.{readRecord}
-use Rattle.records.specs.Views.{HandedBack}
+use Rattle.records.specs.Views.{ReadRecordCall}
 use Rattle.pictures.specs.Runs.{Run, InTypes, first, chroma}
 use Rattle.pictures.specs.Examples.{answered}
 use Rattle.examples.specs.Computed as Computed
-use Rattle.tone_c.specs.Boundary.{PictureAsked, runOf, tonePictureChecks, TonePicture}
+use Rattle.tone_c.specs.Boundary.{PictureAsked, runOf, tonePictureChecks, TonePictureCall}
 use Rattle.promises.specs.Words.{Call, Place}
 use Rattle.promises.specs.BoundaryDemand3.{
   AcceptedCall,
@@ -100,9 +100,9 @@ module _ (kind : CurveInterpolation) (tension : carriedOf kind .tension < 256) w
 
   -- the same pixel by the C call, with a record that is read as this set
   abbrev IsToned : List ℕ → Type 0
-  IsToned stored = TonePicture (askedBy stored) 0 (ran .after)
+  IsToned stored = TonePictureCall (askedBy stored) 0 (ran .after)
 
-  toned : (stored : List ℕ) → HandedBack (readRecord stored) handed
+  toned : (stored : List ℕ) → ReadRecordCall stored handed
       → 0 ≡ numberOf (firstRefusal (tonePictureChecks (askedBy stored)))
       → IsToned stored
   unfolding answered formatOf first chroma

@@ -14,7 +14,7 @@ use Rattle.sets.specs.Lists.{EveryList}
 use Rattle.sets.specs.SameLaws.{view-same}
 use Rattle.formats.specs.Formats.{formatOf}
 use Rattle.pictures.specs.Runs.{Outputs, tonedBy}
-use Rattle.tone_c.specs.Boundary.{setOf, PictureAsked, runOf, TonePicture}
+use Rattle.tone_c.specs.Boundary.{setOf, PictureAsked, runOf, TonePictureCall}
 use Rattle.promises.specs.Words as Run
 use Rattle.promises.specs.Words.{Place, IsSpline, Nearest, HasLine}
 use Rattle.promises.specs.Demand3 as Demand
@@ -26,7 +26,7 @@ use Rattle.promises.specs.Demand3 as Demand
 pub record AcceptedCall : Type 0 where
   pub asked : PictureAsked
   pub after : Outputs
-  pub contract : TonePicture asked 0 after
+  pub contract : TonePictureCall asked 0 after
 
 -- the set that a call's record holds
 abbrev pub setIn : AcceptedCall → View

@@ -19,10 +19,10 @@ use Rattle.answers.specs.Numbers.{numberOf, isDone}
 use Rattle.answers.specs.Checks.{firstRefusal}
 use Rattle.points.specs.declared.Curve.{Curve}
 use Rattle.points.specs.declared.Sorted.{Sorted}
-use Rattle.points.specs.Points.{listOf, listChecks, SortedFrom}
+use Rattle.points.specs.Points.{listOf, listChecks, NewCall}
 use Rattle.tables.specs.declared.CurveInterpolation.{CurveInterpolation}
 use Rattle.tables.specs.declared.Lut.{Lut}
-use Rattle.tables.specs.Tables.{tableChecks, BuiltTable, BuiltLut}
+use Rattle.tables.specs.Tables.{tableChecks, BuildTableCall, BuildLutCall}
 use Rattle.lookup.specs.Lookup.{lookupChecks, lookedUp, LookupCall}
 use Rattle.sets.specs.declared.Curves.{Curves}
 use Rattle.sets.specs.Sets.{viewOf, emptyView, curveChecks, setChecks, setAnswer}
@@ -30,16 +30,16 @@ use Rattle.records.specs.declared.RecordRead.{RecordRead}
 use Rattle.records.specs.Format.{readRecord}
 use Rattle.records.specs.Checks.{recordChecks}
 use Rattle.records.specs.CheckLaws.{read-answer, read-empty}
-use Rattle.records.specs.Views.{HandedBack}
+use Rattle.records.specs.Views.{ReadRecordCall}
 use Rattle.writing.specs.declared.Written.{Written}
 use Rattle.writing.specs.Encode.{writeChecks}
 use Rattle.writing.specs.Cases.{write-answer, write-unchanged}
-use Rattle.writing.specs.Contracts.{Wrote}
+use Rattle.writing.specs.Contracts.{WriteRecordCall}
 use Rattle.formats.specs.declared.PixelFormat.{PixelFormat}
 use Rattle.formats.specs.Checks.{lutChecks, lutAnswer}
 use Rattle.pictures.specs.declared.Job.{Job}
 use Rattle.pictures.specs.declared.Toned.{Toned}
-use Rattle.pictures.specs.OneTable.{LutCall}
+use Rattle.pictures.specs.OneTable.{OneTableCall}
 use Rattle.pictures.specs.Runs.{PlaneOf, Outputs, Run, runChecks, answer, SetCall}
 use Rattle.pictures.specs.RunLaws.{refused-outputs}
 use Rattle.text.specs.declared.Text.{Text}
@@ -48,17 +48,17 @@ use Rattle.promises.specs.Checks.{Answers, answers}
 
 -- ---- "any list"
 -- `Curve::new`
-pub new : {given : Curve} {r : Sorted} → SortedFrom given r
+pub new : {given : Curve} {r : Sorted} → NewCall given r
     → Answers (listChecks given) (numberOf (r .answer)) (listOf (r .curve) ≡ [])
 new call = answers (ap numberOf (call .answer)) (λ no. rw no at (call .list))
 
 -- `build_lut`
-pub build-lut : {given : Curve} {kind : CurveInterpolation} {r : Lut} → BuiltLut given kind r
+pub build-lut : {given : Curve} {kind : CurveInterpolation} {r : Lut} → BuildLutCall given kind r
     → Answers (listChecks given) (numberOf (r .answer)) (r .table ≡ replicate 256 0)
 build-lut call = answers (ap numberOf (call .answer)) (λ no. rw no at (call .table))
 
 -- `build_table`
-pub build-table : {given : Curve} {kind : CurveInterpolation} {old new : List Float} {r : Answer} → BuiltTable given kind old r new
+pub build-table : {given : Curve} {kind : CurveInterpolation} {old new : List Float} {r : Answer} → BuildTableCall given kind old r new
     → Answers (tableChecks given (length old)) (numberOf r) (new ≡ old)
 build-table call = answers (ap numberOf (call .answer)) (λ no. rw no at (call .table))
 
@@ -70,14 +70,14 @@ unfolding setAnswer
 check set call = answers (ap numberOf call) (λ no. tt)
 
 -- `write_record`
-pub write-record : {set : Curves} {old new : List ℕ} {r : Written} → Wrote set old r new
+pub write-record : {set : Curves} {old new : List ℕ} {r : Written} → WriteRecordCall set old r new
     → Answers (writeChecks set (length old)) (numberOf (r .answer)) (new ≡ old)
 write-record {set} {old} call =
     answers (ap numberOf (call .answer ∙ write-answer set old)) (λ no. call .buffer ∙ write-unchanged set old (rw (call .answer) at no))
 
 -- ---- "record"
 -- `read_record`
-pub read-record : (s : List ℕ) {r : RecordRead} → HandedBack (readRecord s) r
+pub read-record : (s : List ℕ) {r : RecordRead} → ReadRecordCall s r
     → Answers (recordChecks s) (numberOf (r .answer)) (viewOf (r .set) ≡ emptyView)
 read-record s call =
     answers (ap numberOf (call .answer ∙ read-answer s)) (λ no. call .set ∙ read-empty s (rw (call .answer) at no))
@@ -95,14 +95,14 @@ pub lookup : {table old new : List Float} {r : Answer} → LookupCall table old 
     → Answers (lookupChecks (length table)) (numberOf r) (new ≡ old)
 unfolding lookedUp
 lookup {table} call =
-    answers (ap numberOf (call .answer-is))
+    answers (ap numberOf (call .answer))
     (λ no.
-    by-test (eqb (length table) 4096) (λ t. absurd (true≢false (rw (call .answer-is, t) at no))) (λ t. rw t at (call .replaced)))
+    by-test (eqb (length table) 4096) (λ t. absurd (true≢false (rw (call .answer, t) at no))) (λ t. rw t at (call .values)))
 
 -- ---- "or planes at all"
 -- `apply_tone_lut`
 pub apply-tone-lut : {format : PixelFormat} {width height step : ℕ} {table old new : List ℕ} {r : Answer}
-    → LutCall format width height step table old r new
+    → OneTableCall format width height step table old r new
     → Answers (lutChecks format width height step (length old)) (numberOf r) (new ≡ old)
 unfolding lutAnswer
 apply-tone-lut call = answers (ap numberOf (call .answer)) (λ no. rw no at (call .plane))
@@ -110,7 +110,7 @@ apply-tone-lut call = answers (ap numberOf (call .answer)) (λ no. rw no at (cal
 -- the same on a plane, `planes::tone_plane`
 pub tone-plane : {plane : PlaneOf} {format : PixelFormat} {width height : ℕ} {table new : List ℕ}
     {r : Answer}
-    → LutCall format width height (plane .step) table (plane .bytes) r new
+    → OneTableCall format width height (plane .step) table (plane .bytes) r new
     → Answers (lutChecks format width height (plane .step) (length (plane .bytes))) (numberOf r)
     (new ≡ plane .bytes)
 tone-plane = apply-tone-lut

@@ -19,7 +19,7 @@ use Rattle.single.specs.Rules.{byteOf}
 use Rattle.points.specs.declared.Point.{Point}
 use Rattle.points.specs.declared.Curve.{Curve}
 use Rattle.points.specs.declared.Sorted.{Sorted}
-use Rattle.points.specs.Points.{listOf, kept, SortedFrom}
+use Rattle.points.specs.Points.{listOf, kept, NewCall}
 use Rattle.points.specs.Order.{All, Bytes}
 use Rattle.tangents.specs.CatmullRom.{catmullRomAt, cardinalAt}
 use Rattle.monotone.specs.Monotone.{circleAt, boxAt}
@@ -42,7 +42,7 @@ use Rattle.tables.specs.declared.CurveInterpolation.the-variants.{
 }
 use Rattle.tables.specs.declared.Lut.{Lut}
 use Rattle.tables.specs.Kinds.{LegalKind}
-use Rattle.tables.specs.Tables.{sampleOf, entryOf, BuiltTable, BuiltLut}
+use Rattle.tables.specs.Tables.{sampleOf, entryOf, BuildTableCall, BuildLutCall}
 use Rattle.table_facts.specs.Through.{byte-sample-finite, fine-sample-finite}
 use Rattle.lookup.specs.Lookup.{looked, LookupCall}
 use Rattle.sets.specs.declared.Curves.{Curves}
@@ -51,17 +51,17 @@ use Rattle.sets.specs.Legal.{Legal}
 use Rattle.sets.specs.Same.{Same}
 use Rattle.records.specs.declared.RecordRead.{RecordRead}
 use Rattle.records.specs.Format.{readRecord}
-use Rattle.records.specs.Views.{HandedBack}
+use Rattle.records.specs.Views.{ReadRecordCall}
 use Rattle.writing.specs.declared.Written.{Written}
 use Rattle.writing.specs.Encode.{encode}
-use Rattle.writing.specs.Contracts.{Wrote}
+use Rattle.writing.specs.Contracts.{WriteRecordCall}
 use Rattle.record_facts.specs.ReadLegal.{AllBytes}
 use Rattle.record_facts.specs.Canonical.{namesDefault}
 use Rattle.record_facts.specs.RoundTrip as RoundTrip
 use Rattle.record_facts.specs.NotLonger as NotLonger
 use Rattle.record_facts.specs.Runs as Writing
 use Rattle.formats.specs.declared.PixelFormat.{PixelFormat}
-use Rattle.pictures.specs.OneTable.{LutCall}
+use Rattle.pictures.specs.OneTable.{OneTableCall}
 use Rattle.promises.specs.Words.{Call, Accepted, ExactPicture}
 use Rattle.promises.specs.Results.{straightly, hermiteBy, splineBy, ExactPlane}
 use Rattle.promises.specs.ResultFacts as Fact
@@ -70,17 +70,17 @@ use Rattle.promises.specs.PictureFacts.{as-defined}
 
 -- ---- "tables"
 -- `Curve::new`: the kept points
-pub new : {given : Curve} {r : Sorted} → SortedFrom given r → numberOf (r .answer) ≡ 0 → listOf (r .curve) ≡ kept (listOf given)
+pub new : {given : Curve} {r : Sorted} → NewCall given r → numberOf (r .answer) ≡ 0 → listOf (r .curve) ≡ kept (listOf given)
 new = Fact.new-sorts
 
 -- `build_lut`: each of 256 samples to a byte
-pub build-lut : {given : Curve} {kind : CurveInterpolation} {r : Lut} → BuiltLut given kind r → numberOf (r .answer) ≡ 0
+pub build-lut : {given : Curve} {kind : CurveInterpolation} {r : Lut} → BuildLutCall given kind r → numberOf (r .answer) ≡ 0
     → r .table ≡ tabulate 256 (λ v. byteOf (sampleOf kind (listOf given) 256 v))
 unfolding entryOf
 build-lut = Fact.build-lut-builds
 
 -- `build_table`: as many samples as the slice holds
-pub build-table : {given : Curve} {kind : CurveInterpolation} {old new : List Float} {r : Answer} → BuiltTable given kind old r new → numberOf r ≡ 0
+pub build-table : {given : Curve} {kind : CurveInterpolation} {old new : List Float} {r : Answer} → BuildTableCall given kind old r new → numberOf r ≡ 0
     → new ≡ tabulate (length old) (λ v. sampleOf kind (listOf given) (length old) v)
 build-table = Fact.build-table-builds
 
@@ -100,7 +100,7 @@ lookup = Fact.lookup-replaces
 -- ---- "and pictures"
 -- `apply_tone_lut`
 pub apply-tone-lut : {format : PixelFormat} {width height step : ℕ} {table old new : List ℕ} {r : Answer}
-    → LutCall format width height step table old r new → numberOf r ≡ 0 → ExactPlane format width height step table old new
+    → OneTableCall format width height step table old r new → numberOf r ≡ 0 → ExactPlane format width height step table old new
 apply-tone-lut = Fact.apply-tone-lut-tones
 
 -- `apply_pixels`
@@ -157,17 +157,17 @@ module _ (l : List Point) (S v : ℕ) where
 
 -- ---- "and records survive writing then reading."
 -- `read_record`: the set of the definition
-pub read-record : (s : List ℕ) {r : RecordRead} → HandedBack (readRecord s) r → viewOf (r .set) ≡ readRecord s .set
+pub read-record : (s : List ℕ) {r : RecordRead} → ReadRecordCall s r → viewOf (r .set) ≡ readRecord s .set
 read-record s call = call .set
 
 -- `write_record`: the set's record at the front of the buffer, the rest of it unchanged
-pub write-record : {set : Curves} {old new : List ℕ} {r : Written} → Wrote set old r new → numberOf (r .answer) ≡ 0
+pub write-record : {set : Curves} {old new : List ℕ} {r : Written} → WriteRecordCall set old r new → numberOf (r .answer) ≡ 0
     → (r .length ≡ length (encode (viewOf set))) × (new ≡ encode (viewOf set) ++ drop (length (encode (viewOf set))) old)
 write-record = Fact.write-record-writes
 
 -- what was written, up to its length, is read without a refusal as the same set
-pub written-then-read : {set : Curves} {old new : List ℕ} {w : Written} {r : RecordRead} → Wrote set old w new → w .answer ≡ Done
-    → HandedBack (readRecord (take (w .length) new)) r → (r .answer ≡ Done) × Same (r .set) set
+pub written-then-read : {set : Curves} {old new : List ℕ} {w : Written} {r : RecordRead} → WriteRecordCall set old w new → w .answer ≡ Done
+    → ReadRecordCall (take (w .length) new) r → (r .answer ≡ Done) × Same (r .set) set
 written-then-read = Writing.written-then-read
 
 -- on the definitions: the record of every set that passes its check, with a tension of a byte or slopes of 16 bits, is read as that set
@@ -178,27 +178,27 @@ round-trip = RoundTrip.round-trip
 pub not-longer : (s : List ℕ) → readRecord s .answer ≡ Done → length (encode (readRecord s .set)) ≤ length s
 not-longer = NotLonger.not-longer
 
-pub accepted-not-refused : (s : List ℕ) {old new : List ℕ} {r : RecordRead} {w : Written} → HandedBack (readRecord s) r → Wrote (r .set) old w new
+pub accepted-not-refused : (s : List ℕ) {old new : List ℕ} {r : RecordRead} {w : Written} → ReadRecordCall s r → WriteRecordCall (r .set) old w new
     → w .answer ≡ firstRefusal (roomCheck (length (encode (readRecord s .set))) (length old) ∷ [])
 accepted-not-refused = Writing.accepted-not-refused
 
 -- .. and never in a buffer as long as that record
-pub accepted-fits : (s : List ℕ) {old new : List ℕ} {r : RecordRead} {w : Written} → HandedBack (readRecord s) r → r .answer ≡ Done
-    → Wrote (r .set) old w new → length s ≤ length old → w .answer ≡ Done
+pub accepted-fits : (s : List ℕ) {old new : List ℕ} {r : RecordRead} {w : Written} → ReadRecordCall s r → r .answer ≡ Done
+    → WriteRecordCall (r .set) old w new → length s ≤ length old → w .answer ≡ Done
 accepted-fits = Writing.accepted-fits
 
 -- .. nor any set whose lists pass the check in 522 bytes: they always suffice
-pub always-fits : {set : Curves} {old new : List ℕ} {w : Written} → Wrote set old w new → 522 ≤ length old
+pub always-fits : {set : Curves} {old new : List ℕ} {w : Written} → WriteRecordCall set old w new → 522 ≤ length old
     → (w .answer ≡ setAnswer set) × (w .answer ≡ OutputTooSmall → ⊥)
 always-fits = Writing.always-fits
 
 -- records are canonical: the same sets are written as the same bytes ..
-pub same-bytes : {a b : Curves} {old newA newB : List ℕ} {w x : Written} → Same a b → Wrote a old w newA → Wrote b old x newB
+pub same-bytes : {a b : Curves} {old newA newB : List ℕ} {w x : Written} → Same a b → WriteRecordCall a old w newA → WriteRecordCall b old x newB
     → (w .answer ≡ x .answer) × (w .length ≡ x .length) × (newA ≡ newB)
 same-bytes = Writing.same-runs
 
 -- .. and an accepted record comes back byte for byte, unless it names the default kind
-pub returned : (s : List ℕ) {old new : List ℕ} {r : RecordRead} {w : Written} → AllBytes s → HandedBack (readRecord s) r → r .answer ≡ Done
-    → namesDefault s ≡ false → Wrote (r .set) old w new → w .answer ≡ Done
+pub returned : (s : List ℕ) {old new : List ℕ} {r : RecordRead} {w : Written} → AllBytes s → ReadRecordCall s r → r .answer ≡ Done
+    → namesDefault s ≡ false → WriteRecordCall (r .set) old w new → w .answer ≡ Done
     → (w .length ≡ length s) × (take (w .length) new ≡ s)
 returned = Writing.returned

@@ -14,44 +14,44 @@ use Rattle.answers.specs.declared.Answer.the-variants.{Done}
 use Rattle.answers.specs.Numbers.{numberOf, number-unique}
 use Rattle.points.specs.declared.Curve.{Curve}
 use Rattle.points.specs.declared.Sorted.{Sorted}
-use Rattle.points.specs.Points.{listOf, kept, SortedFrom}
+use Rattle.points.specs.Points.{listOf, kept, NewCall}
 use Rattle.tables.specs.declared.CurveInterpolation.{CurveInterpolation}
 use Rattle.tables.specs.declared.Lut.{Lut}
-use Rattle.tables.specs.Tables.{fineTable, byteTable, BuiltTable, BuiltLut}
+use Rattle.tables.specs.Tables.{fineTable, byteTable, BuildTableCall, BuildLutCall}
 use Rattle.lookup.specs.Lookup.{looked, lookedUp, LookupCall}
 use Rattle.sets.specs.declared.Curves.{Curves}
 use Rattle.sets.specs.Sets.{viewOf}
 use Rattle.writing.specs.declared.Written.{Written}
 use Rattle.writing.specs.Encode.{encode}
 use Rattle.writing.specs.Cases.{write-done, done-case}
-use Rattle.writing.specs.Contracts.{Wrote}
+use Rattle.writing.specs.Contracts.{WriteRecordCall}
 use Rattle.rows.specs.Bytes.{same, rowByte}
 use Rattle.rows.specs.Rows.{planeByte}
 use Rattle.rows.specs.Laws.{toned-through, toned-kept, plane-pixel, padding-stays}
 use Rattle.formats.specs.declared.PixelFormat.{PixelFormat}
 use Rattle.formats.specs.Formats.{bytesAPixel, alphaOf}
 use Rattle.formats.specs.CheckLaws.{lut-done}
-use Rattle.pictures.specs.OneTable.{tonedWithin, LutCall}
+use Rattle.pictures.specs.OneTable.{tonedWithin, OneTableCall}
 use Rattle.promises.specs.Results.{ExactPlane}
 
 module _ {given : Curve} where
-  pub new-sorts : {r : Sorted} → SortedFrom given r → numberOf (r .answer) ≡ 0 → listOf (r .curve) ≡ kept (listOf given)
+  pub new-sorts : {r : Sorted} → NewCall given r → numberOf (r .answer) ≡ 0 → listOf (r .curve) ≡ kept (listOf given)
   new-sorts call zero = rw zero at (call .list)
 
-  pub build-lut-builds : {kind : CurveInterpolation} {r : Lut} → BuiltLut given kind r → numberOf (r .answer) ≡ 0 → r .table ≡ byteTable kind (listOf given)
+  pub build-lut-builds : {kind : CurveInterpolation} {r : Lut} → BuildLutCall given kind r → numberOf (r .answer) ≡ 0 → r .table ≡ byteTable kind (listOf given)
   build-lut-builds call zero = rw zero at (call .table)
 
-  pub build-table-builds : {kind : CurveInterpolation} {old new : List Float} {r : Answer} → BuiltTable given kind old r new → numberOf r ≡ 0
+  pub build-table-builds : {kind : CurveInterpolation} {old new : List Float} {r : Answer} → BuildTableCall given kind old r new → numberOf r ≡ 0
       → new ≡ fineTable kind (listOf given) (length old)
   build-table-builds call zero = rw zero at (call .table)
 
 pub lookup-replaces : {table old new : List Float} {r : Answer} → LookupCall table old r new → numberOf r ≡ 0 → new ≡ tabulate (length old) (looked table old)
 unfolding lookedUp
 lookup-replaces {table} call zero =
-    by-test (eqb (length table) 4096) (λ t. rw t at (call .replaced)) (λ t. absurd (omega (arith, zero, ap numberOf (rw t at (call .answer-is)))))
+    by-test (eqb (length table) 4096) (λ t. rw t at (call .values)) (λ t. absurd (omega (arith, zero, ap numberOf (rw t at (call .answer)))))
 
 -- ---- pictures
-pub apply-tone-lut-tones : {f : PixelFormat} {w h step : ℕ} {table old new : List ℕ} {r : Answer} → LutCall f w h step table old r new → numberOf r ≡ 0
+pub apply-tone-lut-tones : {f : PixelFormat} {w h step : ℕ} {table old new : List ℕ} {r : Answer} → OneTableCall f w h step table old r new → numberOf r ≡ 0
     → ExactPlane f w h step table old new
 apply-tone-lut-tones {f} {w} {h} {step} {table} {old} {new} {r} call zero =
     let rows = lut-done f w h step (length old)
@@ -68,7 +68,7 @@ apply-tone-lut-tones {f} {w} {h} {step} {table} {old} {new} {r} call zero =
     }
 
 -- ---- records
-pub write-record-writes : {set : Curves} {old new : List ℕ} {r : Written} → Wrote set old r new → numberOf (r .answer) ≡ 0
+pub write-record-writes : {set : Curves} {old new : List ℕ} {r : Written} → WriteRecordCall set old r new → numberOf (r .answer) ≡ 0
     → (r .length ≡ length (encode (viewOf set))) × (new ≡ encode (viewOf set) ++ drop (length (encode (viewOf set))) old)
 write-record-writes {set} {old} {r = r} call zero =
     let d = done-case set old (sym (call .answer) ∙ number-unique (r .answer) Done zero) in

@@ -16,11 +16,11 @@ use Rattle.sets.specs.Same.{Same}
 use Rattle.sets.specs.SameLaws.{view-same}
 use Rattle.records.specs.declared.RecordRead.{RecordRead}
 use Rattle.records.specs.Format.{longest, readRecord}
-use Rattle.records.specs.Views.{HandedBack}
+use Rattle.records.specs.Views.{ReadRecordCall}
 use Rattle.writing.specs.declared.Written.{Written}
 use Rattle.writing.specs.Encode.{Write, encode}
 use Rattle.writing.specs.Cases.{write-answer, write-done, done-case}
-use Rattle.writing.specs.Contracts.{Wrote}
+use Rattle.writing.specs.Contracts.{WriteRecordCall}
 use Rattle.record_facts.specs.ReadLegal.{AllBytes}
 use Rattle.record_facts.specs.Canonical.{namesDefault, same-written, accepted-is}
 use Rattle.record_facts.specs.NotLonger.{not-longer}
@@ -29,7 +29,7 @@ use Rattle.record_facts.specs.RoundTrip.{written-back}
 
 module _ {set : Curves} {before after : List ℕ} {w : Written} {r : RecordRead} where
   -- "reading what the writer wrote gives the same set back": of a run that answers done, the bytes up to its length are read as the same set
-  pub written-then-read : Wrote set before w after → w .answer ≡ Done → HandedBack (readRecord (take (w .length) after)) r
+  pub written-then-read : WriteRecordCall set before w after → w .answer ≡ Done → ReadRecordCall (take (w .length) after) r
       → (r .answer ≡ Done) × Same (r .set) set
   written-then-read wrote done handed =
       let written = sym (wrote .answer) ∙ done in
@@ -38,22 +38,22 @@ module _ {set : Curves} {before after : List ℕ} {w : Written} {r : RecordRead}
       (h .answer, view-same (r .set) set (h .full) (wrote .held done .full) (h .legal) (done-case set before written .0) (h .set))
 
 -- a set that was read is never refused for its lists: the answer is done, or 13 where the buffer is shorter than the set's record
-pub accepted-not-refused : (s : List ℕ) {before after : List ℕ} {r : RecordRead} {w : Written} → HandedBack (readRecord s) r → Wrote (r .set) before w after
+pub accepted-not-refused : (s : List ℕ) {before after : List ℕ} {r : RecordRead} {w : Written} → ReadRecordCall s r → WriteRecordCall (r .set) before w after
     → w .answer ≡ firstRefusal (roomCheck (length (encode (readRecord s .set))) (length before) ∷ [])
 unfolding setAnswer
 accepted-not-refused s {before} {r = r} handed wrote =
     wrote .answer ∙ write-answer (r .set) before ∙ sym (first-goes-on (setChecks curveChecks (r .set)) _ (handed .legal) refl) ∙ rw (handed .set)
 
 -- and of a record that was accepted it is done in every buffer that has room for that record
-pub accepted-fits : (s : List ℕ) {before after : List ℕ} {r : RecordRead} {w : Written} → HandedBack (readRecord s) r → r .answer ≡ Done
-    → Wrote (r .set) before w after → length s ≤ length before → w .answer ≡ Done
+pub accepted-fits : (s : List ℕ) {before after : List ℕ} {r : RecordRead} {w : Written} → ReadRecordCall s r → r .answer ≡ Done
+    → WriteRecordCall (r .set) before w after → length s ≤ length before → w .answer ≡ Done
 accepted-fits s {before} handed accepted wrote room =
     let short = not-longer s (sym (handed .answer) ∙ accepted) in
     accepted-not-refused s handed wrote ∙ rw (le-ltb (length before) (length (encode (readRecord s .set))) (omega arith))
 
 -- same sets, written into buffers that held the same, give the same answer, length and bytes
 pub same-runs : {a b : Curves} {before after-a after-b : List ℕ} {w x : Written} → Same a b
-    → Wrote a before w after-a → Wrote b before x after-b
+    → WriteRecordCall a before w after-a → WriteRecordCall b before x after-b
     → (w .answer ≡ x .answer) × (w .length ≡ x .length) × (after-a ≡ after-b)
 same-runs {a} {b} {before} same left right =
     let e = same-written a b before same in (
@@ -64,8 +64,8 @@ same-runs {a} {b} {before} same left right =
 
 -- a record that was accepted and does not name the default kind comes back byte for byte
 pub returned : (s : List ℕ) {before after : List ℕ} {r : RecordRead} {w : Written} → AllBytes s
-    → HandedBack (readRecord s) r → r .answer ≡ Done
-    → namesDefault s ≡ false → Wrote (r .set) before w after → w .answer ≡ Done
+    → ReadRecordCall s r → r .answer ≡ Done
+    → namesDefault s ≡ false → WriteRecordCall (r .set) before w after → w .answer ≡ Done
     → (w .length ≡ length s) × (take (w .length) after ≡ s)
 returned s {before} {r = r} {w} bytes handed accepted unnamed wrote done =
     let d = done-case (r .set) before (sym (wrote .answer) ∙ done) in
@@ -77,7 +77,7 @@ returned s {before} {r = r} {w} bytes handed accepted unnamed wrote done =
 
 -- into a buffer of 522 bytes or more every set is written that passes the check of its lists, and
 -- none is refused with 13
-pub always-fits : {set : Curves} {before after : List ℕ} {w : Written} → Wrote set before w after
+pub always-fits : {set : Curves} {before after : List ℕ} {w : Written} → WriteRecordCall set before w after
     → longest ≤ length before
     → (w .answer ≡ setAnswer set) × (w .answer ≡ OutputTooSmall → ⊥)
 always-fits {set} {before} wrote room =

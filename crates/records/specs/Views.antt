@@ -17,7 +17,7 @@ use Rattle.records.specs.declared.NumberRead.{NumberRead}
 use Rattle.records.specs.declared.KindRead.{KindRead}
 use Rattle.records.specs.declared.Reading.{Reading}
 use Rattle.records.specs.declared.RecordRead.{RecordRead}
-use Rattle.records.specs.Format.{Parse, good, refused, _▷_, Read}
+use Rattle.records.specs.Format.{Parse, good, refused, _▷_, Read, readRecord}
 
 -- a value and what follows it from a position on, where the answer is Done
 abbrev pub parsed : {A : Type 0} → Answer → A → List ℕ → ℕ → Parse A
@@ -48,3 +48,7 @@ pub record HandedBack (r : Read) (handed : RecordRead) : Type 0 where
   pub set : viewOf (handed .set) ≡ r .set
   pub legal : setAnswer (handed .set) ≡ Done
   pub full : Full (handed .set)
+
+-- what a call of the reader hands back for these bytes
+abbrev pub ReadRecordCall : List ℕ → RecordRead → Type 0
+ReadRecordCall stored handed = HandedBack (readRecord stored) handed

@@ -34,7 +34,15 @@ ghost use Rattle.records.specs.Format.{
   readRecord,
   refused,
 };
-ghost use Rattle.records.specs.Views.{numberParsed, kindParsed, setParsed, ListRead, ReadOn, HandedBack};
+ghost use Rattle.records.specs.Views.{
+  numberParsed,
+  kindParsed,
+  setParsed,
+  ListRead,
+  ReadOn,
+  HandedBack,
+  ReadRecordCall,
+};
 use answers::Answer;
 use points::Curve;
 use points::Point;
@@ -447,7 +455,7 @@ fn read_fields(s: &[u8], at: usize, map: u8, unnamed: CurveInterpolation) -> Rec
 
 // Reads a stored record.
 pub fn read_record(s: &[u8]) -> RecordRead
-    ensures { λ r. ⌜ HandedBack (readRecord (now (s .entry))) r ⌝ }
+    ensures { λ r. ⌜ ReadRecordCall (now (s .entry)) r ⌝ }
 {
     if s.len() == 0 {
         return no_record(Answer::RecordTruncated);

@@ -67,7 +67,7 @@ abbrev pub tableChecks : Curve → ℕ → List Check
 tableChecks curve S = listChecks curve ++ lengthCheck S ∷ []
 
 -- the answer, and the lent slice: filled, or on a refusal unchanged
-pub record BuiltTable (curve : Curve) (kind : CurveInterpolation) (old : List Float) (r : Answer) (new : List Float) : Type 0 where
+pub record BuildTableCall (curve : Curve) (kind : CurveInterpolation) (old : List Float) (r : Answer) (new : List Float) : Type 0 where
   pub answer : r ≡ firstRefusal (tableChecks curve (length old))
   pub table : new ≡ cond (isDone r) (fineTable kind (listOf curve) (length old)) old
 
@@ -81,6 +81,6 @@ abbrev pub tableOf : Curve → CurveInterpolation → List ℕ
 tableOf curve kind = tableBeside (firstRefusal (listChecks curve)) curve kind
 
 -- the answer, and the table
-pub record BuiltLut (curve : Curve) (kind : CurveInterpolation) (r : Lut) : Type 0 where
+pub record BuildLutCall (curve : Curve) (kind : CurveInterpolation) (r : Lut) : Type 0 where
   pub answer : r .answer ≡ firstRefusal (listChecks curve)
   pub table : r .table ≡ tableBeside (r .answer) curve kind

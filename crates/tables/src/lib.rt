@@ -18,7 +18,7 @@ ghost use Rattle.tables.specs.Kinds.{
   knotValueRow,
 };
 ghost use Rattle.tables.specs.Tables.{fineTable, bytesOf, tableOf};
-ghost use Rattle.tables.specs.Tables.{isTableLength, lengthCheck, BuiltTable, BuiltLut};
+ghost use Rattle.tables.specs.Tables.{isTableLength, lengthCheck, BuildTableCall, BuildLutCall};
 use answers::Answer;
 use answers::first_of;
 use points::Curve;
@@ -289,7 +289,7 @@ fn length_answer(count: usize) -> Answer
 
 // The fine table of a given list, into a lent slice of 256 or 4,096 samples.
 pub fn build_table(curve: Curve, kind: CurveInterpolation, samples: &mut [f32]) -> Answer
-    ensures { λ r. ⌜ BuiltTable curve kind (now (samples .entry)) r (now (samples .exit)) ⌝ }
+    ensures { λ r. ⌜ BuildTableCall curve kind (now (samples .entry)) r (now (samples .exit)) ⌝ }
 {
     let answer = first_of(curve.check_given(), length_answer(samples.len()));
     if answer.is_done() {
@@ -300,7 +300,7 @@ pub fn build_table(curve: Curve, kind: CurveInterpolation, samples: &mut [f32]) 
 
 // The byte table of a given list, beside the answer.
 pub fn build_lut(curve: Curve, kind: CurveInterpolation) -> Lut
-    ensures { λ r. ⌜ BuiltLut curve kind r ⌝ }
+    ensures { λ r. ⌜ BuildLutCall curve kind r ⌝ }
 {
     Lut {
         answer: curve.check_given(),

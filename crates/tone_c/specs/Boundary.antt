@@ -22,7 +22,7 @@ use Rattle.formats.specs.Checks.{lutChecks, pictureChecks}
 use Rattle.records.specs.declared.RecordRead.{RecordRead}
 use Rattle.records.specs.Format.{pointBytes, pairs, kindCheck, readRecord}
 use Rattle.records.specs.Checks.{recordChecks}
-use Rattle.records.specs.Views.{HandedBack}
+use Rattle.records.specs.Views.{ReadRecordCall}
 use Rattle.writing.specs.Encode.{encode}
 use Rattle.pictures.specs.declared.Toned.{Toned}
 use Rattle.pictures.specs.OneTable.{tonedWithin}
@@ -55,7 +55,7 @@ abbrev pub toneTableChecks : List ℕ → ℕ → ℕ → List Check
 toneTableChecks points kind held = givenChecks points kind ++ roomCheck 256 held ∷ []
 
 -- the number answered; and the output: the byte table in place of its first 256 bytes, or on a refusal unchanged
-pub record ToneTable (points : List ℕ) (kind tension : ℕ) (start end : ℤ) (old : List ℕ) (r : ℕ) (new : List ℕ) : Type 0 where
+pub record ToneTableCall (points : List ℕ) (kind tension : ℕ) (start end : ℤ) (old : List ℕ) (r : ℕ) (new : List ℕ) : Type 0 where
   pub number : r ≡ numberOf (firstRefusal (toneTableChecks points kind (length old)))
   pub table : new ≡ cond (eqb r 0) (byteTable (kindOf kind tension start end) (pairsOf points) ++ drop 256 old) old
 
@@ -65,13 +65,13 @@ abbrev pub toneFineTableChecks : List ℕ → ℕ → ℕ → List Check
 toneFineTableChecks points kind S = givenChecks points kind ++ lengthCheck S ∷ []
 
 -- the number answered; and the lent table: filled, or on a refusal unchanged
-pub record ToneFineTable (points : List ℕ) (kind tension : ℕ) (start end : ℤ) (old : List Float) (r : ℕ) (new : List Float) : Type 0 where
+pub record ToneFineTableCall (points : List ℕ) (kind tension : ℕ) (start end : ℤ) (old : List Float) (r : ℕ) (new : List Float) : Type 0 where
   pub number : r ≡ numberOf (firstRefusal (toneFineTableChecks points kind (length old)))
   pub table : new ≡ cond (eqb r 0) (fineTable (kindOf kind tension start end) (pairsOf points) (length old)) old
 
 -- ---- tone_lookup
 -- the number answered; and the lent values: each replaced, or on a refusal unchanged
-pub record ToneLookup (table old : List Float) (r : ℕ) (new : List Float) : Type 0 where
+pub record ToneLookupCall (table old : List Float) (r : ℕ) (new : List Float) : Type 0 where
   pub number : r ≡ numberOf (firstRefusal (lookupChecks (length table)))
   pub values : new ≡ lookedUp table old
 
@@ -81,7 +81,7 @@ abbrev pub tonePlaneChecks : ℕ → ℕ → ℕ → ℕ → ℕ → List Check
 tonePlaneChecks format w h step held = formatCheck format ∷ lutChecks (formatOf format) w h step held
 
 -- the number answered; and the plane: toned, or on a refusal unchanged
-pub record TonePlane (table : List ℕ) (format w h step : ℕ) (old : List ℕ) (r : ℕ) (new : List ℕ) : Type 0 where
+pub record TonePlaneCall (table : List ℕ) (format w h step : ℕ) (old : List ℕ) (r : ℕ) (new : List ℕ) : Type 0 where
   pub number : r ≡ numberOf (firstRefusal (tonePlaneChecks format w h step (length old)))
   pub plane : new ≡ cond (eqb r 0) (tonedWithin (formatOf format) w h step table old) old
 
@@ -122,13 +122,13 @@ tonePictureChecks asked =
 pub record PictureRun (asked : PictureAsked) (after : Outputs) : Type 0 where
   pub handed : RecordRead
   pub toned : Toned
-  pub read : HandedBack (readRecord (asked .stored)) handed
+  pub read : ReadRecordCall (asked .stored) handed
   pub call : SetCall (runOf asked (handed .set)) toned after
   pub done : toned .answer ≡ Done
 
 -- the number answered; on a refusal the outputs unchanged; and with 0 the run, which says what the
 -- outputs hold: `PictureLaws` has it by the record's bytes
-pub record TonePicture (asked : PictureAsked) (r : ℕ) (after : Outputs) : Type 0 where
+pub record TonePictureCall (asked : PictureAsked) (r : ℕ) (after : Outputs) : Type 0 where
   pub number : r ≡ numberOf (firstRefusal (tonePictureChecks asked))
   pub unchanged : (r ≡ 0 → ⊥) → after ≡ asked .lent .outputs
   pub run : r ≡ 0 → PictureRun asked after
@@ -139,7 +139,7 @@ abbrev pub toneRecordTableChecks : List ℕ → ℕ → List Check
 toneRecordTableChecks stored held = recordChecks stored ++ roomCheck 256 held ∷ []
 
 -- the number answered; and the output: the master's byte table in place of its first 256 bytes, or on a refusal unchanged
-pub record ToneRecordTable (stored old : List ℕ) (r : ℕ) (new : List ℕ) : Type 0 where
+pub record ToneRecordTableCall (stored old : List ℕ) (r : ℕ) (new : List ℕ) : Type 0 where
   pub number : r ≡ numberOf (firstRefusal (toneRecordTableChecks stored (length old)))
   pub table : new ≡ cond (eqb r 0) (byteTable (setOf stored .kind) (setOf stored .master) ++ drop 256 old) old
 
@@ -153,7 +153,7 @@ abbrev pub toneRecordCopyChecks : List ℕ → ℕ → List Check
 toneRecordCopyChecks stored held = recordChecks stored ++ roomCheck (length (copyOf stored)) held ∷ []
 
 -- the number answered; the output: the copy in place of its first bytes; and its length; on a refusal both unchanged
-pub record ToneRecordCopy (stored old : List ℕ) (oldWritten r : ℕ) (new : List ℕ) (newWritten : ℕ) : Type 0 where
+pub record ToneRecordCopyCall (stored old : List ℕ) (oldWritten r : ℕ) (new : List ℕ) (newWritten : ℕ) : Type 0 where
   pub number : r ≡ numberOf (firstRefusal (toneRecordCopyChecks stored (length old)))
   pub out : new ≡ cond (eqb r 0) (copyOf stored ++ drop (length (copyOf stored)) old) old
   pub written : newWritten ≡ cond (eqb r 0) (length (copyOf stored)) oldWritten

@@ -21,7 +21,7 @@ use Rattle.pictures.specs.Runs.{
   first,
   chroma,
 }
-use Rattle.tone_c.specs.Boundary.{setOf, PictureAsked, runOf, PictureRun, TonePicture}
+use Rattle.tone_c.specs.Boundary.{setOf, PictureAsked, runOf, PictureRun, TonePictureCall}
 
 -- the first output of an accepted call by a set
 abbrev pub tonedBySet : PictureAsked → View → List ℕ
@@ -51,7 +51,7 @@ module _ {asked : PictureAsked} {after : Outputs} (run : PictureRun asked after)
   unfolding chroma
   run-cr = rw accepted-run at (run .call .cr)
 
-module _ {asked : PictureAsked} {r : ℕ} {after : Outputs} (call : TonePicture asked r after) where
+module _ {asked : PictureAsked} {r : ℕ} {after : Outputs} (call : TonePictureCall asked r after) where
   -- where r is not 0
   old : eqb r 0 ≡ false → after ≡ asked .lent .outputs
   old other = call .unchanged (λ zero. true≢false (rw zero at other))

@@ -1,6 +1,6 @@
 // The tone calls for a C or Rust caller. Each answers one byte: 0 when it did its work, else the first refusal's number; then no lent byte has changed.
 // A slice crosses as a pointer and a length.
-ghost use Rattle.tone_c.specs.Boundary.{ToneTable, ToneFineTable, ToneLookup, TonePlane, TonePicture, ToneRecordTable, ToneRecordCopy};
+ghost use Rattle.tone_c.specs.Boundary.{ToneTableCall, ToneFineTableCall, ToneLookupCall, TonePlaneCall, TonePictureCall, ToneRecordTableCall, ToneRecordCopyCall};
 ghost use mathlib.Core.Path.{_≡_};
 ghost use Rattle.tone_c.specs.Version.{version};
 use answers::first_of;
@@ -38,7 +38,7 @@ pub extern "C" fn tone_table(
     table: &mut [u8],
 ) -> u8
     ensures { λ r. ⌜
-        ToneTable (now (points .entry)) kind «tension» «start_slope» «end_slope»
+        ToneTableCall (now (points .entry)) kind «tension» «start_slope» «end_slope»
         (now (table .entry)) r (now (table .exit))
         ⌝ }
 {
@@ -63,7 +63,7 @@ pub extern "C" fn tone_fine_table(
     table: &mut [f32],
 ) -> u8
     ensures { λ r. ⌜
-        ToneFineTable (now (points .entry)) kind «tension» «start_slope» «end_slope»
+        ToneFineTableCall (now (points .entry)) kind «tension» «start_slope» «end_slope»
         (now (table .entry)) r (now (table .exit))
         ⌝ }
 {
@@ -79,7 +79,7 @@ pub extern "C" fn tone_fine_table(
 // Replaces each value, in 0..1, by the height there of a fine table of 4,096 samples, in 0..1 again.
 #[no_mangle]
 pub extern "C" fn tone_lookup(table: &[f32], values: &mut [f32]) -> u8
-    ensures { λ r. ⌜ ToneLookup (now (table .entry)) (now (values .entry)) r (now (values .exit)) ⌝ }
+    ensures { λ r. ⌜ ToneLookupCall (now (table .entry)) (now (values .entry)) r (now (values .exit)) ⌝ }
 {
     let replaced = lookup::lookup(table, values);
     replaced.number()
@@ -96,7 +96,7 @@ pub extern "C" fn tone_plane(
     step: usize,
 ) -> u8
     ensures { λ r. ⌜
-        TonePlane (now (table .entry)) format width height step (now (plane .entry)) r
+        TonePlaneCall (now (table .entry)) format width height step (now (plane .entry)) r
         (now (plane .exit))
         ⌝ }
 {
@@ -128,7 +128,7 @@ pub extern "C" fn tone_picture<'a, 'x, 'y, 'z>(
     out_v: &'z mut [u8],
 ) -> u8
     ensures { λ r. ⌜
-        TonePicture (record {
+        TonePictureCall (record {
           stored = now («record» .entry);
           format = format;
           width = width;
@@ -175,7 +175,7 @@ pub extern "C" fn tone_picture<'a, 'x, 'y, 'z>(
 #[no_mangle]
 pub extern "C" fn tone_record_table(record: &[u8], table: &mut [u8]) -> u8
     ensures { λ r. ⌜
-        ToneRecordTable (now («record» .entry)) (now (table .entry)) r (now (table .exit))
+        ToneRecordTableCall (now («record» .entry)) (now (table .entry)) r (now (table .exit))
         ⌝ }
 {
     let read = read_record(record);
@@ -195,7 +195,7 @@ pub extern "C" fn tone_record_table(record: &[u8], table: &mut [u8]) -> u8
 #[no_mangle]
 pub extern "C" fn tone_record_copy(record: &[u8], out: &mut [u8], written: &mut usize) -> u8
     ensures { λ r. ⌜
-        ToneRecordCopy (now («record» .entry)) (now (out .entry)) (now (written .entry)) r
+        ToneRecordCopyCall (now («record» .entry)) (now (out .entry)) (now (written .entry)) r
         (now (out .exit)) (now (written .exit))
         ⌝ }
 {

@@ -28,7 +28,7 @@ use Rattle.writing.specs.declared.Draft.{Draft}
 use Rattle.writing.specs.declared.Written.{Written}
 use Rattle.writing.specs.Encode.{pairBytes, fieldBytes, masterField, oneIf, bitsUnder, there, encode, Write, writeChecks, writeRecord}
 use Rattle.writing.specs.Cases.{written, write-done}
-use Rattle.writing.specs.Contracts.{bytesMade, Room, Appended, Holds, Held, Wrote}
+use Rattle.writing.specs.Contracts.{bytesMade, Room, Appended, Holds, Held, WriteRecordCall}
 use Rattle.records.specs.Format.{longest}
 
 -- ---- bytes behind a draft
@@ -134,11 +134,11 @@ passed a e q t = sym e ∙ told-done a q t
 module _ (s : Curves) (buffer : List ℕ) where
   -- from what the definition comes to
   wrote-as : (w : Write) (r : Written) (after : List ℕ) → writeRecord s buffer ≡ w
-      → r .answer ≡ w .answer → r .length ≡ w .length → after ≡ w .buffer → (r .answer ≡ Done → Held s) → Wrote s buffer r after
+      → r .answer ≡ w .answer → r .length ≡ w .length → after ≡ w .buffer → (r .answer ≡ Done → Held s) → WriteRecordCall s buffer r after
   wrote-as w r after e a l b h = record { answer = rw e a; length = rw e l; buffer = rw e b; held = h }
 
   pub wrote-refused : (a : Answer) → a ≡ firstRefusal (writeChecks s (ListN.length buffer)) → isDone a ≡ false
-      → Wrote s buffer (record { answer = a; length = 0 }) buffer
+      → WriteRecordCall s buffer (record { answer = a; length = 0 }) buffer
   wrote-refused a e t = wrote-as _ _ _ (written s buffer e ∙ rw t) refl refl refl (λ done. absurd (false≢true (sym t ∙ ap isDone done)))
 
   -- the check of the lists refused
@@ -153,6 +153,6 @@ module _ (s : Curves) (buffer : List ℕ) where
     room-asked e = first-goes-on (setChecks curveChecks s) (roomCheck (ListN.length (encode (viewOf s))) (ListN.length buffer) ∷ []) passed (rw (h .length) at e)
 
     pub wrote-done : {a : Answer} {after : List ℕ} → a ≡ Done → d .length ≤ ListN.length buffer → after ≡ bytesMade d ++ drop (d .length) buffer → Held s
-        → Wrote s buffer (record { answer = a; length = d .length }) after
+        → WriteRecordCall s buffer (record { answer = a; length = d .length }) after
     wrote-done is room e held =
         wrote-as _ _ _ (write-done s buffer passed (omega arith)) is (h .length) (e ∙ rw (h .bytes, h .length)) (λ done. held)

@@ -38,7 +38,7 @@ pub record Held (set : Curves) : Type 0 where
   pub kind : LegalKind (set .interpolation)
 
 -- what the writer answers for a set and a buffer that held `before` and holds `after`. Theorems on runs use `held`.
-pub record Wrote (set : Curves) (before : List ℕ) (r : Written) (after : List ℕ) : Type 0 where
+pub record WriteRecordCall (set : Curves) (before : List ℕ) (r : Written) (after : List ℕ) : Type 0 where
   pub answer : r .answer ≡ writeRecord set before .answer
   pub length : r .length ≡ writeRecord set before .length
   pub buffer : after ≡ writeRecord set before .buffer

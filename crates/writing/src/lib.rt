@@ -11,7 +11,7 @@ ghost use Rattle.sets.specs.Sets.{viewOf, channelOf, curveAnswer, channelAnswer
 ghost use Rattle.tables.specs.Kinds.{LegalKind};
 ghost use Rattle.points.specs.Points.{limit};
 ghost use Rattle.writing.specs.Encode.{pairBytes, fieldBytes, masterField, namesKind, kindBytes, unsigned16, slopeBytes, carriedBytes, mapOf, encode};
-ghost use Rattle.writing.specs.Contracts.{bytesMade, Room, Appended, Holds, Wrote};
+ghost use Rattle.writing.specs.Contracts.{bytesMade, Room, Appended, Holds, WriteRecordCall};
 ghost use Rattle.records.specs.Format.{longest};
 use answers::Answer;
 use answers::room_for;
@@ -211,7 +211,7 @@ fn copy_out(draft: Draft, buffer: &mut [u8])
 
 // Writes the record of a set. A refusal leaves the buffer as it was, and no byte past the length is changed.
 pub fn write_record(set: Curves, buffer: &mut [u8]) -> Written
-    ensures { λ r. ⌜ Wrote set (now (buffer .entry)) r (now (buffer .exit)) ⌝ }
+    ensures { λ r. ⌜ WriteRecordCall set (now (buffer .entry)) r (now (buffer .exit)) ⌝ }
 {
     let checked = set.check();
     if !checked.is_done() {

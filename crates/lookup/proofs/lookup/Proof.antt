@@ -22,7 +22,7 @@ returns : tie.Need-returns Inv-loop μ-loop
 unfolding lookedUp
 returns c =
     let other = ne-eqb (length (c .before .before .before .args .table .now)) 4096 (λ e. omega arith) in
-    record { answer-is = rw other; replaced = rw other }
+    record { answer = rw other; values = rw other }
 
 loop-holds : tie.Need-loop-holds Inv-loop μ-loop
 loop-holds c = (search needs, stored-none)
@@ -38,7 +38,7 @@ returns-2 : tie.Need-returns-2 Inv-loop μ-loop
 unfolding lookedUp
 returns-2 c =
     let full = eq-eqb (length (c .before .before .before .before .before .args .table .now)) 4096 (omega arith) in
-    record { answer-is = rw full; replaced = rw full (stored-all (c .before .loop .inv .1) refl (omega arith)) }
+    record { answer = rw full; values = rw full (stored-all (c .before .loop .inv .1) refl (omega arith)) }
 
 pub lookup-spec : {M : Type 1} → statement M
 lookup-spec =

@@ -43,7 +43,7 @@ use denote.Triple.Table.{entered, cited}
 use denote.Triple.Walked.{says, Stays, stay-none, walkOf, goes-none, Walks, ends-at, walked, walk-meets}
 use denote.Exit.{yes}
 use denote.Triple.Clauses.{ensured, lasts}
-use Rattle.pictures.specs.OneTable.{LutCall}
+use Rattle.pictures.specs.OneTable.{OneTableCall}
 use Rattle.planes.specs.declared.PlaneMut.{PlaneMut}
 use Rattle.planes.proofs.PlaneMut as PlaneMut
 use Rattle.planes.proofs.PlaneMut.Laws as PlaneMut′
@@ -133,7 +133,7 @@ module _ {M : Type 1} (𝓤 : URA M) (H : Heap 𝓤) (A : Atoms 𝓤) (W : Given
 
   -- what the callee ensures, and the function too
   abbrev Claim : Answer → List ℕ → Type 0
-  Claim = LutCall format width height (plane .step) table (now (plane .bytes))
+  Claim = OneTableCall format width height (plane .step) table (now (plane .bytes))
 
   -- what is had: at entry, for the exit, after the call, and at exit
   abbrev Tokens : Item 𝓤

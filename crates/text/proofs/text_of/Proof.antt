@@ -30,7 +30,7 @@ use Rattle.tables.specs.TableLaws.{table-of-few}
 use Rattle.sets.specs.Legal.{passed-set, passed-count}
 use Rattle.records.specs.declared.RecordRead.{RecordRead}
 use Rattle.records.specs.Format.{readRecord}
-use Rattle.records.specs.Views.{HandedBack}
+use Rattle.records.specs.Views.{ReadRecordCall}
 use Rattle.text.specs.Text.{tableText, refusalText, printed}
 use Rattle.text.proofs.text_of.Statement.{statement}
 use Rattle.text.proofs.text_of.Tie as tie
@@ -54,7 +54,7 @@ two-digits OutputTooSmall = lit< tt
 two-digits TableLength = lit< tt
 
 -- the text of what is handed back
-module _ (s : List ℕ) (r : RecordRead) (h : HandedBack (readRecord s) r) where
+module _ (s : List ℕ) (r : RecordRead) (h : ReadRecordCall s r) where
   read-text : isDone (r .answer) ≡ true → tableText (byteTable (r .set .interpolation) (listOf (r .set .master))) ≡ printed s
   unfolding printed
   read-text e = rw (← h .answer, e, ← h .set)

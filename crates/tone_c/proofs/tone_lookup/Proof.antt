@@ -8,7 +8,7 @@ use Rattle.tone_c.proofs.tone_lookup.Tie as tie
 returns : tie.Need-returns
 returns c =
     let call = c .before .before .before .lookup .ensures in
-    record { number = c .number .ensures ∙ ap numberOf (call .answer-is); values = call .replaced }
+    record { number = c .number .ensures ∙ ap numberOf (call .answer); values = call .values }
 
 pub tone-lookup-spec : {M : Type 1} → statement M
 tone-lookup-spec = tie.close (tie.spec (omega arith) (omega arith) (omega arith) returns)

@@ -15,11 +15,11 @@ use Rattle.records.specs.declared.RecordRead.{RecordRead}
 use Rattle.records.specs.Format.{readRecord}
 use Rattle.records.specs.Checks.{recordChecks}
 use Rattle.records.specs.CheckLaws.{read-answer}
-use Rattle.records.specs.Views.{HandedBack}
+use Rattle.records.specs.Views.{ReadRecordCall}
 use Rattle.pictures.specs.declared.Toned.{Toned}
 use Rattle.pictures.specs.Runs.{Outputs, Run, checksOfPicture, answer, SetCall}
 use Rattle.pictures.specs.RunLaws.{refused-outputs}
-use Rattle.tone_c.specs.Boundary.{formatCheck, PictureAsked, runOf, TonePicture}
+use Rattle.tone_c.specs.Boundary.{formatCheck, PictureAsked, runOf, TonePictureCall}
 use Rattle.tone_c.proofs.tone_picture.Statement.{statement}
 use Rattle.tone_c.proofs.tone_picture.Tie as tie
 
@@ -40,7 +40,7 @@ not-done a e other = by-test (isDone a) (λ t. absurd (other (e ∙ ap numberOf 
 module _ (asked : PictureAsked) {r : ℕ} where
   -- a is the record's refusal or the format's
   refused : {a : Answer} → a ≡ firstRefusal (front (asked .stored) (asked .format)) → isDone a ≡ false → r ≡ numberOf a
-      → TonePicture asked r (asked .lent .outputs)
+      → TonePictureCall asked r (asked .lent .outputs)
   refused {a} is bad e = record {
     number = e ∙ ap numberOf (first-stops (front (asked .stored) (asked .format)) _ is bad);
     unchanged = λ other. refl;
@@ -50,8 +50,8 @@ module _ (asked : PictureAsked) {r : ℕ} where
   -- neither is refused: the set call answers, on the set that the reader handed back
   called : {handed : RecordRead} {t : Toned} {after : Outputs}
       → firstRefusal (front (asked .stored) (asked .format)) ≡ Done
-      → HandedBack (readRecord (asked .stored)) handed → SetCall (runOf asked (handed .set)) t after
-      → r ≡ numberOf (t .answer) → TonePicture asked r after
+      → ReadRecordCall (asked .stored) handed → SetCall (runOf asked (handed .set)) t after
+      → r ≡ numberOf (t .answer) → TonePictureCall asked r after
   called {handed} {t} passed read call e =
       let run = runOf asked (handed .set) in
       record {

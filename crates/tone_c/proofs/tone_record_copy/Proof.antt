@@ -13,7 +13,7 @@ use Rattle.answers.specs.Checks.{firstRefusal, roomCheck, first-stops, first-go
 use Rattle.sets.specs.Sets.{View}
 use Rattle.records.specs.declared.RecordRead.{RecordRead}
 use Rattle.records.specs.Format.{readRecord}
-use Rattle.records.specs.Views.{HandedBack}
+use Rattle.records.specs.Views.{ReadRecordCall}
 use Rattle.records.specs.Checks.{recordChecks}
 use Rattle.records.specs.CheckLaws.{read-answer}
 use Rattle.writing.specs.Encode.{Write, outcome, encode, writeRecord}
@@ -33,7 +33,7 @@ left-by bytes old true e = record { answer-is = rw e; length-is = refl; buffer-i
 left-by bytes old false e = record { answer-is = rw e; length-is = refl; buffer-is = refl }
 
 -- the writer on the set that the reader handed back, said of the record
-left : (stored old : List ℕ) {handed : RecordRead} → HandedBack (readRecord stored) handed → Left (copyOf stored) old (writeRecord (handed .set) old)
+left : (stored old : List ℕ) {handed : RecordRead} → ReadRecordCall stored handed → Left (copyOf stored) old (writeRecord (handed .set) old)
 left stored old {handed} read =
     rw (
       write-passed (handed .set) old (read .legal),
