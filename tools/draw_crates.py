@@ -84,7 +84,8 @@ def list_faults(imports, listed, excused):
 
 
 # ---- the layout: rows of slots from the lowest floor up. A slot is a crate, or an arrow that
-# passes the floor: (from, to, floor). Joins are pairs of slots of neighbouring floors, the upper first
+# passes the floor: (from, to, floor). Joins are pairs of slots of neighbouring floors, the upper
+# first
 def slots_of(imports):
     floors = {name: floor_of(name, imports) for name in imports}
     rows = [[n for n in imports if floors[n] == k + 1] for k in range(max(floors.values()))]

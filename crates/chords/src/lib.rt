@@ -1,4 +1,4 @@
-// The tangents of CentripetalCatmullRom and ChordalCatmullRom at the knots, by the chords between them. n knots stand in the rows xs and ys; what stands
+// The tangents of CentripetalCatmullRom and ChordalCatmullRom at the knots, by the chords between them. n knots are in the rows xs and ys; what is
 // behind them is not read. The tangents go to the front of a lent row.
 ghost use mathlib.Core.Path.{_≡_};
 ghost use Prim.Native.Nat.{_-_, _≤_};

@@ -1,4 +1,4 @@
--- What a computation opens, named in this one place: a theorem that unfolds one of these unfolds all that stands in its list. Each is another name of the
+-- What a computation opens, named in this one place: a theorem that unfolds one of these unfolds all that is in its list. Each is another name of the
 -- definition that it is equal to.
 use Prim.Native.Nat.{ℕ}
 use mathlib.Core.List.{List}

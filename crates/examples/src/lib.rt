@@ -1,1 +1,1 @@
-// The marked examples stand in specs/: no code.
+// The marked examples are in specs/: no code.

@@ -1,5 +1,5 @@
 -- The sum of four products by which a cubic piece is computed, at an end of the piece: one of the four weights is 1 and the others are zeros.
--- The height that the 1 stands by is the value of the sum, whatever the signs of the zeros, as long as all else is finite.
+-- The height beside the 1 is the value of the sum, whatever the signs of the zeros, as long as all else is finite.
 use Prim.Native.Nat.{ℕ, _<_}
 use lib.Dec.{T, lit<}
 use lib.Ieee.{Float, binary32, unlike, fits}

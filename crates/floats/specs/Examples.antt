@@ -1,5 +1,5 @@
 -- Rounding where a slip would show, computed: half-way cases, values below a half, and the signs of
--- zeros. Each word is held from both sides: the float that is the nearest, and one that is not.
+-- zeros. Each word is pinned from both sides: the float that is the nearest, and one that is not.
 use mathlib.Core.Path.{_≡_, refl}
 use Prim.Native.Nat.{ℕ, _^_, _≤_}
 use native.Mathlib.Omega.{arith}

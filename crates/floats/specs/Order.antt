@@ -66,7 +66,7 @@ le-trans (fin s m e) y (fin u o c) h k =
     le-of x z tt tt
     (le-through (top x) (bot x) (den x) (top y) (bot y) (den y) (top z) (bot z) (den z) (den-pos y) (of-le x y tt f h) (of-le y z f tt k))
 
--- ---- floats of one value stand in the same order
+-- ---- floats of one value are in the same order
 pub above-equal : (x y z : Float) (p n c : ℕ) → 0 < c → Is x p n c → Is y p n c → T (le y z) → T (le x z)
 above-equal x y z p n c C i j l = le-trans x y z (le-of-is x y p n c p n c C C i j (le-refl _)) l
 

@@ -19,7 +19,7 @@ use Rattle.floats.specs.Frac.{frac}
 use Rattle.floats.specs.Approx.{Approx, rounds-by}
 use Rattle.floats.specs.Line.{part}
 
--- v stands k / h of the way from x0 to x1: the differences that `part` divides are k / c and h / c, exactly
+-- v is k / h of the way from x0 to x1: the differences that `part` divides are k / c and h / c, exactly
 pub record Position (x0 x1 v : Float) (k h : ℕ) : Type 0 where
   pub fin : T (finite v)
   pub c : ℕ

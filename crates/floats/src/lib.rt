@@ -1,1 +1,1 @@
-// The laws of single precision stand in specs/: no code.
+// The laws of single precision are in specs/: no code.

@@ -52,7 +52,7 @@ pub bytes-a-pixel : (others bytesAPixel ≡ 1 ∷ 2 ∷ 3 ∷ 4 ∷ 4 ∷ 4 ∷ 
 bytes-a-pixel = (refl, refl)
 
 -- "alpha of Ya8 and Rgba, chroma and padding unchanged; Cmyk tones all four inks": alpha is the
--- channel after grey, 1, or after the colours, 3; elsewhere the number of channels stands for none
+-- channel after grey, 1, or after the colours, 3; elsewhere the number of channels means none
 pub alpha-kept : (others alphaOf ≡ 1 ∷ 1 ∷ 3 ∷ 3 ∷ 4 ∷ 4 ∷ []) × (yuv alphaOf ≡ replicate 6 1)
 alpha-kept = (refl, refl)
 

@@ -44,7 +44,7 @@ module _ {ℓ} {A : Type ℓ} where
       ext-getD d m (each f l) (e ∙ sym (length-each f l))
       (λ k lt. let lt-l : k < length l = omega arith in h k lt-l ∙ sym (getD-each f l k d lt-l))
 
-  -- functions that agree at each place on what stands there
+  -- functions that agree at each place on what is there
   pub each-same : (d : A) (f g : ℕ → A → A) (l : List A)
       → ((k : ℕ) → k < length l → f k (getD l k d) ≡ g k (getD l k d)) → each f l ≡ each g l
   each-same d f g l h = is-each d g l (length-each f l) (λ k lt. getD-each f l k d lt ∙ h k lt)

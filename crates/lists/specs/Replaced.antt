@@ -9,11 +9,11 @@ use Rattle.lists.specs.Each.{each}
 use Rattle.lists.specs.Stored.{Stored, stored-none, stored-next, stored-then, stored-as, stored-end, stored-here, stored-above, stored-kept, stored-each}
 
 module _ {ℓ} {A : Type ℓ} where
-  -- f of the place w and of what stands in l there
+  -- f of the place w and of what is in l there
   unfoldable pub replacing : A → (ℕ → A → A) → List A → ℕ → A
   replacing d f l w = f w (getD l w d)
 
-  -- a record, so that a law finds its implicit arguments; `same-length` stands here for `omega`
+  -- a record, so that a law finds its implicit arguments; `same-length` is here for `omega`
   pub record Replaced (d : A) (f : ℕ → A → A) (a b : ℕ) (l m : List A) : Type ℓ where
     pub same-length : length m ≡ length l
     pub is-stored : Stored (replacing d f l) a b l m
@@ -24,7 +24,7 @@ module _ {ℓ} {A : Type ℓ} where
   pub replaced-none : {d : A} {f : ℕ → A → A} {a : ℕ} {l : List A} → Replaced d f a a l l
   replaced-none = replaced stored-none
 
-  -- a store of what f makes of the element that stands there
+  -- a store of what f makes of the element that is there
   pub replaced-next : {d x : A} {f : ℕ → A → A} {a b : ℕ} {l m : List A} → Replaced d f a b l m → x ≡ f b (getD m b d)
       → Replaced d f a (b + 1) l (set m b x)
   unfolding replacing

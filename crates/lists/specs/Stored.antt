@@ -1,5 +1,5 @@
 -- What a loop leaves that stores f w at each place w from a up to b: the function `store`, and the fact `Stored`, which is the loop's invariant.
--- Before the loop it is `stored-none`, a turn is `stored-next` (from the back `stored-before`), and the last three laws say what stands in the end.
+-- Before the loop it is `stored-none`, a turn is `stored-next` (from the back `stored-before`), and the last three laws say what is there in the end.
 -- Wherever an element is read, d is what `getD` answers past the end.
 use mathlib.Core.Path.{_≡_, refl, sym, ap, _∙_}
 use mathlib.Core.List.{List}
@@ -71,7 +71,7 @@ module _ {ℓ} {A : Type ℓ} where
       rw (store-kept d f a n l (λ w low high. h w low (omega arith)), h (a + n) (omega arith) (omega arith)) (set-getD l (a + n) d)
 
   -- m is l with f w at each place w from a up to b. A record, so that a law finds its implicit arguments. `same-length` follows from `is`;
-  -- it stands here, as `order` does, because `omega` reads a record's fields.
+  -- it is here, as `order` is, because `omega` reads a record's fields.
   pub record Stored (f : ℕ → A) (a b : ℕ) (l m : List A) : Type ℓ where
     pub order : a ≤ b
     pub same-length : length m ≡ length l
@@ -120,7 +120,7 @@ module _ {ℓ} {A : Type ℓ} where
   stored-end r e = rw (← e) r
 
   module _ {f : ℕ → A} {a b : ℕ} {l m : List A} (r : Stored f a b l m) where
-    -- what stands in the span, below it, and from its end on
+    -- what is in the span, below it, and from its end on
     pub stored-inside : (w : ℕ) (d : A) → a ≤ w → w < b → w < length l → getD m w d ≡ f w
     stored-inside w d low high lt = rw (r .is) (store-inside f a (b - a) l w d low (omega arith) lt)
 
@@ -134,7 +134,7 @@ module _ {ℓ} {A : Type ℓ} where
     pub stored-here : (d : A) → getD m b d ≡ getD l b d
     stored-here d = stored-above b d (le-refl b)
 
-    -- places past the end whose rule is what stands there count as stored: kept bytes, padding
+    -- places past the end whose rule is what is there count as stored: kept bytes, padding
     pub stored-kept : {c : ℕ} (d : A) → b ≤ c → ((w : ℕ) → b ≤ w → w < c → f w ≡ getD l w d) → Stored f a c l m
     stored-kept {c} d h same =
         stored-then r

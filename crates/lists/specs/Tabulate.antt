@@ -47,7 +47,7 @@ module _ {ℓ} {A : Type ℓ} where
   pub tabulate-same : (n : ℕ) {f g : ℕ → A} → ((k : ℕ) → k < n → f k ≡ g k) → tabulate n f ≡ tabulate n g
   tabulate-same n {f} h = is-tabulate (f 0) (length-tabulate n f) (λ k lt. getD-tabulate n f k (f 0) lt ∙ h k lt)
 
-  -- rules with equal tables agree below n: a table that antt computes whole, by `refl`, tells what stands at each place
+  -- rules with equal tables agree below n: a table that antt computes whole, by `refl`, says what is at each place
   pub tabulate-agree : {n : ℕ} (f g : ℕ → A) → tabulate n f ≡ tabulate n g → (k : ℕ) → k < n → f k ≡ g k
   tabulate-agree {n} f g e k h =
       sym (getD-tabulate n f k (f k) h) ∙ ap (λ (l : List A). getD l k (f k)) e ∙ getD-tabulate n g k (f k) h

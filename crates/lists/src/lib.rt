@@ -1,1 +1,1 @@
-// Definitions and laws on lists stand in specs/: no code.
+// Definitions and laws on lists are in specs/: no code.

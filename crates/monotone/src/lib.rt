@@ -1,6 +1,6 @@
 // The tangents of MonotoneCubic and MonotoneCubicBox at the knots (Fritsch and Carlson 1980). In
 // their letters: Δ is the secant of a segment, alpha and beta are the tangents at its ends over Δ,
-// and tau is 3 / √(alpha² + beta²). n knots stand in the rows xs and ys; what stands behind them is
+// and tau is 3 / √(alpha² + beta²). n knots are in the rows xs and ys; what is behind them is
 // not read. The tangents go to the front of a lent row.
 ghost use mathlib.Core.Path.{_≡_};
 ghost use Prim.Native.Nat.{_-_, _≤_, _<_};

@@ -318,7 +318,7 @@ pub refused-by-set : (others (λ f. written (picture 2 2 1 f)) ≡ replicate 6 u
 unfolding answered first chroma
 refused-by-set = (refl, refl)
 
--- ---- "These must not pass": none of these can stand beside the contract of a call
+-- ---- "These must not pass": none of these agrees with the contract of a call
 -- "a picture call that tones its first row and copies the rest": byte 0 of the second row is copied
 pub first-row-within : (a : Answer) → OneTableCall Gray8 2 2 9 more plane a (firstRow 11 12) → ⊥
 unfolding lutAnswered each tabulate planeByte inRow rowByte toned

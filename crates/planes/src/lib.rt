@@ -1,6 +1,6 @@
 // Planes: "A plane is its bytes together with its row step". It gives its rows, and the picture calls take it. Whatever the bytes and the step,
-// every open function answers. A function over a plane takes it apart and leaves the work to one on slices and numbers; its proof is a walk
-// by hand, which tools/walk_planes.py writes.
+// every open function answers. A function over a plane takes it apart and leaves the work to one on slices and numbers; its proof is
+// written by tools/walk_planes.py.
 ghost use mathlib.Core.Path.{_≡_};
 ghost use Prim.Native.Nat.{_+_, _*_, _≤_, min};
 ghost use Rattle.pictures.specs.OneTable.{OneTableCall};

@@ -33,7 +33,7 @@ pub count-at-edges :
     (firstRefusal (countCheck 64 ∷ []) ≡ Done) × (firstRefusal (countCheck 65 ∷ []) ≡ PointCount)
 count-at-edges = (refl, refl)
 
--- a list that stands at 0 and at 255 has no further knots, one that stands next to them has two
+-- a list with points at 0 and at 255 has no further knots, one with points next to them has two
 pub knots-at-edges :
     (knots (pt 0 7 ∷ pt 255 9 ∷ []) ≡ pt 0 7 ∷ pt 255 9 ∷ [])
     × (knots (pt 1 0 ∷ pt 254 255 ∷ []) ≡ pt 0 0 ∷ pt 1 0 ∷ pt 254 255 ∷ pt 255 255 ∷ [])

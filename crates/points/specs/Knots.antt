@@ -17,12 +17,12 @@ use Rattle.points.specs.declared.Knots.{Knots}
 use Rattle.points.specs.Points.{pt, nth, kept}
 
 -- ---- the knots
--- what stands behind p, followed by the points of l: these, and if the last does not stand at 255, one at 255 with the last y
+-- what is behind p, followed by the points of l: these, and if the last is not at 255, one at 255 with the last y
 unfoldable pub rest : Point → List Point → List Point
 rest p [] = cond (eqb (p .x) 255) [] (pt 255 (p .y) ∷ [])
 rest p (q ∷ l) = q ∷ rest q l
 
--- "Knots": in front, if none stands at 0, one at 0 with the first y; an empty list gives (0,0),(255,0)
+-- "Knots": in front, if none is at 0, one at 0 with the first y; an empty list gives (0,0),(255,0)
 unfoldable pub knots : List Point → List Point
 unfolding rest
 knots [] = pt 0 0 ∷ pt 255 0 ∷ []
@@ -55,7 +55,7 @@ unfoldable pub yRow : List Point → List Float
 unfolding yAt filled
 yRow ks = filled (length ks) (yAt ks) (replicate 66 𝟎)
 
--- what stands at place i of a row
+-- what is at place i of a row
 abbrev pub at : List Float → ℕ → Float
 at row i = getD row i nan
 

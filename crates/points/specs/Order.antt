@@ -37,7 +37,7 @@ Rising l = Nexts Before l
 abbrev pub NeverFalls : List Point → Type 0
 NeverFalls l = Nexts NoLower l
 
--- a list that may stand for kept points: of bytes, and rising
+-- a list that may be one of kept points: of bytes, and rising
 pub record IsKept (l : List Point) : Type 0 where
   pub bytes : All Bytes l
   pub rising : Rising l

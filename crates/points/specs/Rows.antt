@@ -1,4 +1,4 @@
--- The rows of floats that hold knots: what stands at each place below the count, and which number that is.
+-- The rows of floats that hold knots: what is at each place below the count, and which number that is.
 use mathlib.Core.Path.{_≡_}
 use mathlib.Core.List.{List}
 use Prim.Native.Nat.{ℕ, _*_, _<_}

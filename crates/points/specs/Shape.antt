@@ -14,8 +14,8 @@ use Rattle.points.specs.Points.{pt}
 use Rattle.points.specs.Knots.{rest, knots, xOf}
 use Rattle.points.specs.Order.{All, Nexts, Before, NoLower, Bytes, Rising, NeverFalls, IsKept}
 
--- ---- p and what stands behind it
--- what holds both of none and of one at 255 holds of what stands behind the last point
+-- ---- p and what is behind it
+-- what holds both of none and of one at 255 holds of what is behind the last point
 by-end : (P : List Point → Type 0) (p : Point) → (p .x ≡ 255 → P []) → ((p .x ≡ 255 → ⊥) → P (pt 255 (p .y) ∷ [])) → P (rest p [])
 unfolding rest
 by-end P p without with-one = elim (ℕ-discrete (p .x) 255) [

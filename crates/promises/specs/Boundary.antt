@@ -1,6 +1,6 @@
 -- The three demands at the C boundary, whose calls answer with the number itself: that of the first
 -- of the call's checks that fails, 0 where none does. Where it is a refusal, what was lent is as it
--- was; with 0 the call gives what its definition says. These two stand here; the third, of two
+-- was; with 0 the call gives what its definition says. These two are here; the third, of two
 -- calls of `tone_picture`, is BoundaryDemand3.
 use Prim.Native.Nat.{ℕ}
 use native.Mathlib.Omega.{arith}

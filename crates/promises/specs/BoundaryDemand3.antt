@@ -81,7 +81,7 @@ IsLinear c = setIn c .kind ≡ Linear
 abbrev pub NoListFalls : AcceptedCall → Type 0
 NoListFalls c = EveryList NeverFalls (setIn c)
 
--- ---- what the run owes in the call's words
+-- ---- the run's clauses in the call's words
 module _ (c : AcceptedCall) where
   not-refused : Run.Accepted (run c)
   not-refused = tone-picture-run c .accepted

@@ -386,7 +386,7 @@ rows-alone-wants-cr claim =
     omega (arith, ap (λ (l : List ℕ). getD l 0 0) alike)
 
 -- it speaks of runs whose padding and row steps differ: rows 5 and 6, one after the other, and with
--- two bytes of padding between; and of a format without chroma, whatever stands in its place
+-- two bytes of padding between; and of a format without chroma, whatever is in its place
 abbrev unpadded : Strip
 unpadded = record { by = straightLine; format = Gray8; height = 2; plane = 5 ∷ 6 ∷ []; step = 1; chroma = [] }
 

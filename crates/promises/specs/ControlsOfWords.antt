@@ -1,4 +1,4 @@
--- The words of the three demands, held from both sides: at its edge each has a computed case that
+-- The words of the three demands, pinned from both sides: at its edge each has a computed case that
 -- it covers and one that it does not. So a word that is made to say less, or to ask for more, is
 -- refused here, whatever becomes of the proofs that meet it.
 use Prim.Native.Nat.{ℕ, zero, suc, _+_, _*_, _≤_, _<_}
@@ -143,7 +143,7 @@ abbrev counting : ℕ → ℕ → List ℕ
 counting v zero = []
 counting v (suc n) = v ∷ counting (suc v) n
 
--- not exact: a copy, told by the last pixel's red; toned alpha, by the last row's first; changed
+-- not exact: a copy, seen by the last pixel's red; toned alpha, by the last row's first; changed
 -- padding, between the last two rows; a byte too many
 pub no-exact-planes :
     (ExactPlane Rgb24 3 2 10 (counting 100 19) (counting 0 19) (counting 0 19) → ⊥)

@@ -1,5 +1,5 @@
 -- The second demand. "Everywhere else tables and pictures equal the Rust's, bit for bit": that is a matter of running both, and docs/DIFFERENCES.md has what
--- was compared. What is proved stands here: each call that answers 0 gives what its definition says, the definitions are those of the published
+-- was compared. What is proved is here: each call that answers 0 gives what its definition says, the definitions are those of the published
 -- curves, and records survive writing then reading. What a call gives with another number is the first demand's.
 use Prim.Native.Nat.{ℕ, _≤_, _<_}
 use mathlib.Core.Path.{_≡_}

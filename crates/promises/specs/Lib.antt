@@ -1,12 +1,12 @@
--- What is promised, a page for each demand of the mission, in full; the proofs stand apart and are
+-- What is promised, a page for each demand of the mission, in full; the proofs are apart and
 -- cited.
 -- Demand1: every call on anything at all answers with the first refusal, and a refusal changes
 -- nothing. Checks has its words.
 -- Demand2: each call gives what its definition says, the curves are the published ones, and records
 -- survive writing then reading. Results has its words.
--- Demand3: what two runs of the set call owe. Words has its words.
+-- Demand3: what holds of two runs of the set call. Words has its words.
 -- Boundary: the first two demands of the calls of the C boundary; BoundaryDemand3: the third.
--- ControlsOfWords, Determined: the words held from both sides, by computed cases at their edges and
+-- ControlsOfWords, Determined: the words pinned from both sides, by computed cases at their edges and
 -- by what they determine.
 -- Controls, ControlsOfRuns: that the premises of the third demand are needed, by computed runs made
 -- in Pixels; the first on kinds, lists, rows and chroma, the other on what runs share and refusals.

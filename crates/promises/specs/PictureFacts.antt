@@ -1,4 +1,4 @@
--- What stands at each place of the outputs of a run that is not refused, and the clauses of the third demand that follow.
+-- What is at each place of the outputs of a run that is not refused, and the clauses of the third demand that follow.
 use Prim.Native.Nat.{ℕ, _+_, _-_, _*_, _/_, _%_, _≤_, _<_}
 use native.Mathlib.Nat.{mod-lt, div-lt-iff-lt-mul, eq-zero-or-pos, mul-zero, div-add-mod'}
 use native.Mathlib.Decide.{ℕ-discrete, decLt}
@@ -157,7 +157,7 @@ module _ (c : Call) (ok : Accepted c) where
   unfolding first
   out-filled = c .contract .first ∙ rw not-refused
 
-  -- what stands at a place
+  -- what is at a place
   at-place : (p : Place) → Within (c .given) p
       → output c p
       ≡ toned (alphaOf (c .given .job .format)) (tablesIn (c .given)) (p .channel) (input c p)

@@ -1,1 +1,1 @@
-// What is promised of the engine stands in specs/: no code.
+// What is promised of the engine is in specs/: no code.

@@ -1,1 +1,1 @@
-// What records owe stands in specs/: no code.
+// Theorems about records are in specs/: no code.

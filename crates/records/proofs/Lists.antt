@@ -51,7 +51,7 @@ pub pairs-done : (s : List ℕ) (n i at : ℕ) (ps all : List Point) → i ≡ n
 unfolding pairs
 pairs-done s n i at ps all e inv = let none : n - n ≡ 0 = omega arith in sym (append-nil (take n ps)) ∙ (rw (e, none) at inv)
 
--- ---- what a reading stands for that hands back a refusal of its checks
+-- ---- what a reading means that hands back a refusal of its checks
 pub parsed-refused : {A : Type 0} {r a : Answer} (v : A) (s : List ℕ) (next : ℕ) → r ≡ a → isDone a ≡ false
     → parsed r v s next ≡ refused a
 parsed-refused v s next e not-done = rw (e, not-done)

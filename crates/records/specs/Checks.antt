@@ -28,7 +28,7 @@ fieldChecks stands least s = cond stands (storedListChecks least s) []
 abbrev pub afterField : Bool → List ℕ → List ℕ
 afterField stands s = cond stands (drop (getD s 0 0 * pointBytes) (drop 1 s)) s
 
--- the kind's number, where its bit stands its byte, and what follows that byte
+-- the kind's number, where its bit is set its byte, and what follows that byte
 abbrev pub kindIs : Bool → List ℕ → ℕ
 kindIs stands s = cond stands (getD s 0 0) (kindNumber default)
 
@@ -52,7 +52,7 @@ kindChecks stands m s =
 abbrev pub afterKind : Bool → List ℕ → List ℕ
 afterKind stands s = drop (carriedLength (kindIs stands s)) (afterByte stands s)
 
--- "Inside a record 2 to 5 run field by field": master, red, green, blue and kind, after the map m, each where its bit stands, which is named by its weight;
+-- "Inside a record 2 to 5 run field by field": master, red, green, blue and kind, after the map m, each present where its bit is set; `bit 4 m` is the bit of weight 4;
 -- then 7
 abbrev pub mapChecks : ℕ → List ℕ → List Check
 mapChecks m master =

@@ -92,7 +92,7 @@ pub unknown-kind : readRecord (0x30 ∷ 10 ∷ []) ≡ result (refused UnknownKi
 unfolding readRecord readFields readKind readNumber
 unknown-kind = refl
 
--- 6 comes before missing slopes: bit 6 stands with Cardinal
+-- 6 comes before missing slopes: bit 6 is set with Cardinal
 pub bits-disagree : readRecord (0x50 ∷ 7 ∷ []) ≡ result (refused FieldMismatch)
 unfolding readRecord readFields readKind readNumber
 bits-disagree = refl

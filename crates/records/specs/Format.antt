@@ -45,7 +45,7 @@ checked [] p = p
 checked (c ∷ cs) p = cond (refuses c) (refused (c .answer)) (checked cs p)
 
 -- ---- the bit map
--- the bit of this weight stands in the map
+-- the bit of this weight is set in the map
 abbrev pub bit : ℕ → ℕ → Bool
 bit w m = eqb (m / w % 2) 1
 

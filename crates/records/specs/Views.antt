@@ -1,4 +1,4 @@
--- How the structs of the code stand for what `Format` speaks of. s is the whole input.
+-- What the structs of the code mean in the words of `Format`. s is the whole input.
 use Prim.Native.Nat.{ℕ}
 use mathlib.Core.Path.{_≡_}
 use mathlib.Core.List.{List}

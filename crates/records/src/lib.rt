@@ -88,7 +88,7 @@ pub struct RecordRead {
     pub set: Curves,
 }
 
-// Whether the bit of this weight stands.
+// Whether the bit of this weight is set.
 fn has_bit(map: u8, weight: u8) -> bool
     requires { ⌜ 0 < weight ⌝ }
     ensures { λ r. ⌜ r ≡ bit weight map ⌝ }
@@ -190,7 +190,7 @@ fn read_curve(s: &[u8], at: usize, least: usize) -> CurveRead
     }
 }
 
-// A list whose field is there only where its bit stands.
+// A list whose field is there only where its bit is set.
 fn read_field(s: &[u8], at: usize, present: bool, least: usize) -> CurveRead
     ensures { λ r. ⌜ ListRead (now (s .entry)) (readField present least (drop at (now (s .entry)))) r ⌝ }
 {

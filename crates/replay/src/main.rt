@@ -5,7 +5,7 @@ use points::Curve;
 use points::Point;
 use tables::CurveInterpolation;
 
-// What a hexadecimal digit in lower case stands for.
+// What a hexadecimal digit in lower case means.
 fn digit(c: u8) -> u8
     ensures { λ r. ⌜ r ≤ 15 ⌝ }
 {

@@ -6,7 +6,7 @@ use formats::format_of;
 use pictures::Job;
 use sets::Curves;
 
-// What a hexadecimal digit in lower case stands for.
+// What a hexadecimal digit in lower case means.
 fn digit(c: u8) -> u8
     ensures { λ r. ⌜ r ≤ 15 ⌝ }
 {
@@ -85,7 +85,7 @@ fn table_of(line: &[u8; 727]) -> [u8; 256] {
     lut.table
 }
 
-// The first n bytes of a plane toned by one table where they stand.
+// The first n bytes of a plane toned by one table in place.
 fn tone_front(line: &[u8; 727], plane: &mut [u8], n: usize) {
     if n <= plane.len() {
         pictures::apply_tone_lut(

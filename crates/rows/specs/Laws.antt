@@ -1,4 +1,4 @@
--- What stands at each place of a plane and of tight rows: for any function of a place and a byte, and for tables.
+-- What is at each place of a plane and of tight rows: for any function of a place and a byte, and for tables.
 -- Byte c of row y is at y × step + c in the plane, and at y × row + c in tight rows.
 use mathlib.Core.Path.{_≡_, sym, _∙_}
 use mathlib.Core.Bool.{false, and-false}

@@ -1,6 +1,6 @@
 // Rows of bytes through tables: within a plane, and out of a plane into tight rows. Nothing here knows a format: a row is w pixels of p bytes, of
 // which one channel may be kept. Only proved code calls this: what it requires, its callers have checked.
-// Loops that are to be fast name the place by one counter and what is left by another. LLVM then walks by a pointer alone, and a store that
+// Loops that are to be fast name the place by one counter and what is left by another. LLVM then steps a pointer alone, and a store that
 // needs no index register takes two thirds of the time.
 ghost use mathlib.Core.Path.{_≡_};
 ghost use Prim.Native.Nat.{_+_, _-_, _*_, _%_, _≤_, _<_, min};

@@ -50,7 +50,7 @@ fn same_curve(a: Curve, b: Curve) -> bool
     }
 }
 
-// Two colours; what stands behind an absent mark is ignored.
+// Two colours; what is behind an absent mark is ignored.
 fn same_channel(a: Channel, b: Channel) -> bool
     ensures { λ r. ⌜ Decides (SameChannel a b) r ⌝ }
 {

@@ -1,4 +1,4 @@
--- The pieces of a curve whose knots stand in rows, and its samples, as document 01's section "Kinds and tables" has them. Definitions only.
+-- The pieces of a curve whose knots are in rows, and its samples, as document 01's section "Kinds and tables" has them. Definitions only.
 use Prim.Native.Nat.{ℕ, _+_}
 use mathlib.Core.List.{List}
 use lib.Ieee.{Float}

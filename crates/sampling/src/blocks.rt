@@ -10,7 +10,7 @@ use crate::Piece;
 use crate::piece_at;
 use crate::position;
 
-// Where a walk through the samples stands: at the next sample, v, and a piece, i, that it does not
+// Where the drawing of the samples is: at the next sample, v, and a piece, i, that it does not
 // lie left of.
 pub struct Cursor {
     pub v: usize,

@@ -1,4 +1,4 @@
-// The samples of a curve whose knots stand in rows, in blocks of four. A block lies on one piece, and where the piece ends within it, the next piece's first
+// The samples of a curve whose knots are in rows, in blocks of four. A block lies on one piece, and where the piece ends within it, the next piece's first
 // block goes over what is too much: so a short piece takes one block, and the loop has no branch for the processor to guess wrong. Where each piece ends is
 // found beforehand. Each form has a module with a loop of its own: of one loop over all forms LLVM makes code that takes twice the time.
 ghost use mathlib.Core.Path.{_≡_};

@@ -18,7 +18,7 @@ use Rattle.points.specs.Order.{Bytes, all-at, rising-to}
 use Rattle.points.specs.Shape.{Shape}
 use Rattle.points.specs.Rows.{x-is, y-is, y-at, height-fits}
 
--- The first n places of xs and ys hold knots: knot i stands at the whole number a i and has the height h i / 256. The x rise strictly from 0 to 255.
+-- The first n places of xs and ys hold knots: knot i is at the whole number a i and has the height h i / 256. The x rise strictly from 0 to 255.
 pub record Rows (xs ys : List Float) (n : ℕ) (a h : ℕ → ℕ) : Type 0 where
   pub two : 2 ≤ n
   pub start : a 0 ≡ 0
@@ -68,7 +68,7 @@ module _ {xs ys : List Float} {n : ℕ} {a h : ℕ → ℕ} (r : Rows xs ys n a 
   pub to-last : (x : Float) → T (le x 𝟐𝟓𝟓) → T (le x (at xs (n - 1)))
   to-last x u = below-equal (at xs (n - 1)) 𝟐𝟓𝟓 x 255 0 1 (lit< tt) (rw (r .end) at (r .x-is (n - 1) (omega (arith, r .two)))) 𝟐𝟓𝟓-is u
 
-  -- what stands at a knot's x
+  -- what is at a knot's x
   pub knot-low : (x : Float) (i : ℕ) → Is x (a i) 0 1 → T (le 𝟎 x)
   knot-low x i e = le-of-is 𝟎 x 0 0 1 (a i) 0 1 (lit< tt) (lit< tt) 𝟎-is e (omega arith)
 

@@ -1,4 +1,4 @@
--- Where the samples of a table stand: in order of x, from 0 up to 255; of 256 samples each at its
+-- Where the samples of a table are: in order of x, from 0 up to 255; of 256 samples each at its
 -- own number, and of 4,096 every 273rd at a multiple of 17.
 use mathlib.Core.Path.{_≡_, refl}
 use mathlib.Core.Bool.{false}
@@ -25,14 +25,14 @@ use Rattle.single.specs.RuleLaws.{float-is, float-le}
 use Rattle.segments.specs.Segments.{step, sampleAt}
 use Rattle.segments.specs.SegmentLaws.{InRange, nonnegative-is}
 
--- ---- of 256 samples, sample v stands at v
+-- ---- of 256 samples, sample v is at v
 pub sample-byte : (v : ℕ) → v ≤ 255 → sampleAt (step 256) v ≡ float v
 unfolding sampleAt step
 sample-byte v h =
     times-one binary32 (float v) (𝟐𝟓𝟓 ⊘ float 255) (float-is v (omega arith) .0) (ofInt-fits binary32 (pos v))
     (div-self 𝟐𝟓𝟓 (float 255) 255 1 (lit< tt) (lit< tt) 𝟐𝟓𝟓-is (float-is 255 (lit≤ tt)))
 
--- ---- of 4,096 samples, sample 273 * j stands at 17 * j, from 0 up to 4,095 at 255
+-- ---- of 4,096 samples, sample 273 * j is at 17 * j, from 0 up to 4,095 at 255
 fine-samples : tabulate 16 (λ j. sampleAt (step 4096) (273 * j)) ≡ tabulate 16 (λ j. float (17 * j))
 unfolding tabulate sampleAt step mul div ofInt ofBits
 fine-samples = refl

@@ -100,7 +100,7 @@ module _ {xs ys : List Float} {n : ℕ} {a h : ℕ → ℕ} (r : Rows xs ys n a 
     | no not-earlier ↦ omega arith
   ]
 
-  -- ---- between the knots i and i + 1 it is their segment, or x stands on the knot i
+  -- ---- between the knots i and i + 1 it is their segment, or x is on the knot i
   pub between-holds : (x : Float) (i : ℕ) → i + 1 < n → T (le (at xs i) x) → T (le x (at xs (i + 1))) → Holds xs n x (segment xs n x)
   between-holds x i l low high =
       segment-holds x (le-trans 𝟎 (at xs i) x (knot-low r (at xs i) i (r .x-is i (omega arith))) low)

@@ -1,5 +1,5 @@
 -- The samples of a table and the segments they lie in, as document 01's section "Kinds and tables" has them. Definitions only.
--- n knots stand in the rows xs and ys, as `points` gives them: n is at least 2, and the segment i goes from knot i to knot i + 1.
+-- n knots are in the rows xs and ys, as `points` gives them: n is at least 2, and the segment i goes from knot i to knot i + 1.
 use Prim.Native.Nat.{ℕ, zero, suc, _-_}
 use mathlib.Core.Bool.{cond}
 use mathlib.Core.List.{List}

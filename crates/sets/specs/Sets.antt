@@ -35,7 +35,7 @@ pub record View : Type 0 where
 abbrev pub channelOf : Channel → Option (List Point)
 channelOf c = cond (c .present) (some (listOf (c .curve))) none
 
--- what a stored set holds: what stands past a count or behind an absent mark is not part of it
+-- what a stored set holds: what is past a count or behind an absent mark is not part of it
 abbrev pub viewOf : Curves → View
 viewOf s = record {
   master = listOf (s .master);

@@ -6,13 +6,13 @@ use lib.Dec.{leb}
 use lib.Ieee.{Float, nan, inf, fin, binary32, up, down, size, nearest, units}
 
 -- The largest number whose square is at most n, of those from r below r + 2 ^ d.
--- From the highest digit down, a digit stands where the square stays at most n.
+-- From the highest digit down, a digit is set where the square stays at most n.
 unfoldable pub rootDigits : ℕ → ℕ → ℕ → ℕ
 rootDigits zero r n = r
 rootDigits (suc d) r n = rootDigits d (cond (leb ((r + 2 ^ d) * (r + 2 ^ d)) n) (r + 2 ^ d) r) n
 
 -- The p for which p * 2 ^ k is nearest to the root of n. q is the largest that is not above the root; half-way to the next
--- stands (2 * q + 1) * 2 ^ k / 2, and the square of twice that is compared with 4 * n. At a tie the even one.
+-- is (2 * q + 1) * 2 ^ k / 2, and the square of twice that is compared with 4 * n. At a tie the even one.
 unfoldable pub nearestRoot : ℕ → ℕ → ℕ
 unfolding rootDigits
 nearestRoot n k =

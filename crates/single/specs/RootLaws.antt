@@ -126,7 +126,7 @@ pub root-of-largest : toBits binary32 (rootOf (ofBits binary32 0x7f7f_ffff)) ≡
 unfolding rootOf ofBits toBits
 root-of-largest = refl
 
--- the float just below 1 is its own root; 1 is not, though it stands half of its own, wider, step
+-- the float just below 1 is its own root; 1 is not, though it is half of its own, wider, step
 -- away
 abbrev pub below-one : Float
 below-one = ofBits binary32 0x3f7f_ffff

@@ -1,5 +1,5 @@
 -- Laws of the small rules on one float: a test by the values of its floats, whole numbers as floats, the absolute value, the clamp
--- and the guarded quotient. Laws of the byte and of the whole part stand in ByteLaws.
+-- and the guarded quotient. Laws of the byte and of the whole part are in ByteLaws.
 use mathlib.Core.Path.{_≡_, refl, sym, ap, subst}
 use mathlib.Core.Logic.{_↔_}
 use mathlib.Core.Bool.{Bool, true, false, not}

@@ -81,7 +81,7 @@ rowCount Natural n = n - 2
 rowCount (Clamped s0 s1) n = n
 rowCount NotAKnot n = n - 2
 
--- n knots stand in the rows xs and ys
+-- n knots are in the rows xs and ys
 module _ (xs ys : List Float) (n : ℕ) where
   abbrev segment : ℕ → Segment
   segment i = segmentAt xs ys i

@@ -30,7 +30,7 @@ sweep k p r =
     cond (eqb k 0) (scaled (r .b) (r .c) (r .d))
     (scaled (r .b ⊖ r .a ⊗ p .above) (r .c) (r .d ⊖ r .a ⊗ p .right))
 
--- what stands before the first row
+-- what is before the first row
 abbrev pub none : Swept
 none = record { above = 𝟎; right = 𝟎 }
 
@@ -43,7 +43,7 @@ swept rows (suc k) = sweep k (swept rows k) (rows k)
 unfoldable pub sweptRow : (ℕ → Row) → ℕ → Swept
 sweptRow rows k = swept rows (suc k)
 
--- back substitution over m swept rows s: x at m − j; past the end stands 0
+-- back substitution over m swept rows s: x at m − j; past the end is 0
 unfoldable pub backward : (ℕ → Swept) → ℕ → ℕ → Float
 backward s m zero = 𝟎
 backward s m (suc j) = let p = s (m - suc j) in p .right ⊖ p .above ⊗ backward s m j
@@ -57,7 +57,7 @@ unfoldable pub solution : (ℕ → Row) → ℕ → ℕ → Float
 solution rows m = substituted (sweptRow rows) m
 
 -- ---- in rows of floats
--- the rule of the swept rows whose parts stand in two of them
+-- the rule of the swept rows whose parts are in two of them
 unfoldable pub sweptIn : List Float → List Float → ℕ → Swept
 sweptIn aboves rights k = record { above = at aboves k; right = at rights k }
 

@@ -1,4 +1,4 @@
--- The curve of a given list is that of its kept points, which the laws of `hermite` speak of; and where the samples stand.
+-- The curve of a given list is that of its kept points, which the laws of `segments` speak of; and where the samples are.
 use mathlib.Core.Path.{_≡_, refl}
 use mathlib.Core.List.{List}
 use Prim.Native.Nat.{ℕ, _*_, _<_}
@@ -24,11 +24,11 @@ use Rattle.tables.specs.Tables.{unclampedAt}
 abbrev pub sampleX : ℕ → ℕ → Float
 sampleX S v = sampleAt (step S) v
 
--- of 256 samples, sample v stands at v
+-- of 256 samples, sample v is at v
 pub sample-x-is : (v : ℕ) → v < 256 → Is (sampleX 256 v) v 0 1
 sample-x-is v h = rw (sample-byte v (omega arith)) (float-is v (omega arith))
 
--- of 4,096, sample 273 * j stands at 17 * j
+-- of 4,096, sample 273 * j is at 17 * j
 pub fine-x-is : (j : ℕ) → j < 16 → Is (sampleX 4096 (273 * j)) (17 * j) 0 1
 fine-x-is j h = rw (sample-fine j h) (float-is (17 * j) (omega arith))
 

@@ -1,4 +1,4 @@
--- The facts for the knots of a kept list: they stand in rows, its curve goes through its points, and the straight pieces are in order where the list
+-- The facts for the knots of a kept list: they are in rows, its curve goes through its points, and the straight pieces are in order where the list
 -- never falls.
 use mathlib.Core.Path.{sym, ap}
 use mathlib.Core.List.{List, List·Memᴰ}

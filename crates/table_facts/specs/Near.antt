@@ -73,7 +73,7 @@ module _ (l : List Point) (bytes : All Bytes l) where
   sample-straight : (S v : ℕ) → InRange (sampleX S v) → sampleOf Linear l S v ≡ straightOf (kept l) (sampleX S v)
   sample-straight S v r = sample-unclamped S v r ∙ linear-height l (sampleX S v)
 
-  -- ---- for any S, where the sample stands at p / c
+  -- ---- for any S, where the sample is at p / c
   pub sample-near : (S v : ℕ) → InRange (sampleX S v)
       → (p c n d : ℕ) → Is (sampleX S v) p 0 c → LineAt l p c n d
       → Close 1 16384 (val (sampleOf Linear l S v)) (frac n 0 (256 * d))
@@ -103,7 +103,7 @@ module _ (l : List Point) (bytes : All Bytes l) where
       (mul-pos apart (den-pos x)) (omega (arith, ap (λ (t : ℕ). (b - a) * t) far)) (rw (next, width) at (o .height))
       (straight-close rows x r i inside low high)))
 
-  -- of 256 samples, where sample v stands at v ..
+  -- of 256 samples, where sample v is at v ..
   pub byte-sample-near : (v : ℕ) → v < 256 → (n d : ℕ) → OnLine l v n d
       → Close 1 16384 (val (sampleOf Linear l 256 v)) (frac n 0 d)
   byte-sample-near v h n d o =

@@ -1,5 +1,5 @@
 -- All ten kinds: every tangent and second derivative is finite, and so is every sample of both
--- tables. The seven that are no splines: where a sample stands at a kept point's x, it is the
+-- tables. The seven that are no splines: where a sample is at a kept point's x, it is the
 -- point's y, in the byte table and in the fine one.
 use mathlib.Core.Path.{_≡_, refl, _∙_}
 use mathlib.Core.Logic.{_⊎_, inl, inr}
@@ -196,7 +196,7 @@ module _ (l : List Point) (bytes : All Bytes l) where
     | inr (inr splines) ↦ absurd (h .form (splines .form))
   ]
 
-  -- for any S: a sample that stands at a kept point's x has the point's height, exactly
+  -- for any S: a sample at a kept point's x has the point's height, exactly
   pub sample-through : (k : CurveInterpolation) → NoSpline k → (p : Point) → List·Memᴰ p (kept l) → (S v : ℕ) → Is (sampleX S v) (p .x) 0 1
       → Is (sampleOf k l S v) (256 * p .y) 0 256
   unfolding sampleOf sampled

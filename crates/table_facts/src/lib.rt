@@ -1,1 +1,1 @@
-// What the tables of a given list owe stands in specs/: no code.
+// Theorems about the tables of a given list are in specs/: no code.

@@ -1,5 +1,5 @@
-// The tangents of CatmullRom and Cardinal at the knots. n knots stand in the rows xs and ys; what
-// stands behind them is not read. The tangents go to the front of a lent row.
+// The tangents of CatmullRom and Cardinal at the knots. n knots are in the rows xs and ys; what
+// is behind them is not read. The tangents go to the front of a lent row.
 ghost use mathlib.Core.Path.{_≡_};
 ghost use Prim.Native.Nat.{_≤_, _<_};
 ghost use Rattle.lists.specs.Stored.{Stored};

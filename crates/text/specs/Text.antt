@@ -27,11 +27,11 @@ decimal d = 48 + d
 abbrev pub hexadecimal : ℕ → ℕ
 hexadecimal d = cond (ltb d 10) (decimal d) (55 + d)
 
--- what stands behind entry i: a newline at the end of a line
+-- what is behind entry i: a newline at the end of a line
 abbrev pub behind : ℕ → ℕ
 behind i = cond (eqb (i % 16) 15) newline space
 
--- the three characters of entry i, which is v: two digits and what stands behind them
+-- the three characters of entry i, which is v: two digits and what is behind them
 abbrev pub character : ℕ → ℕ → ℕ → ℕ
 character i v zero = hexadecimal (v / 16)
 character i v (suc zero) = hexadecimal (v % 16)

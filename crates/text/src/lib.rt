@@ -36,7 +36,7 @@ fn low_digit(v: u8) -> u8
     digit(v % 16)
 }
 
-// What stands behind entry i.
+// What is behind entry i.
 fn after(i: usize) -> u8
     ensures { λ r. ⌜ r ≡ behind i ⌝ }
 {

@@ -1,5 +1,5 @@
 -- The calls for a C or Rust caller, as the page of the C boundary has them: what a caller gives as bytes and numbers, for each call its refusals in
--- document 01's order, and what stands in lent memory after it. Definitions only.
+-- document 01's order, and what is in lent memory after it. Definitions only.
 use Prim.Native.Nat.{ℕ, _/_}
 use mathlib.Core.Path.{_≡_}
 use mathlib.Core.Bool.{cond}

@@ -148,7 +148,7 @@ fn names_kind(k: CurveInterpolation) -> bool
     k.number() != default.number()
 }
 
-// The bit of this weight, where it stands.
+// The bit of this weight, where it is set.
 fn mark(stands: bool, weight: u8) -> u8
     ensures { λ r. ⌜ (r ≡ cond stands weight 0) × (r ≤ weight) ⌝ }
 {

@@ -16,7 +16,7 @@ use Rattle.chords.specs.Alpha.{spacing, innerTangent, endTangent, alphaT
 use Rattle.chords.proofs.alpha.Statement.{statement}
 use Rattle.chords.proofs.alpha.Tie as tie
 
--- ---- the definition with its three cases told apart; k tells the centripetal kind
+-- ---- the definition with its three cases apart; k tells the centripetal kind
 module _ (k : Bool) (xs ys : List Float) (n : ℕ) (two : 2 ≤ n) (most : n ≤ 66) {chords ways : List Float}
     (chords-are : Stored (chordAt xs ys) 0 (n - 1) (replicate 66 𝟎) chords) (ways-are : Stored (spacingAt k chords) 0 (n - 1) (replicate 66 𝟎) ways) where
   way : (i j : ℕ) → j ≡ i + 1 → j < n → at ways i ≡ spacing k (knotAt xs ys i) (knotAt xs ys j)

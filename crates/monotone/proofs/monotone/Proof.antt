@@ -25,7 +25,7 @@ record Turn (box : Bool) (xs ys : List Float) (n i : ℕ) (tangents₀ tangents 
   pub stored : Stored (monotoneAt box xs ys n) 0 i tangents₀ tangents
   pub tangent : m ≡ reached box xs ys n i
 
--- ---- what stands in the rows
+-- ---- what is in the rows
 module _ (xs ys : List Float) (n : ℕ) (most : n ≤ 66) {ds : List Float} (ds-is : Stored (secantAt xs ys) 0 (n - 1) (replicate 66 𝟎) ds) where
   secant : (i : ℕ) → i + 1 < n → at ds i ≡ secantAt xs ys i
   secant i h = stored-inside ds-is i nan (omega arith) (omega arith) (omega arith)

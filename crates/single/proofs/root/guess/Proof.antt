@@ -1,4 +1,4 @@
--- `guess` meets its contract, which is its range: every product is held by the most that its factors can be.
+-- `guess` meets its contract, which is its range: every product is bounded by the most that its factors can be.
 use Prim.Native.Nat.{ℕ, _+_, _-_, _*_, _/_, _^_, _≤_}
 use native.Mathlib.Nat.{le-trans, le-of-lt, sub-le, mul-le-mul}
 use native.Mathlib.Omega.{arith}
