@@ -657,7 +657,7 @@ def tone_plane():
     rest = [byte_table("table"), enum("format", "formats", "PixelFormat"), number("width", "u32"), number("height", "u32")]
     return Walk("tone_plane", "The plane is taken apart, and `apply_tone_lut` does the work.", ("Rattle.pictures.proofs.apply_tone_lut", "pictures·apply-tone-lut"), 1,
                 [plane] + rest, [(plane, "bytes"), (plane, "step")] + [(p, None) for p in rest], enum("r", "answers", "Answer"),
-                "LutCall format width height (plane .step) table (now (plane .bytes))", ["Rattle.pictures.specs.OneTable.{LutCall}"])
+                "OneTableCall format width height (plane .step) table (now (plane .bytes))", ["Rattle.pictures.specs.OneTable.{OneTableCall}"])
 
 
 def main(arguments):

@@ -1,5 +1,6 @@
--- The checks of a call in document 01's order, "When a call says no", and the first refusal among them. The answer in a call's contract is the first refusal
--- of the call's list of checks, so that the order is said once.
+-- The checks of a call in document 01's order, "When a call says no", and the first refusal among
+-- them. The answer in a call's contract is the first refusal of the call's list of checks, so
+-- that the order is said once.
 use Prim.Native.Nat.{ℕ, _≤_}
 use mathlib.Core.Path.{_≡_, refl, sym, ap, _∙_}
 use mathlib.Core.Bool.{Bool, true, false, cond, true≢false}
@@ -34,7 +35,8 @@ roomCheck count held = OutputTooSmall when ltb held count
 
 -- ---- one check
 module _ (c : Check) where
-  by-answer : (done : Bool) → isDone (c .answer) ≡ done → cond done false (c .fails) ≡ true → isDone (c .answer) ≡ false
+  by-answer : (done : Bool) → isDone (c .answer) ≡ done → cond done false (c .fails) ≡ true
+      → isDone (c .answer) ≡ false
   by-answer true h e = absurd (true≢false (sym e))
   by-answer false h e = h
 
@@ -43,28 +45,37 @@ module _ (c : Check) where
 
 -- ---- lists behind one another
 module _ (c : Check) (cs ds : List Check) where
-  by-check : (t : Bool) → refuses c ≡ t → firstRefusal (cs ++ ds) ≡ firstOf (firstRefusal cs) (firstRefusal ds)
-      → cond t (c .answer) (firstRefusal (cs ++ ds)) ≡ firstOf (cond t (c .answer) (firstRefusal cs)) (firstRefusal ds)
+  by-check : (t : Bool) → refuses c ≡ t
+      → firstRefusal (cs ++ ds) ≡ firstOf (firstRefusal cs) (firstRefusal ds)
+      → cond t (c .answer) (firstRefusal (cs ++ ds))
+      ≡ firstOf (cond t (c .answer) (firstRefusal cs)) (firstRefusal ds)
   by-check true e rest = rw (refusal c e)
   by-check false e rest = rest
 
-pub first-append : (cs ds : List Check) → firstRefusal (cs ++ ds) ≡ firstOf (firstRefusal cs) (firstRefusal ds)
+pub first-append : (cs ds : List Check)
+    → firstRefusal (cs ++ ds) ≡ firstOf (firstRefusal cs) (firstRefusal ds)
 first-append [] ds = refl
 first-append (c ∷ cs) ds = by-check c cs ds (refuses c) refl (first-append cs ds)
 
--- what code answers that asks for the second list whatever the first one says, or only once the first one has passed
+-- what code answers that asks for the second list whatever the first one says, or only once
+-- the first one has passed
 module _ (cs ds : List Check) where
-  pub first-then : {a b r : Answer} → a ≡ firstRefusal cs → b ≡ firstRefusal ds → r ≡ firstOf a b → r ≡ firstRefusal (cs ++ ds)
-  first-then {b = b} p q e = e ∙ ap (λ x. firstOf x b) p ∙ ap (firstOf (firstRefusal cs)) q ∙ sym (first-append cs ds)
+  pub first-then : {a b r : Answer} → a ≡ firstRefusal cs → b ≡ firstRefusal ds → r ≡ firstOf a b
+      → r ≡ firstRefusal (cs ++ ds)
+  first-then {b = b} p q e =
+      e ∙ ap (λ x. firstOf x b) p ∙ ap (firstOf (firstRefusal cs)) q ∙ sym (first-append cs ds)
 
-  pub first-stops : {a : Answer} → a ≡ firstRefusal cs → isDone a ≡ false → a ≡ firstRefusal (cs ++ ds)
+  pub first-stops : {a : Answer} → a ≡ firstRefusal cs → isDone a ≡ false
+      → a ≡ firstRefusal (cs ++ ds)
   first-stops p refused = first-then p refl (rw refused)
 
-  pub first-goes-on : {b : Answer} → firstRefusal cs ≡ Done → b ≡ firstRefusal ds → b ≡ firstRefusal (cs ++ ds)
+  pub first-goes-on : {b : Answer} → firstRefusal cs ≡ Done → b ≡ firstRefusal ds
+      → b ≡ firstRefusal (cs ++ ds)
   first-goes-on p q = q ∙ ap (λ x. firstOf x (firstRefusal ds)) (sym p) ∙ sym (first-append cs ds)
 
 -- where nothing is refused, neither list has a refusal
-pub done-append : (cs ds : List Check) → firstRefusal (cs ++ ds) ≡ Done → (firstRefusal cs ≡ Done) × (firstRefusal ds ≡ Done)
+pub done-append : (cs ds : List Check) → firstRefusal (cs ++ ds) ≡ Done
+    → (firstRefusal cs ≡ Done) × (firstRefusal ds ≡ Done)
 done-append cs ds e = both-done (firstRefusal cs) (firstRefusal ds) (sym (first-append cs ds) ∙ e)
 
 -- ---- where nothing is refused, every check was passed
@@ -73,7 +84,8 @@ AllPassed [] = Unit {0}
 AllPassed (c ∷ cs) = (refuses c ≡ false) × AllPassed cs
 
 module _ (c : Check) (cs : List Check) where
-  by-passed : (t : Bool) → refuses c ≡ t → cond t (c .answer) (firstRefusal cs) ≡ Done → (refuses c ≡ false) × (firstRefusal cs ≡ Done)
+  by-passed : (t : Bool) → refuses c ≡ t → cond t (c .answer) (firstRefusal cs) ≡ Done
+      → (refuses c ≡ false) × (firstRefusal cs ≡ Done)
   by-passed true h e = absurd (true≢false (ap isDone (sym e) ∙ refusal c h))
   by-passed false h e = (h, e)
 

@@ -1,4 +1,5 @@
--- The numbers of document 01, "When a call says no", one for each answer; and that different answers have different numbers.
+-- The numbers of document 01, "When a call says no", one for each answer; and that different
+-- answers have different numbers.
 use Prim.Native.Nat.{ℕ}
 use mathlib.Core.Path.{_≡_, refl, sym, ap, _∙_}
 use mathlib.Core.Bool.{Bool, true, false, cond, not}
@@ -68,8 +69,10 @@ firstOf a b = cond (isDone a) b a
 -- the answers in the order of their numbers
 abbrev inOrder : List Answer
 inOrder =
-    Done ∷ ReservedBit ∷ RecordTruncated ∷ PointCount ∷ PointsNotRising ∷ UnknownKind ∷ FieldMismatch ∷ TrailingBytes
-    ∷ UnsupportedFormat ∷ PictureTooLarge ∷ MissingPlane ∷ RowStep ∷ PlaneTooShort ∷ OutputTooSmall ∷ TableLength ∷ []
+    Done ∷ ReservedBit ∷ RecordTruncated ∷ PointCount ∷ PointsNotRising ∷ UnknownKind
+    ∷ FieldMismatch ∷ TrailingBytes
+    ∷ UnsupportedFormat ∷ PictureTooLarge ∷ MissingPlane ∷ RowStep ∷ PlaneTooShort ∷ OutputTooSmall
+    ∷ TableLength ∷ []
 
 at-number : (a : Answer) → getD inOrder (numberOf a) Done ≡ a
 at-number Done = refl

@@ -1,5 +1,6 @@
--- The tangents of CentripetalCatmullRom and ChordalCatmullRom: the three-term tangent of Barry and Goldman ("A recursive evaluation algorithm for a class of
--- Catmull-Rom splines", 1988), as `alpha_catmull_rom_tangents` of the Rust has it. Definitions only.
+-- The tangents of CentripetalCatmullRom and ChordalCatmullRom: the three-term tangent of Barry and
+-- Goldman ("A recursive evaluation algorithm for a class of Catmull-Rom splines", 1988), as
+-- `alpha_catmull_rom_tangents` of the Rust has it. Definitions only.
 use Prim.Native.Nat.{ℕ, _+_}
 use mathlib.Core.Bool.{Bool, true, false, cond, _||_}
 use mathlib.Core.List.{List}
@@ -19,7 +20,8 @@ chord a b =
     let dy = b .y ⊖ a .y in
     rootOf (dx ⊗ dx ⊕ dy ⊗ dy)
 
--- the parameter's way from a to b: the chord, and for the centripetal kind its root, which is what `powf(0.5)` is here
+-- the parameter's way from a to b: the chord, and for the centripetal kind its root, which is
+-- what `powf(0.5)` is here
 abbrev pub spacingOf : Bool → Float → Float
 spacingOf centripetal chord = cond centripetal (rootOf chord) chord
 
@@ -30,13 +32,17 @@ spacing centripetal a b = spacingOf centripetal (chord a b)
 abbrev pub over : Float → Float → Float
 over p d = guardedQuotient p d nano
 
--- the three terms at an inner knot, by the rises to the right, across and from the left, and the ways that belong to them
+-- the three terms at an inner knot, by the rises to the right, across and from the left, and the
+-- ways that belong to them
 unfoldable pub threeTerms : Float → Float → Float → Float → Float → Float → Float
-threeTerms right across left dr ds dl = cond (tiny dl || tiny dr || tiny ds) 𝟎 (right ⊘ dr ⊖ across ⊘ ds ⊕ left ⊘ dl)
+threeTerms right across left dr ds dl =
+    cond (tiny dl || tiny dr || tiny ds) 𝟎 (right ⊘ dr ⊖ across ⊘ ds ⊕ left ⊘ dl)
 
--- dy/dt over dx/dt at a knot c between l and r, by the ways from l to c, from l to r and from c to r
+-- dy/dt over dx/dt at a knot c between l and r, by the ways from l to c,
+-- from l to r and from c to r
 abbrev pub innerTangent : Knot → Knot → Knot → Float → Float → Float → Float
-innerTangent l c r dl ds dr = over (threeTerms (r .y ⊖ c .y) (r .y ⊖ l .y) (c .y ⊖ l .y) dr ds dl) (over (r .x ⊖ l .x) ds)
+innerTangent l c r dl ds dr =
+    over (threeTerms (r .y ⊖ c .y) (r .y ⊖ l .y) (c .y ⊖ l .y) dr ds dl) (over (r .x ⊖ l .x) ds)
 
 -- and at an end of the curve, where both are one-sided, by the way d from a to b
 abbrev pub endTangent : Knot → Knot → Float → Float
@@ -46,11 +52,13 @@ unfoldable pub alphaTangent : Bool → Bool → Bool → Knot → Knot → Knot 
 alphaTangent centripetal first last l c r =
     let dl = spacing centripetal l c in
     let dr = spacing centripetal c r in
-    cond first (endTangent c r dr) (cond last (endTangent l c dl) (innerTangent l c r dl (dl ⊕ dr) dr))
+    cond first (endTangent c r dr)
+    (cond last (endTangent l c dl) (innerTangent l c r dl (dl ⊕ dr) dr))
 
 unfoldable pub alphaAt : Bool → List Float → List Float → ℕ → ℕ → Float
 alphaAt centripetal xs ys n i =
-    alphaTangent centripetal (eqb i 0) (eqb (i + 1) n) (knotAt xs ys (before i)) (knotAt xs ys i) (knotAt xs ys (after n i))
+    alphaTangent centripetal (eqb i 0) (eqb (i + 1) n) (knotAt xs ys (before i)) (knotAt xs ys i)
+    (knotAt xs ys (after n i))
 
 -- the tangents of the two kinds
 abbrev pub centripetalAt : List Float → List Float → ℕ → ℕ → Float
@@ -59,7 +67,8 @@ centripetalAt = alphaAt true
 abbrev pub chordalAt : List Float → List Float → ℕ → ℕ → Float
 chordalAt = alphaAt false
 
--- ---- the rows that the code makes of the segments: chords, and the spacings that belong to a row of them
+-- ---- the rows that the code makes of the segments: chords, and the spacings
+-- that belong to a row of them
 unfoldable pub chordAt : List Float → List Float → ℕ → Float
 chordAt xs ys i = chord (knotAt xs ys i) (knotAt xs ys (i + 1))
 

@@ -1,5 +1,6 @@
-// The tangents of CentripetalCatmullRom and ChordalCatmullRom at the knots, by the chords between them. n knots are in the rows xs and ys; what is
-// behind them is not read. The tangents go to the front of a lent row.
+// The tangents of CentripetalCatmullRom and ChordalCatmullRom at the knots, by the chords between
+// them. n knots are in the rows xs and ys; what is behind them is not read. The tangents go to
+// the front of a lent row.
 ghost use mathlib.Core.Path.{_≡_};
 ghost use Prim.Native.Nat.{_-_, _≤_};
 ghost use Rattle.lists.specs.Stored.{Stored};
@@ -22,7 +23,9 @@ fn chord(a: Knot, b: Knot) -> f32
 // The chords of the segments between n knots, to the front of a row.
 fn chords(xs: &[f32; 66], ys: &[f32; 66], n: usize, row: &mut [f32; 66])
     requires { ⌜ (2 ≤ n) × (n ≤ 66) ⌝ }
-    ensures { λ _. ⌜ Stored (Alpha.chordAt (now (xs .entry)) (now (ys .entry))) 0 (n - 1) (now (row .entry)) (now (row .exit)) ⌝ }
+    ensures { λ _. ⌜
+        Stored (Alpha.chordAt (now (xs .entry)) (now (ys .entry))) 0 (n - 1) (now (row .entry))
+        (now (row .exit)) ⌝ }
 {
     let mut i: usize = 0;
     while i + 1 < n {
@@ -38,10 +41,13 @@ fn spacing(centripetal: bool, chord: f32) -> f32
     if centripetal { sqrt(chord) } else { chord }
 }
 
-// The spacings that belong to chords. In a loop of their own: two roots one after the other would leave the processor waiting.
+// The spacings that belong to chords. In a loop of their own: two roots one after the other would
+// leave the processor waiting.
 fn spacings(centripetal: bool, chords: &[f32; 66], n: usize, row: &mut [f32; 66])
     requires { ⌜ (2 ≤ n) × (n ≤ 66) ⌝ }
-    ensures { λ _. ⌜ Stored (Alpha.spacingAt centripetal (now (chords .entry))) 0 (n - 1) (now (row .entry)) (now (row .exit)) ⌝ }
+    ensures { λ _. ⌜
+        Stored (Alpha.spacingAt centripetal (now (chords .entry))) 0 (n - 1) (now (row .entry))
+        (now (row .exit)) ⌝ }
 {
     let mut i: usize = 0;
     while i + 1 < n {
@@ -57,7 +63,8 @@ fn over(p: f32, d: f32) -> f32
     guarded_quotient(p, d, 0.000000001)
 }
 
-// The three terms at an inner knot, by the rises and spacings to the right, across and from the left.
+// The three terms at an inner knot, by the rises and spacings to the right,
+// across and from the left.
 fn three_terms(right: f32, across: f32, left: f32, dr: f32, ds: f32, dl: f32) -> f32
     ensures { λ m. ⌜ m ≡ Alpha.threeTerms right across left dr ds dl ⌝ }
 {
@@ -74,7 +81,8 @@ fn end_tangent(a: Knot, b: Knot, d: f32) -> f32
     over(over(b.y - a.y, d), over(b.x - a.x, d))
 }
 
-// The tangent at a knot c between l and r, with the spacings of l and c, of all three, and of c and r.
+// The tangent at a knot c between l and r, with the spacings of l and c, of
+// all three, and of c and r.
 fn inner_tangent(l: Knot, c: Knot, r: Knot, dl: f32, ds: f32, dr: f32) -> f32
     ensures { λ m. ⌜ m ≡ Alpha.innerTangent l c r dl ds dr ⌝ }
 {
@@ -85,7 +93,9 @@ fn inner_tangent(l: Knot, c: Knot, r: Knot, dl: f32, ds: f32, dr: f32) -> f32
 // The tangents of ChordalCatmullRom, or where centripetal of CentripetalCatmullRom.
 pub fn alpha(centripetal: bool, xs: &[f32; 66], ys: &[f32; 66], n: usize, tangents: &mut [f32; 66])
     requires { ⌜ (2 ≤ n) × (n ≤ 66) ⌝ }
-    ensures { λ _. ⌜ Stored (Alpha.alphaAt centripetal (now (xs .entry)) (now (ys .entry)) n) 0 n (now (tangents .entry)) (now (tangents .exit)) ⌝ }
+    ensures { λ _. ⌜
+        Stored (Alpha.alphaAt centripetal (now (xs .entry)) (now (ys .entry)) n) 0 n
+        (now (tangents .entry)) (now (tangents .exit)) ⌝ }
 {
     let mut row = [0.0; 66];
     chords(xs, ys, n, &mut row);

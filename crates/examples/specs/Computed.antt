@@ -1,5 +1,5 @@
--- What a computation opens, named in this one place: a theorem that unfolds one of these unfolds all that is in its list. Each is another name of the
--- definition that it is equal to.
+-- What a computation opens, named in this one place: a theorem that unfolds one of these unfolds
+-- all that is in its list. Each is another name of the definition that it is equal to.
 use Prim.Native.Nat.{ℕ}
 use mathlib.Core.List.{List}
 use lib.Ieee.{add, sub, neg, mul, div, lt, ofInt, ofBits}
@@ -32,12 +32,23 @@ use Rattle.spline.specs.Thomas.{scaled, sweep, swept, sweptRow, backward, subst
 use Rattle.sampling.specs.Pieces.{pieceHeight, heightAt, sampled}
 use Rattle.tables.specs.declared.CurveInterpolation.{CurveInterpolation}
 use Rattle.tables.specs.Tables.{unclampedAt, sampleOf, entryOf}
-use Rattle.records.specs.Format.{Read, pairs, readPoints, readList, readKind, readNumber, readCarried, readFields, readRecord}
+use Rattle.records.specs.Format.{
+  Read,
+  pairs,
+  readPoints,
+  readList,
+  readKind,
+  readNumber,
+  readCarried,
+  readFields,
+  readRecord,
+}
 
 -- an entry of a byte table
 unfoldable pub entry : CurveInterpolation → List Point → ℕ → ℕ
 unfolding entryOf sampleOf sampled unclampedAt heightAt pieceHeight kept keptBelow firstAt knots
-    rest xRow yRow xAt yAt filled tabulate step sampleAt seek segment Straight.part Straight.straight
+    rest xRow yRow xAt yAt filled tabulate step sampleAt seek segment Straight.part
+    Straight.straight
     hermite slope catmullRomAt looseness looseSlope cardinalAt secantAt meanAt boxed circled
     adjusted reached monotoneAt chord spacing threeTerms alphaTangent alphaAt between segmentAt
     firstCoefficient splinePiece slopeOf secondAt naturalAt notAKnotAt endsRecovered recovered

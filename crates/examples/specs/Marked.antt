@@ -1,5 +1,6 @@
--- Document 01's "Marked examples to prove (P)", in its order, each with its line above it, from the definitions that the contracts cite: whole tables where
--- the example speaks of all entries, the paper's numbers where it names a refusal.
+-- Document 01's "Marked examples to prove (P)", in its order, each with its line above it, from the
+-- definitions that the contracts cite: whole tables where the example speaks of all entries, the
+-- paper's numbers where it names a refusal.
 use Prim.Native.Nat.{ℕ}
 use mathlib.Core.Path.{_≡_, refl}
 use mathlib.Core.List.{List, [], _∷_}
@@ -13,7 +14,12 @@ use Rattle.single.specs.Constants.{𝟐}
 use Rattle.single.specs.Root.{rootOf}
 use Rattle.points.specs.Points.{pt, straightCurve}
 use Rattle.spline.specs.Segments.{slopeOf}
-use Rattle.tables.specs.declared.CurveInterpolation.the-variants.{Linear, NaturalCubic, Cardinal, ClampedCubic}
+use Rattle.tables.specs.declared.CurveInterpolation.the-variants.{
+  Linear,
+  NaturalCubic,
+  Cardinal,
+  ClampedCubic,
+}
 use Rattle.tables.specs.Tables.{entryOf, byteTable}
 use Rattle.sets.specs.Sets.{masterOnly, withKind}
 use Rattle.records.specs.Format.{readRecord}
@@ -70,12 +76,14 @@ unfolding rootOf ofBits toBits
 P9 = refl
 
 -- "P10 record (hexadecimal) 11 02 00 00 FF FF 00: straight master, Linear; .."
-pub P10 : readRecord (0x11 ∷ 0x02 ∷ 0x00 ∷ 0x00 ∷ 0xFF ∷ 0xFF ∷ 0x00 ∷ []) ≡ record { answer = Done; set = withKind Linear (masterOnly straightCurve) }
+pub P10 : readRecord (0x11 ∷ 0x02 ∷ 0x00 ∷ 0x00 ∷ 0xFF ∷ 0xFF ∷ 0x00 ∷ [])
+    ≡ record { answer = Done; set = withKind Linear (masterOnly straightCurve) }
 unfolding Computed.read
 P10 = refl
 
 -- ".. with one byte more, 7." Whatever the byte
-pub P10-longer : (b : ℕ) → numberOf (readRecord (0x11 ∷ 0x02 ∷ 0x00 ∷ 0x00 ∷ 0xFF ∷ 0xFF ∷ 0x00 ∷ b ∷ []) .answer) ≡ 7
+pub P10-longer : (b : ℕ)
+    → numberOf (readRecord (0x11 ∷ 0x02 ∷ 0x00 ∷ 0x00 ∷ 0xFF ∷ 0xFF ∷ 0x00 ∷ b ∷ []) .answer) ≡ 7
 unfolding Computed.read
 P10-longer b = refl
 
@@ -93,7 +101,8 @@ pub P12-passes : numberOf (lutAnswer Gray8 4 1 4 4) ≡ 0
 unfolding lutAnswered
 P12-passes = refl
 
--- .. and in the set call, by the straight curve: width 4, one row, one plane, the step, 4 bytes, and room for 4
+-- .. and in the set call, by the straight curve: width 4, one row, one plane, the
+-- step, 4 bytes, and room for 4
 pub P12-set : numberOf (answer (run line Gray8 4 1 1 3 4 4 0)) ≡ 11
 unfolding answered
 P12-set = refl

@@ -23,8 +23,10 @@ P2-rule = refl
 P2-entry : (v : ℕ) → v < 256 → entryOf Linear (pt 128 200 ∷ []) v ≡ 200
 P2-entry v lt = tabulate-agree (entryOf Linear (pt 128 200 ∷ [])) (λ w. 200) (P2 ∙ P2-rule) v lt
 
--- Two rows of 2 bytes with one of padding between them, every byte 5, by P2's list: width 2, two rows, one plane, step 3, 5 bytes, and an output of 5
--- bytes, each 0. Every byte of both rows comes out as 200, and the byte after them stays.
-pub P2-picture : first (run (stored (pt 128 200 ∷ []) 1) Gray8 2 2 1 3 5 5 0) ≡ 200 ∷ 200 ∷ 200 ∷ 200 ∷ 0 ∷ []
+-- Two rows of 2 bytes with one of padding between them, every byte 5, by P2's list: width 2, two
+-- rows, one plane, step 3, 5 bytes, and an output of 5 bytes, each 0. Every byte of both rows comes
+-- out as 200, and the byte after them stays.
+pub P2-picture : first (run (stored (pt 128 200 ∷ []) 1) Gray8 2 2 1 3 5 5 0)
+    ≡ 200 ∷ 200 ∷ 200 ∷ 200 ∷ 0 ∷ []
 unfolding answered first filled tabulate tightByte rowByte toned
 P2-picture = rw (P2-entry 5 (omega arith))

@@ -1,6 +1,7 @@
--- How large a float is. `AtMost a c x` says that x is finite and |x| ≤ a / c, `AtLeast a c x` that x is finite and |x| ≥ a / c. Rounding passes
--- no value of the format. So a bound r / e that the format holds (`Rep f r e`) bounds a result where it bounds the exact result. Operands have
--- either sign.
+-- How large a float is. `AtMost a c x` says that x is finite and |x| ≤ a / c, `AtLeast a c x`
+-- that x is finite and |x| ≥ a / c. Rounding passes no value of the format. So a bound r / e
+-- that the format holds (`Rep f r e`) bounds a result where it bounds the exact result.
+-- Operands have either sign.
 use mathlib.Core.Path.{_≡_, refl, sym, _∙_}
 use mathlib.Core.Logic.{inl}
 use Prim.Native.Nat.{ℕ, _+_, _-_, _*_, _^_, _≤_, _<_, zero-le}
@@ -18,7 +19,19 @@ use lib.Ieee.Scale.{finite}
 use lib.Ieee.Positive.{num, den, den-pos, first-pos, through}
 use borrow.Author.Tests.{ltb-false}
 use Rattle.floats.specs.Notation.{_⊖_, _⊗_}
-use Rattle.floats.specs.Value.{Is, top, bot, own, is-of-pos, is-of-le, Apart, size-is, sign, unsigned, absolute}
+use Rattle.floats.specs.Value.{
+  Is,
+  top,
+  bot,
+  own,
+  is-of-pos,
+  is-of-le,
+  Apart,
+  size-is,
+  sign,
+  unsigned,
+  absolute,
+}
 use Rattle.floats.specs.Order.{over-top}
 use Rattle.floats.specs.Round.{Rounds, over, under, round-neg, round-unsigned}
 use Rattle.floats.specs.Exact.{Rep, rep-whole, round-rep}
@@ -38,32 +51,47 @@ pub record AtLeast (a c : ℕ) (x : Float) : Type 0 where
 
 -- ---- exact values, and weaker bounds
 pub at-most-is : (x : Float) (p n c a : ℕ) → 0 < c → Is x p n c → Apart p n a → AtMost a c x
-at-most-is x p n c a C h e = record { fin = h .0; unit = C; most = le-of-eq (size-is x p n c a h e) }
+at-most-is x p n c a C h e =
+    record { fin = h .0; unit = C; most = le-of-eq (size-is x p n c a h e) }
 
 pub at-least-zero : (x : Float) → T (finite x) → AtLeast 0 1 x
 at-least-zero x p = record { fin = p; unit = lit< tt; least = omega arith }
 
 -- a / c ≤ b / d
-pub at-most-more : {a c : ℕ} {x : Float} (b d : ℕ) → 0 < d → a * d ≤ b * c → AtMost a c x → AtMost b d x
-at-most-more {a} {c} {x} b d D l h = record { fin = h .fin; unit = D; most = through (num x) a b (den x) c d (h .unit) (h .most) l }
+pub at-most-more : {a c : ℕ} {x : Float} (b d : ℕ) → 0 < d → a * d ≤ b * c → AtMost a c x
+    → AtMost b d x
+at-most-more {a} {c} {x} b d D l h =
+    record { fin = h .fin; unit = D; most = through (num x) a b (den x) c d (h .unit) (h .most) l }
 
 -- ---- rounding
-most-of-le : (x y : Float) (a d : ℕ) → 0 < d → T (unsigned x) → HasValue y false a d → T (le x y) → AtMost a d x
+most-of-le : (x y : Float) (a d : ℕ) → 0 < d → T (unsigned x) → HasValue y false a d → T (le x y)
+    → AtMost a d x
 most-of-le nan y a d D u v h = absurd u
 most-of-le (inf true) y a d D u v h = absurd u
 most-of-le (inf false) y a d D u v h = absurd (rw (over-top y h) at v)
 most-of-le (fin true m e) y a d D u v h = absurd u
 most-of-le (fin false m e) y a d D u v h =
     let x = fin false m e in
-    record { fin = tt; unit = D; most = omega (arith, is-of-le x y (m * up e) 0 (down e) a 0 d (own x tt) (is-of-pos y a d v) h) }
+    record {
+      fin = tt;
+      unit = D;
+      most = omega
+          (arith, is-of-le x y (m * up e) 0 (down e) a 0 d (own x tt) (is-of-pos y a d v) h);
+    }
 
-least-of-le : (x y : Float) (a d : ℕ) → 0 < d → T (unsigned x) → T (finite x) → HasValue y false a d → T (le y x) → AtLeast a d x
+least-of-le : (x y : Float) (a d : ℕ) → 0 < d → T (unsigned x) → T (finite x) → HasValue y false a d
+    → T (le y x) → AtLeast a d x
 least-of-le nan y a d D u p v h = absurd p
 least-of-le (inf s) y a d D u p v h = absurd p
 least-of-le (fin true m e) y a d D u p v h = absurd u
 least-of-le (fin false m e) y a d D u p v h =
     let x = fin false m e in
-    record { fin = tt; unit = D; least = omega (arith, is-of-le y x a 0 d (m * up e) 0 (down e) (is-of-pos y a d v) (own x tt) h) }
+    record {
+      fin = tt;
+      unit = D;
+      least = omega
+          (arith, is-of-le y x a 0 d (m * up e) 0 (down e) (is-of-pos y a d v) (own x tt) h);
+    }
 
 pub at-most-neg : {a c : ℕ} {x : Float} → AtMost a c x → AtMost a c (neg x)
 unfolding neg
@@ -78,25 +106,29 @@ at-least-neg {x = inf s} h = absurd (h .fin)
 at-least-neg {x = fin s m e} h = record { fin = tt; unit = h .unit; least = h .least }
 
 -- p / c ≤ r / e
-pub round-at-most : (f : Format) (s : Bool) (p c r e : ℕ) → 0 < c → 0 < e → Rep f r e → p * e ≤ r * c → AtMost r e (round f s p c)
+pub round-at-most : (f : Format) (s : Bool) (p c r e : ℕ) → 0 < c → 0 < e → Rep f r e
+    → p * e ≤ r * c → AtMost r e (round f s p c)
 round-at-most f s p c r e C E R h = go s
   where
     plain : AtMost r e (round f false p c)
     plain =
-        most-of-le (round f false p c) (round f false r e) r e E (round-unsigned f p c) (round-rep f false r e E R) (round-mono f p c r e C E h)
+        most-of-le (round f false p c) (round f false r e) r e E (round-unsigned f p c)
+        (round-rep f false r e E R) (round-mono f p c r e C E h)
 
     go : (s : Bool) → AtMost r e (round f s p c)
     go false = plain
     go true = rw (← round-neg) (at-most-neg plain)
 
 -- r / e ≤ p / c, and nothing overflows
-pub round-at-least : (f : Format) (s : Bool) (p c r e : ℕ) → 0 < c → 0 < e → Rep f r e → r * c ≤ p * e → T (finite (round f s p c))
+pub round-at-least : (f : Format) (s : Bool) (p c r e : ℕ) → 0 < c → 0 < e → Rep f r e
+    → r * c ≤ p * e → T (finite (round f s p c))
     → AtLeast r e (round f s p c)
 round-at-least f s p c r e C E R h = go s
   where
     plain : T (finite (round f false p c)) → AtLeast r e (round f false p c)
     plain q =
-        least-of-le (round f false p c) (round f false r e) r e E (round-unsigned f p c) q (round-rep f false r e E R) (round-mono f r e p c E C h)
+        least-of-le (round f false p c) (round f false r e) r e E (round-unsigned f p c) q
+        (round-rep f false r e E R) (round-mono f r e p c E C h)
 
     back : (x : Float) → T (finite (neg x)) → T (finite x)
     back nan q = unfold neg in q
@@ -107,18 +139,22 @@ round-at-least f s p c r e C E R h = go s
     go false q = plain q
     go true q = rw (← round-neg) (at-least-neg (plain (back (round f false p c) (rw round-neg q))))
 
-pub at-most-cond : (b : Bool) {a c : ℕ} {x y : Float} → AtMost a c x → AtMost a c y → AtMost a c (cond b x y)
+pub at-most-cond : (b : Bool) {a c : ℕ} {x y : Float} → AtMost a c x → AtMost a c y
+    → AtMost a c (cond b x y)
 at-most-cond true h g = h
 at-most-cond false h g = g
 
 -- ---- sums and differences: of a / c and b / d the exact bound is (a * d + b * c) / (c * d)
-sum-at-most : (f : Format) (s : Bool) (p : ℕ) (t : Bool) (q u r e : ℕ) → 0 < u → 0 < e → Rep f r e → (p + q) * e ≤ r * u
+sum-at-most : (f : Format) (s : Bool) (p : ℕ) (t : Bool) (q u r e : ℕ) → 0 < u → 0 < e → Rep f r e
+    → (p + q) * e ≤ r * u
     → AtMost r e (sum f s p t q u)
 unfolding sum
 sum-at-most f s p t q u r e U E R h =
     at-most-cond (Bool·beq s t) (round-at-most f s (p + q) u r e U E R h)
-    (at-most-cond (ltb p q) (round-at-most f t (q - p) u r e U E R (le-trans (mul-le-mul-right e (right p q)) h))
-    (round-at-most f (s && ltb q p) (p - q) u r e U E R (le-trans (mul-le-mul-right e (left p q)) h)))
+    (at-most-cond (ltb p q)
+    (round-at-most f t (q - p) u r e U E R (le-trans (mul-le-mul-right e (right p q)) h))
+    (round-at-most f (s && ltb q p) (p - q) u r e U E R
+    (le-trans (mul-le-mul-right e (left p q)) h)))
   where
     left : (p q : ℕ) → p - q ≤ p + q
     left p q = omega arith
@@ -127,18 +163,23 @@ sum-at-most f s p t q u r e U E R h =
     right p q = omega arith
 
 -- p / q ≤ a / c and s / t ≤ b / d
-plus-le : (p q a c s t b d : ℕ) → p * c ≤ a * q → s * d ≤ b * t → (p * t + s * q) * (c * d) ≤ (a * d + b * c) * (q * t)
+plus-le : (p q a c s t b d : ℕ) → p * c ≤ a * q → s * d ≤ b * t
+    → (p * t + s * q) * (c * d) ≤ (a * d + b * c) * (q * t)
 plus-le p q a c s t b d h g = omega (arith, mul-le-mul-right (t * d) h, mul-le-mul-right (q * c) g)
 
-pub at-most-add : (f : Format) {a c b d : ℕ} {x y : Float} (r e : ℕ) → 0 < e → Rep f r e → AtMost a c x → AtMost b d y
+pub at-most-add : (f : Format) {a c b d : ℕ} {x y : Float} (r e : ℕ) → 0 < e → Rep f r e
+    → AtMost a c x → AtMost b d y
     → (a * d + b * c) * e ≤ r * (c * d) → AtMost r e (add f x y)
 at-most-add f {a} {c} {b} {d} {x} {y} r e E R h g l =
     rw (add-is f x y (h .fin) (g .fin))
-    (sum-at-most f (sign x) (num x * den y) (sign y) (num y * den x) (den x * den y) r e (mul-pos (den-pos x) (den-pos y)) E R
-    (through (num x * den y + num y * den x) (a * d + b * c) r (den x * den y) (c * d) e (mul-pos (h .unit) (g .unit))
+    (sum-at-most f (sign x) (num x * den y) (sign y) (num y * den x) (den x * den y) r e
+    (mul-pos (den-pos x) (den-pos y)) E R
+    (through (num x * den y + num y * den x) (a * d + b * c) r (den x * den y) (c * d) e
+    (mul-pos (h .unit) (g .unit))
     (plus-le (num x) (den x) a c (num y) (den y) b d (h .most) (g .most)) l))
 
-pub at-most-sub : (f : Format) {a c b d : ℕ} {x y : Float} (r e : ℕ) → 0 < e → Rep f r e → AtMost a c x → AtMost b d y
+pub at-most-sub : (f : Format) {a c b d : ℕ} {x y : Float} (r e : ℕ) → 0 < e → Rep f r e
+    → AtMost a c x → AtMost b d y
     → (a * d + b * c) * e ≤ r * (c * d) → AtMost r e (sub f x y)
 at-most-sub f r e E R h g l = rw sub-is (at-most-add f r e E R h (at-most-neg g) l)
 
@@ -150,54 +191,71 @@ like-sum f false true p q u e = absurd (true≢false (sym e))
 like-sum f false false p q u e = refl
 
 -- of two terms with one sign
-pub at-least-add : (f : Format) {a c b d : ℕ} {x y : Float} (r e : ℕ) → 0 < e → Rep f r e → AtLeast a c x → AtLeast b d y → sign x ≡ sign y
+pub at-least-add : (f : Format) {a c b d : ℕ} {x y : Float} (r e : ℕ) → 0 < e → Rep f r e
+    → AtLeast a c x → AtLeast b d y → sign x ≡ sign y
     → r * (c * d) ≤ (a * d + b * c) * e → T (finite (add f x y)) → AtLeast r e (add f x y)
 at-least-add f {a} {c} {b} {d} {x} {y} r e E R h g z l w =
     let p = num x * den y + num y * den x in
     let u = den x * den y in
     let is : add f x y ≡ round f (sign x) p u =
-    add-is f x y (h .fin) (g .fin) ∙ like-sum f (sign x) (sign y) (num x * den y) (num y * den x) u z in
+    add-is f x y (h .fin) (g .fin)
+    ∙ like-sum f (sign x) (sign y) (num x * den y) (num y * den x) u z in
     rw is
     (round-at-least f (sign x) p u r e (mul-pos (den-pos x) (den-pos y)) E R
-    (through r (a * d + b * c) p e (c * d) u (mul-pos (h .unit) (g .unit)) l (plus-le a c (num x) (den x) b d (num y) (den y) (h .least) (g .least)))
+    (through r (a * d + b * c) p e (c * d) u (mul-pos (h .unit) (g .unit)) l
+    (plus-le a c (num x) (den x) b d (num y) (den y) (h .least) (g .least)))
     (rw is at w))
 
 -- ---- products: the exact bound is a * b / (c * d)
 times-le : (p q a c s t b d : ℕ) → p * c ≤ a * q → s * d ≤ b * t → p * s * (c * d) ≤ a * b * (q * t)
-times-le p q a c s t b d h g = le-trans (le-of-eq (mul-mul-mul-comm p s c d)) (le-trans (mul-le-mul h g) (le-of-eq (mul-mul-mul-comm a q b t)))
+times-le p q a c s t b d h g =
+    le-trans (le-of-eq (mul-mul-mul-comm p s c d))
+    (le-trans (mul-le-mul h g) (le-of-eq (mul-mul-mul-comm a q b t)))
 
-pub at-most-mul : (f : Format) {a c b d : ℕ} {x y : Float} (r e : ℕ) → 0 < e → Rep f r e → AtMost a c x → AtMost b d y
+pub at-most-mul : (f : Format) {a c b d : ℕ} {x y : Float} (r e : ℕ) → 0 < e → Rep f r e
+    → AtMost a c x → AtMost b d y
     → a * b * e ≤ r * (c * d) → AtMost r e (mul f x y)
 at-most-mul f {a} {c} {b} {d} {x} {y} r e E R h g l =
     rw (mul-is f x y (h .fin) (g .fin))
-    (round-at-most f (unlike (sign x) (sign y)) (num x * num y) (den x * den y) r e (mul-pos (den-pos x) (den-pos y)) E R
+    (round-at-most f (unlike (sign x) (sign y)) (num x * num y) (den x * den y) r e
+    (mul-pos (den-pos x) (den-pos y)) E R
     (through (num x * num y) (a * b) r (den x * den y) (c * d) e (mul-pos (h .unit) (g .unit))
     (times-le (num x) (den x) a c (num y) (den y) b d (h .most) (g .most)) l))
 
-pub at-least-mul : (f : Format) {a c b d : ℕ} {x y : Float} (r e : ℕ) → 0 < e → Rep f r e → AtLeast a c x → AtLeast b d y
+pub at-least-mul : (f : Format) {a c b d : ℕ} {x y : Float} (r e : ℕ) → 0 < e → Rep f r e
+    → AtLeast a c x → AtLeast b d y
     → r * (c * d) ≤ a * b * e → T (finite (mul f x y)) → AtLeast r e (mul f x y)
 at-least-mul f {a} {c} {b} {d} {x} {y} r e E R h g l w =
     let is = mul-is f x y (h .fin) (g .fin) in
     rw is
-    (round-at-least f (unlike (sign x) (sign y)) (num x * num y) (den x * den y) r e (mul-pos (den-pos x) (den-pos y)) E R
+    (round-at-least f (unlike (sign x) (sign y)) (num x * num y) (den x * den y) r e
+    (mul-pos (den-pos x) (den-pos y)) E R
     (through r (a * b) (num x * num y) e (c * d) (den x * den y) (mul-pos (h .unit) (g .unit)) l
     (times-le a c (num x) (den x) b d (num y) (den y) (h .least) (g .least))) (rw is at w))
 
 -- ---- quotients: the exact bound is a * d / (c * b)
 over-le : (p q a c s t b d : ℕ) → p * c ≤ a * q → b * t ≤ s * d → p * t * (c * b) ≤ a * d * (s * q)
-over-le p q a c s t b d h g = omega (arith, times-le p q a c t s d b h (le-trans (le-of-eq (mul-comm t b)) (le-trans g (le-of-eq (mul-comm s d)))))
+over-le p q a c s t b d h g =
+    omega (
+      arith,
+      times-le p q a c t s d b h
+          (le-trans (le-of-eq (mul-comm t b)) (le-trans g (le-of-eq (mul-comm s d)))),
+    )
 
-pub at-most-div : (f : Format) {a c b d : ℕ} {x y : Float} (r e : ℕ) → 0 < e → Rep f r e → AtMost a c x → AtLeast b d y → 0 < b
+pub at-most-div : (f : Format) {a c b d : ℕ} {x y : Float} (r e : ℕ) → 0 < e → Rep f r e
+    → AtMost a c x → AtLeast b d y → 0 < b
     → a * d * e ≤ r * (c * b) → AtMost r e (div f x y)
 at-most-div f {a} {c} {b} {d} {x} {y} r e E R h g B l =
     let N : 0 < num y = first-pos (num y) d (lt-of-lt-of-le (mul-pos B (den-pos y)) (g .least)) in
     rw (div-is f x y (h .fin) N)
-    (round-at-most f (unlike (sign x) (sign y)) (num x * den y) (num y * den x) r e (mul-pos N (den-pos x)) E R
+    (round-at-most f (unlike (sign x) (sign y)) (num x * den y) (num y * den x) r e
+    (mul-pos N (den-pos x)) E R
     (through (num x * den y) (a * d) r (num y * den x) (c * b) e (mul-pos (h .unit) B)
     (over-le (num x) (den x) a c (num y) (den y) b d (h .most) (g .least)) l))
 
 -- ---- a test of the size: what is not below a guard is at least what the guard is
-pub at-least-guarded : {a c : ℕ} {x guard : Float} → T (finite x) → T (unsigned guard) → AtLeast a c guard → lt (absolute x) guard ≡ false
+pub at-least-guarded : {a c : ℕ} {x guard : Float} → T (finite x) → T (unsigned guard)
+    → AtLeast a c guard → lt (absolute x) guard ≡ false
     → AtLeast a c x
 unfolding lt absolute
 at-least-guarded {x = nan} p u h e = absurd p
@@ -209,7 +267,8 @@ at-least-guarded {a} {c} {x = fin s m k} {guard = fin false n i} p u h e =
     record {
       fin = tt;
       unit = h .unit;
-      least = through a (n * up i) (m * up k) c (down i) (down k) (down-pos i) (h .least) (ltb-false (m * up k * down i) (n * up i * down k) e);
+      least = through a (n * up i) (m * up k) c (down i) (down k) (down-pos i) (h .least)
+          (ltb-false (m * up k * down i) (n * up i * down k) e);
     }
 
 -- ---- bounds that are whole numbers, in single precision
@@ -221,11 +280,13 @@ whole-least x {n} i =
     let size = size-is x n 0 1 n i (inl (sym (zero-add n))) in
     record { fin = i .0; unit = lit< tt; least = le-of-eq (sym size) }
 
-pub mul-most : {a b r : ℕ} {x y : Float} → Rep binary32 r 1 → AtMost a 1 x → AtMost b 1 y → a * b ≤ r
+pub mul-most : {a b r : ℕ} {x y : Float} → Rep binary32 r 1 → AtMost a 1 x → AtMost b 1 y
+    → a * b ≤ r
     → AtMost r 1 (x ⊗ y)
 mul-most {r = r} rep h g l = at-most-mul binary32 r 1 (lit< tt) rep h g (omega arith)
 
-pub sub-most : {a b r : ℕ} {x y : Float} → Rep binary32 r 1 → AtMost a 1 x → AtMost b 1 y → a + b ≤ r
+pub sub-most : {a b r : ℕ} {x y : Float} → Rep binary32 r 1 → AtMost a 1 x → AtMost b 1 y
+    → a + b ≤ r
     → AtMost r 1 (x ⊖ y)
 sub-most {r = r} rep h g l = at-most-sub binary32 r 1 (lit< tt) rep h g (omega arith)
 

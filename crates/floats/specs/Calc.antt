@@ -26,7 +26,9 @@ strict : (b e p n c : ℕ) → 0 < c → b < e → p ≤ n + b * c → p < n + e
 strict b e p n c C h l = omega (arith, mul-lt-mul-of-pos-right h C)
 
 -- r is at most b in size, for a b below 2 ^ k: the error is at most 2 ^ k / 2 ^ 25
-pub rounds-close : (z : Float) (r : Frac) (b k : ℕ) → k ≤ 127 → Ok r → b < 2 ^ k → Size b r → RoundsF z r
+pub rounds-close : (z : Float) (r : Frac) (b k : ℕ) → k ≤ 127 → Ok r → b < 2 ^ k → Size b r
+    → RoundsF z r
     → T (finite z) × Close (2 ^ k) (2 ^ 25) (val z) r
 rounds-close z r b k K C h s q =
-    rounds-near z (r .p) (r .n) (r .c) k K C q (strict b (2 ^ k) (r .p) (r .n) (r .c) C h (s .0)) (strict b (2 ^ k) (r .n) (r .p) (r .c) C h (s .1))
+    rounds-near z (r .p) (r .n) (r .c) k K C q (strict b (2 ^ k) (r .p) (r .n) (r .c) C h (s .0))
+    (strict b (2 ^ k) (r .n) (r .p) (r .c) C h (s .1))

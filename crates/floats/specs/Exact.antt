@@ -1,9 +1,23 @@
--- The values of a format, and that rounding leaves them as they are: an operation whose exact result is a value of the format is exact.
+-- The values of a format, and that rounding leaves them as they are: an operation whose exact
+-- result is a value of the format is exact.
 use mathlib.Core.Path.{_≡_, sym, ap, _∙_}
 use mathlib.Core.Logic.{inl, inr}
 use Prim.Native.Nat.{ℕ, zero, suc, _+_, _-_, _*_, _^_, _≤_, _<_}
-use native.Mathlib.Nat.{le-of-eq, le-of-suc-le-suc, lt-of-lt-of-le, lt-of-le-of-lt, lt-of-not-le, not-le-of-lt}
-use native.Mathlib.Nat.{mul-assoc, mul-lt-mul-of-pos-right, zero-mul, one-mul, eq-of-mul-eq-mul-right}
+use native.Mathlib.Nat.{
+  le-of-eq,
+  le-of-suc-le-suc,
+  lt-of-lt-of-le,
+  lt-of-le-of-lt,
+  lt-of-not-le,
+  not-le-of-lt,
+}
+use native.Mathlib.Nat.{
+  mul-assoc,
+  mul-lt-mul-of-pos-right,
+  zero-mul,
+  one-mul,
+  eq-of-mul-eq-mul-right,
+}
 use native.Mathlib.Omega.{arith}
 use mathlib.Core.Bool.{Bool, true, false}
 use lib.IntN.{ℤ, pos, negsuc}
@@ -46,7 +60,9 @@ rep-same f a c b d C e r = record {
 }
   where
     go : (u w : ℕ) → a * u ≡ w * c → b * u ≡ w * d
-    go u w s = eq-of-mul-eq-mul-right c C (b * u) (w * d) (omega (arith, ap (λ (z : ℕ). z * u) e, ap (λ (z : ℕ). z * d) s))
+    go u w s =
+        eq-of-mul-eq-mul-right c C (b * u) (w * d)
+        (omega (arith, ap (λ (z : ℕ). z * u) e, ap (λ (z : ℕ). z * d) s))
 
 halves : (l i : ℕ) → i ≤ l → 2 ^ (l - i) * 2 ^ i ≡ 2 ^ l
 halves l i h = sym (pow-add 2 (l - i) i) ∙ ap (λ (z : ℕ). 2 ^ z) (back l i h)
@@ -85,7 +101,14 @@ rep-times a k s h =
 
 -- and the powers of two up to 2 ^ 276 of its smallest values
 pub rep-power : (k : ℕ) → k ≤ 276 → Rep binary32 (2 ^ k) (2 ^ 149)
-rep-power k h = record { q = 1; j = k; small = lit< tt; fine = rw one-mul (pow-lt (room k h)); same = rw one-mul }
+rep-power k h =
+    record {
+      q = 1;
+      j = k;
+      small = lit< tt;
+      fine = rw one-mul (pow-lt (room k h));
+      same = rw one-mul;
+    }
   where
     room : (k : ℕ) → k ≤ 276 → k < 277
     room k h = omega arith
@@ -94,12 +117,14 @@ rep-power k h = record { q = 1; j = k; small = lit< tt; fine = rw one-mul (pow-l
 le-of-pow : (i l : ℕ) → 2 ^ i ≤ 2 ^ l → i ≤ l
 le-of-pow i l h = le-of-suc-le-suc (lt-of-not-le (λ (g : l < i). not-le-of-lt (pow-lt g) h))
 
-rep-of : (f : Format) (m : ℕ) (e : ℤ) → m < 2 ^ prec f → down e ≤ 2 ^ low f → m * up e < 2 ^ suc (emax f) * down e → Rep f (m * up e) (down e)
+rep-of : (f : Format) (m : ℕ) (e : ℤ) → m < 2 ^ prec f → down e ≤ 2 ^ low f
+    → m * up e < 2 ^ suc (emax f) * down e → Rep f (m * up e) (down e)
 rep-of f m (pos k) s h g = record {
   q = m;
   j = k + low f;
   small = s;
-  fine = rw (pow-add 2 k (low f), pow-add 2 (low f) (suc (emax f))) (omega (arith, mul-lt-mul-of-pos-right g (pow-pos (low f))));
+  fine = rw (pow-add 2 k (low f), pow-add 2 (low f) (suc (emax f)))
+      (omega (arith, mul-lt-mul-of-pos-right g (pow-pos (low f))));
   same = rw pow-add (omega arith);
 }
 rep-of f m (negsuc k) s h g = record {
@@ -112,7 +137,8 @@ rep-of f m (negsuc k) s h g = record {
   same = rw (← halves (low f) (suc k) (le-of-pow (suc k) (low f) h)) (omega arith);
 }
 
--- what fits has at most `prec` digits, is a whole number of the smallest values, and lies below 2 ^ (emax + 1)
+-- what fits has at most `prec` digits, is a whole number of the smallest values, and
+-- lies below 2 ^ (emax + 1)
 pub fits-parts : (f : Format) (s : Bool) (m : ℕ) (e : ℤ) → T (fits f (fin s (suc m) e))
     → (suc m < 2 ^ prec f) × (down e ≤ 2 ^ low f) × (suc m * up e < 2 ^ suc (emax f) * down e)
 unfolding fits
@@ -126,23 +152,29 @@ pub fits-rep : (f : Format) (x : Float) → T (finite x) → T (fits f x) → Re
 fits-rep f nan p t = absurd p
 fits-rep f (inf s) p t = absurd p
 fits-rep f (fin s zero e) p t = rw zero-mul (rep-zero f (down e))
-fits-rep f (fin s (suc m) e) p t = let h = fits-parts f s m e t in rep-of f (suc m) e (h .0) (h .1) (h .2)
+fits-rep f (fin s (suc m) e) p t = let h = fits-parts f s m e t in
+    rep-of f (suc m) e (h .0) (h .1) (h .2)
 
 -- ---- rounding leaves it as it is
-pub round-rep : (f : Format) (s : Bool) (a c : ℕ) → 0 < c → Rep f a c → HasValue (round f s a c) s a c
+pub round-rep : (f : Format) (s : Bool) (a c : ℕ) → 0 < c → Rep f a c
+    → HasValue (round f s a c) s a c
 round-rep f s a c C r = round-exact f s a c (r .q) (r .j) C (r .small) (r .fine) (r .same)
 
 -- a result whose size is a value of the format is exact
-pub rounds-rep : (f : Format) (z : Float) (p n c : ℕ) → 0 < c → Rounds f z p n c → ((a : ℕ) → Apart p n a → Rep f a c) → Is z p n c
+pub rounds-rep : (f : Format) (z : Float) (p n c : ℕ) → 0 < c → Rounds f z p n c
+    → ((a : ℕ) → Apart p n a → Rep f a c) → Is z p n c
 rounds-rep f z p n c C (over a e i) r =
-    let v : Is z a 0 c = rw i (is-of-pos (round f false a c) a c (round-rep f false a c C (r a (inl e)))) in
+    let v : Is z a 0 c =
+    rw i (is-of-pos (round f false a c) a c (round-rep f false a c C (r a (inl e)))) in
     (v .0, omega (arith, v .1, ap (λ (x : ℕ). x * den z) e))
 rounds-rep f z p n c C (under a e i) r =
-    let v : Is z 0 a c = rw i (is-of-neg (round f true a c) a c (round-rep f true a c C (r a (inr e)))) in
+    let v : Is z 0 a c =
+    rw i (is-of-neg (round f true a c) a c (round-rep f true a c C (r a (inr e)))) in
     (v .0, omega (arith, v .1, ap (λ (x : ℕ). x * den z) e))
 
 -- |p - n| is p - n or n - p, and the other is 0
-pub rounds-exact : (f : Format) (z : Float) (p n c : ℕ) → 0 < c → Rounds f z p n c → Rep f (p - n) c → Rep f (n - p) c → Is z p n c
+pub rounds-exact : (f : Format) (z : Float) (p n c : ℕ) → 0 < c → Rounds f z p n c → Rep f (p - n) c
+    → Rep f (n - p) c → Is z p n c
 rounds-exact f z p n c C q r s =
     rounds-rep f z p n c C q (λ a (e : Apart p n a). elim e [
       | inl h ↦ let k : p - n ≡ a = omega arith in rw k at r
@@ -150,6 +182,9 @@ rounds-exact f z p n c C q r s =
     ])
 
 -- a result that is the value of a float of the format is exact
-pub rounds-fits : (f : Format) (z y : Float) (p n c : ℕ) → 0 < c → Rounds f z p n c → T (fits f y) → Is y p n c → Is z p n c
+pub rounds-fits : (f : Format) (z y : Float) (p n c : ℕ) → 0 < c → Rounds f z p n c → T (fits f y)
+    → Is y p n c → Is z p n c
 rounds-fits f z y p n c C r t h =
-    rounds-rep f z p n c C r (λ a e. rep-same f (num y) (den y) a c (den-pos y) (size-is y p n c a h e) (fits-rep f y (h .0) t))
+    rounds-rep f z p n c C r
+    (λ a e. rep-same f (num y) (den y) a c (den-pos y) (size-is y p n c a h e)
+    (fits-rep f y (h .0) t))

@@ -1,5 +1,6 @@
--- Signed fractions as records: their sums and products, how far apart two of them are, how large one is. Sums and products of fractions that are
--- near each other are near each other. Nothing here is about floats.
+-- Signed fractions as records: their sums and products, how far apart two of them are, how
+-- large one is. Sums and products of fractions that are near each other are near each other.
+-- Nothing here is about floats.
 use mathlib.Core.Path.{_≡_, subst, subst₂}
 use mathlib.Core.Logic.{_⊎_, inl, inr}
 use Prim.Native.Nat.{ℕ, _+_, _-_, _*_, _≤_, _<_}
@@ -59,7 +60,8 @@ pub total : (a b : ℕ) → (a ≤ b) ⊎ (b ≤ a)
 total a b = elim (decLe a b) [ yes h ↦ inl h | no h ↦ inr (le-of-lt (lt-of-not-le h)) ]
 
 -- what holds where it is a, and where it is -a, holds
-pub by-sign : (P : ℕ → ℕ → Type 0) → ((n a : ℕ) → P (n + a) n) → ((p a : ℕ) → P p (p + a)) → (p n : ℕ) → P p n
+pub by-sign : (P : ℕ → ℕ → Type 0) → ((n a : ℕ) → P (n + a) n) → ((p a : ℕ) → P p (p + a))
+    → (p n : ℕ) → P p n
 by-sign P above below p n =
     elim (total n p) [
       | inl h ↦ subst (λ (z : ℕ). P z n) (add-sub-of-le h) (above n (p - n))
@@ -73,14 +75,18 @@ close-more i j k x y l h = (
   up-more i j k (y .p) (y .n) (y .c) (x .p) (x .n) (x .c) l (h .1),
 )
 
-pub close-through : (i j k : ℕ) (x y z : Frac) → Ok y → Close i k x y → Close j k y z → Close (i + j) k x z
+pub close-through : (i j k : ℕ) (x y z : Frac) → Ok y → Close i k x y → Close j k y z
+    → Close (i + j) k x z
 close-through i j k x y z Y h g = (
   up-through i j k (x .p) (x .n) (x .c) (y .p) (y .n) (y .c) (z .p) (z .n) (z .c) Y (h .0) (g .0),
-  rw (add-comm i j) (up-through j i k (z .p) (z .n) (z .c) (y .p) (y .n) (y .c) (x .p) (x .n) (x .c) Y (g .1) (h .1)),
+  rw (add-comm i j)
+      (up-through j i k (z .p) (z .n) (z .c) (y .p) (y .n) (y .c) (x .p) (x .n) (x .c) Y (g .1)
+      (h .1)),
 )
 
 -- a fraction of the same value in the place of y
-pub close-same : (i k : ℕ) (x y z : Frac) → Ok y → Close i k x y → Below y z → Below z y → Close i k x z
+pub close-same : (i k : ℕ) (x y z : Frac) → Ok y → Close i k x y → Below y z → Below z y
+    → Close i k x z
 close-same i k x y z Y h a b = (
   up-le i k (x .p) (x .n) (x .c) (y .p) (y .n) (y .c) (z .p) (z .n) (z .c) Y (h .0) a,
   le-up i k (z .p) (z .n) (z .c) (y .p) (y .n) (y .c) (x .p) (x .n) (x .c) Y b (h .1),
@@ -97,14 +103,17 @@ pub close-cut : (g i k : ℕ) (x y : Frac) → 0 < g → Close (g * i) (g * k) x
 close-cut g i k x y G h = (upto-cut g i k x y G (h .0), upto-cut g i k y x G (h .1))
 
 -- ---- sums and differences
-upto-plus : (i j k : ℕ) (x z y w : Frac) → Upto i k x z → Upto j k y w → Upto (i + j) k (plus x y) (plus z w)
+upto-plus : (i j k : ℕ) (x z y w : Frac) → Upto i k x z → Upto j k y w
+    → Upto (i + j) k (plus x y) (plus z w)
 upto-plus i j k x z y w h g =
     let first = simp poly at (mul-le-mul-right (y .c * w .c) h) in
     let second = simp poly at (mul-le-mul-right (x .c * z .c) g) in
     simp poly (omega arith)
 
-pub close-plus : (i j k : ℕ) (x z y w : Frac) → Close i k x z → Close j k y w → Close (i + j) k (plus x y) (plus z w)
-close-plus i j k x z y w h g = (upto-plus i j k x z y w (h .0) (g .0), upto-plus i j k z x w y (h .1) (g .1))
+pub close-plus : (i j k : ℕ) (x z y w : Frac) → Close i k x z → Close j k y w
+    → Close (i + j) k (plus x y) (plus z w)
+close-plus i j k x z y w h g =
+    (upto-plus i j k x z y w (h .0) (g .0), upto-plus i j k z x w y (h .1) (g .1))
 
 close-opposite : (i k : ℕ) (x y : Frac) → Close i k x y → Close i k (opposite x) (opposite y)
 close-opposite i k x y h = (
@@ -112,8 +121,10 @@ close-opposite i k x y h = (
   up-flip i k (x .p) (x .n) (x .c) (y .p) (y .n) (y .c) (h .0),
 )
 
-pub close-minus : (i j k : ℕ) (x z y w : Frac) → Close i k x z → Close j k y w → Close (i + j) k (minus x y) (minus z w)
-close-minus i j k x z y w h g = close-plus i j k x z (opposite y) (opposite w) h (close-opposite j k y w g)
+pub close-minus : (i j k : ℕ) (x z y w : Frac) → Close i k x z → Close j k y w
+    → Close (i + j) k (minus x y) (minus z w)
+close-minus i j k x z y w h g =
+    close-plus i j k x z (opposite y) (opposite w) h (close-opposite j k y w g)
 
 -- ---- products
 times-commutes : (x y : Frac) → times x y ≡ times y x
@@ -127,36 +138,50 @@ times-commutes x y = λ i. record { p = top i; n = bottom i; c = mul-comm (x .c)
 
 -- x ≤ y + i / k, times a / e, which is (n + a - n) / e
 upto-times : (i j k e n a : ℕ) (x y : Frac) → i * a ≤ j * e → Upto i k x y
-    → Up j k (x .p * (n + a) + x .n * n) (x .p * n + x .n * (n + a)) (x .c * e) (y .p * (n + a) + y .n * n) (y .p * n + y .n * (n + a)) (y .c * e)
+    → Up j k (x .p * (n + a) + x .n * n) (x .p * n + x .n * (n + a)) (x .c * e)
+    (y .p * (n + a) + y .n * n) (y .p * n + y .n * (n + a)) (y .c * e)
 upto-times i j k e n a x y s h =
     let near = simp poly at (mul-le-mul-right (a * e) h) in
     let slack = simp poly at (mul-le-mul-right (x .c * y .c * e) s) in
     simp poly (omega arith)
 
 -- what is i / k apart is j / k apart, times an r with i * |r| ≤ j
-pub close-times-by : (i j k : ℕ) (r x y : Frac) → Sized i j r → Close i k x y → Close j k (times x r) (times y r)
-close-times-by i j k r x y s h = (go x y (h .0) (h .1) (r .p) (r .n) (s .0) (s .1), go y x (h .1) (h .0) (r .p) (r .n) (s .0) (s .1))
+pub close-times-by : (i j k : ℕ) (r x y : Frac) → Sized i j r → Close i k x y
+    → Close j k (times x r) (times y r)
+close-times-by i j k r x y s h = (
+  go x y (h .0) (h .1) (r .p) (r .n) (s .0) (s .1),
+  go y x (h .1) (h .0) (r .p) (r .n) (s .0) (s .1),
+)
   where
-    go : (x y : Frac) → Upto i k x y → Upto i k y x → (p n : ℕ) → i * p ≤ i * n + j * r .c → i * n ≤ i * p + j * r .c
+    go : (x y : Frac) → Upto i k x y → Upto i k y x → (p n : ℕ) → i * p ≤ i * n + j * r .c
+        → i * n ≤ i * p + j * r .c
         → Upto j k (times x (frac p n (r .c))) (times y (frac p n (r .c)))
     go x y h g =
         by-sign
-        (λ (p n : ℕ). i * p ≤ i * n + j * r .c → i * n ≤ i * p + j * r .c → Upto j k (times x (frac p n (r .c))) (times y (frac p n (r .c))))
+        (λ (p n : ℕ). i * p ≤ i * n + j * r .c → i * n ≤ i * p + j * r .c
+        → Upto j k (times x (frac p n (r .c))) (times y (frac p n (r .c))))
         (λ n a u v. upto-times i j k (r .c) n a x y (omega arith) h)
         (λ p a u v. up-flip j k _ _ _ _ _ _ (upto-times i j k (r .c) p a y x (omega arith) g))
 
 -- |r| ≤ b gives i * |r| ≤ i * b
 pub size→sized : (i b : ℕ) (r : Frac) → Size b r → Sized i (i * b) r
-size→sized i b r h = (omega (arith, mul-le-mul-left i (h .0)), omega (arith, mul-le-mul-left i (h .1)))
+size→sized i b r h =
+    (omega (arith, mul-le-mul-left i (h .0)), omega (arith, mul-le-mul-left i (h .1)))
 
-pub close-times-right : (i k b : ℕ) (r x y : Frac) → Size b r → Close i k x y → Close (b * i) k (times x r) (times y r)
-close-times-right i k b r x y s h = close-times-by i (b * i) k r x y (rw (mul-comm b i) (size→sized i b r s)) h
+pub close-times-right : (i k b : ℕ) (r x y : Frac) → Size b r → Close i k x y
+    → Close (b * i) k (times x r) (times y r)
+close-times-right i k b r x y s h =
+    close-times-by i (b * i) k r x y (rw (mul-comm b i) (size→sized i b r s)) h
 
-pub close-times-left : (i k b : ℕ) (r x y : Frac) → Size b r → Close i k x y → Close (b * i) k (times r x) (times r y)
-close-times-left i k b r x y s h = subst₂ (Close (b * i) k) (times-commutes x r) (times-commutes y r) (close-times-right i k b r x y s h)
+pub close-times-left : (i k b : ℕ) (r x y : Frac) → Size b r → Close i k x y
+    → Close (b * i) k (times r x) (times r y)
+close-times-left i k b r x y s h =
+    subst₂ (Close (b * i) k) (times-commutes x r) (times-commutes y r)
+    (close-times-right i k b r x y s h)
 
 -- two products: |x y - z w| ≤ |x - z| |y| + |z| |y - w|
-pub close-times : (i j k b a : ℕ) (x z y w : Frac) → Ok z → Ok y → Size b y → Size a z → Close i k x z → Close j k y w
+pub close-times : (i j k b a : ℕ) (x z y w : Frac) → Ok z → Ok y → Size b y → Size a z
+    → Close i k x z → Close j k y w
     → Close (b * i + a * j) k (times x y) (times z w)
 close-times i j k b a x z y w Z Y s t h g =
     close-through (b * i) (a * j) k (times x y) (times z y) (times z w) (mul-pos Z Y)
@@ -178,13 +203,21 @@ abbrev Product : ℕ → ℕ → ℕ → ℕ → ℕ → Type 0
 Product p n q m k = p * q + n * m ≤ p * m + n * q + k
 
 -- |p - n| / e ≤ a and a * |q - m| / d ≤ b give (p - n) / e * (q - m) / d ≤ b
-product-most : (a b e d p n q m : ℕ) → p ≤ n + a * e → n ≤ p + a * e → a * q ≤ a * m + b * d → a * m ≤ a * q + b * d → Product p n q m (b * (e * d))
+product-most : (a b e d p n q m : ℕ) → p ≤ n + a * e → n ≤ p + a * e → a * q ≤ a * m + b * d
+    → a * m ≤ a * q + b * d → Product p n q m (b * (e * d))
 product-most a b e d p n q m =
-    by-sign (λ (p n : ℕ). p ≤ n + a * e → n ≤ p + a * e → a * q ≤ a * m + b * d → a * m ≤ a * q + b * d → Product p n q m (b * (e * d)))
-    (λ n u h k. by-sign (λ (q m : ℕ). a * q ≤ a * m + b * d → a * m ≤ a * q + b * d → Product (n + u) n q m (b * (e * d)))
-    (λ m w g i. omega (arith, part a b e d u w (omega arith) (omega arith))) (λ q w g i. omega arith) q m)
-    (λ p u h k. by-sign (λ (q m : ℕ). a * q ≤ a * m + b * d → a * m ≤ a * q + b * d → Product p (p + u) q m (b * (e * d)))
-    (λ m w g i. omega arith) (λ q w g i. omega (arith, part a b e d u w (omega arith) (omega arith))) q m)
+    by-sign (λ (p n : ℕ). p ≤ n + a * e → n ≤ p + a * e → a * q ≤ a * m + b * d
+    → a * m ≤ a * q + b * d → Product p n q m (b * (e * d)))
+    (λ n u h k.
+    by-sign (λ (q m : ℕ). a * q ≤ a * m + b * d → a * m ≤ a * q + b * d
+    → Product (n + u) n q m (b * (e * d)))
+    (λ m w g i. omega (arith, part a b e d u w (omega arith) (omega arith)))
+    (λ q w g i. omega arith) q m)
+    (λ p u h k.
+    by-sign (λ (q m : ℕ). a * q ≤ a * m + b * d → a * m ≤ a * q + b * d
+    → Product p (p + u) q m (b * (e * d)))
+    (λ m w g i. omega arith)
+    (λ q w g i. omega (arith, part a b e d u w (omega arith) (omega arith))) q m)
     p n
 
 -- |x| ≤ a and a * |y| ≤ b give |x * y| ≤ b
@@ -197,23 +230,29 @@ size-times-by a b x y h g = (
 pub size-times : (a b : ℕ) (x y : Frac) → Size a x → Size b y → Size (a * b) (times x y)
 size-times a b x y h g = size-times-by a (a * b) x y h (size→sized a b y g)
 
--- ---- the size of what is near: h * |y| ≤ b, and x within i / k of y with h * i ≤ k, give h * |x| ≤ b + 1
-sized-next : (h b i k : ℕ) (x y : Frac) → 0 < k → Ok y → h * i ≤ k → h * y .p ≤ h * y .n + b * y .c → Upto i k x y
+-- ---- the size of what is near: h * |y| ≤ b, and x within i / k of y with h * i
+-- ≤ k, give h * |x| ≤ b + 1
+sized-next : (h b i k : ℕ) (x y : Frac) → 0 < k → Ok y → h * i ≤ k → h * y .p ≤ h * y .n + b * y .c
+    → Upto i k x y
     → h * x .p ≤ h * x .n + (b + 1) * x .c
 sized-next h b i k x y K Y l s u =
     let size = simp poly at (mul-le-mul-left (k * x .c) s) in
     let near = simp poly at (mul-le-mul-left h u) in
     let slack = simp poly at (mul-le-mul-right (x .c * y .c) l) in
-    le-of-mul-le-mul-right {m = h * x .p} {n = h * x .n + (b + 1) * x .c} {k = k * y .c} (simp poly (omega arith)) (mul-pos K Y)
+    le-of-mul-le-mul-right {m = h * x .p} {n = h * x .n + (b + 1) * x .c} {k = k * y .c}
+    (simp poly (omega arith)) (mul-pos K Y)
 
-pub sized-close : (h b i k : ℕ) (x y : Frac) → 0 < k → Ok y → h * i ≤ k → Sized h b y → Close i k x y → Sized h (b + 1) x
+pub sized-close : (h b i k : ℕ) (x y : Frac) → 0 < k → Ok y → h * i ≤ k → Sized h b y
+    → Close i k x y → Sized h (b + 1) x
 sized-close h b i k x y K Y l s g = (
   sized-next h b i k x y K Y l (s .0) (g .0),
   sized-next h b i k (opposite x) (opposite y) K Y l (s .1) (close-opposite i k x y g .0),
 )
 
 -- what is near something of size b, within 1, is of size b + 1
-pub size-close : (i k b : ℕ) (x y : Frac) → 0 < k → Ok y → i ≤ k → Size b y → Close i k x y → Size (b + 1) x
+pub size-close : (i k b : ℕ) (x y : Frac) → 0 < k → Ok y → i ≤ k → Size b y → Close i k x y
+    → Size (b + 1) x
 size-close i k b x y K Y l s h =
-    let t = sized-close 1 b i k x y K Y (omega arith) (omega (arith, s .0), omega (arith, s .1)) h in
+    let t = sized-close 1 b i k x y K Y (omega arith) (omega (arith, s .0), omega (arith, s .1))
+    h in
     (omega (arith, t .0), omega (arith, t .1))

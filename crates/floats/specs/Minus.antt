@@ -1,7 +1,16 @@
--- A float of the format less a whole number not above it: exact, since the difference needs no finer digits and no more of them.
+-- A float of the format less a whole number not above it: exact, since the difference needs no
+-- finer digits and no more of them.
 use mathlib.Core.Path.{_≡_, refl, ap}
 use Prim.Native.Nat.{ℕ, zero, suc, _+_, _-_, _*_, _^_, _≤_, _<_}
-use native.Mathlib.Nat.{add-sub-of-le, mul-le-mul-right, le-of-mul-le-mul-right, lt-of-mul-lt-mul-right, le-of-suc-le-suc, lt-of-not-le, not-le-of-lt}
+use native.Mathlib.Nat.{
+  add-sub-of-le,
+  mul-le-mul-right,
+  le-of-mul-le-mul-right,
+  lt-of-mul-lt-mul-right,
+  le-of-suc-le-suc,
+  lt-of-not-le,
+  not-le-of-lt,
+}
 use native.Mathlib.Omega.{arith}
 use mathlib.Core.Bool.{true, false}
 use lib.IntN.{pos, negsuc}
@@ -30,17 +39,26 @@ exponent : (i : ℕ) → 2 ^ i ≤ 2 ^ 149 → i ≤ 149
 exponent i h = le-of-suc-le-suc (lt-of-not-le (λ (g : 150 ≤ i). not-le-of-lt (pow-lt g) h))
 
 -- a value p / c below 2 ^ 24
-dyadic-of : (v : Float) (p c : ℕ) → T (fits binary32 v) → 0 < c → Is v p 0 c → p < 2 ^ 24 * c → Dyadic v
+dyadic-of : (v : Float) (p c : ℕ) → T (fits binary32 v) → 0 < c → Is v p 0 c → p < 2 ^ 24 * c
+    → Dyadic v
 unfolding fits
 dyadic-of nan p c t C h l = absurd (h .0)
 dyadic-of (inf s) p c t C h l = absurd (h .0)
 dyadic-of (fin true m e) p c t C h l = zero-of (fin true m e) (tt, none (m * up e) (h .1))
   where
-    none : (a : ℕ) → 0 * c + 0 * down e ≡ p * down e + a * c → 0 * 1 + 0 * down e ≡ 0 * down e + a * 1
+    none : (a : ℕ) → 0 * c + 0 * down e ≡ p * down e + a * c
+        → 0 * 1 + 0 * down e ≡ 0 * down e + a * 1
     none a h = let z : a ≤ 0 = le-of-mul-le-mul-right {k = c} (omega arith) C in omega arith
 dyadic-of (fin false m (pos k)) p c t C h l =
-    record { q = m * 2 ^ k; i = 0; few = lt-of-mul-lt-mul-right c (omega (arith, h .1)); fine = lit≤ tt; is = (tt, refl) }
-dyadic-of (fin false zero (negsuc k)) p c t C h l = zero-of (fin false zero (negsuc k)) (tt, omega arith)
+    record {
+      q = m * 2 ^ k;
+      i = 0;
+      few = lt-of-mul-lt-mul-right c (omega (arith, h .1));
+      fine = lit≤ tt;
+      is = (tt, refl);
+    }
+dyadic-of (fin false zero (negsuc k)) p c t C h l =
+    zero-of (fin false zero (negsuc k)) (tt, omega arith)
 dyadic-of (fin false (suc m) (negsuc k)) p c t C h l =
     let parts = fits-parts binary32 false m (negsuc k) t in
     record {
@@ -53,9 +71,11 @@ dyadic-of (fin false (suc m) (negsuc k)) p c t C h l =
 
 -- two fractions of one float
 equal : (v : Float) (p n c q m d : ℕ) → Is v p n c → Is v q m d → Le p n c q m d
-equal v p n c q m d h g = le-through p n c (top v) (bot v) (den v) q m d (den-pos v) (is→ge v p n c h) (is→le v q m d g)
+equal v p n c q m d h g =
+    le-through p n c (top v) (bot v) (den v) q m d (den-pos v) (is→ge v p n c h) (is→le v q m d g)
 
-pub minus-whole : (v x : Float) (a p c : ℕ) → T (fits binary32 v) → 0 < c → Is v p 0 c → Is x a 0 1 → a * c ≤ p → p < 2 ^ 24 * c
+pub minus-whole : (v x : Float) (a p c : ℕ) → T (fits binary32 v) → 0 < c → Is v p 0 c → Is x a 0 1
+    → a * c ≤ p → p < 2 ^ 24 * c
     → Is (v ⊖ x) (p - a * c) 0 c
 minus-whole v x a p c t C iv ix l u = from (dyadic-of v p c t C iv u)
   where
@@ -66,7 +86,8 @@ minus-whole v x a p c t C iv ix l u = from (dyadic-of v p c t C iv u)
         let e = equal v q 0 d p 0 c (y .is) iv in
         let g = equal v p 0 c q 0 d iv (y .is) in
         let f : (a * c + (p - a * c)) * d ≡ p * d = ap (λ (z : ℕ). z * d) (add-sub-of-le l) in
-        let b : a * d ≤ q = le-of-mul-le-mul-right {k = c} (omega (arith, mul-le-mul-right d l)) C in
+        let b : a * d ≤ q =
+        le-of-mul-le-mul-right {k = c} (omega (arith, mul-le-mul-right d l)) C in
         is-same (v ⊖ x) (q + 0) (0 + a * d) d (p - a * c) 0 c (pow-pos (y .i))
         (dyadic-sub v x q 0 (a * d) 0 (y .i) (y .fine) (omega (arith, y .few)) (omega arith) (y .is)
         (is-same x a 0 1 (a * d) 0 d (lit< tt) ix (omega arith)))

@@ -1,4 +1,5 @@
--- A whole number nearest to a value within 1 / 16,384 of a fraction is nearest to the fraction itself, and to a fine fraction all but nearest.
+-- A whole number nearest to a value within 1 / 16,384 of a fraction is nearest to the fraction
+-- itself, and to a fine fraction all but nearest.
 -- Nothing here is about floats.
 use Prim.Native.Nat.{ℕ, _<_}
 use native.Mathlib.Omega.{arith}
@@ -11,7 +12,8 @@ Nearest R x = Close 1 2 (frac R 0 1) x
 module _ (R : ℕ) (x r : Frac) (X : Ok x) (n : Nearest R x) (near : Close 1 16384 x r) where
   -- within 1 / 2 + 1 / 16,384
   pub nearly : Close 8193 16384 (frac R 0 1) r
-  nearly = close-through 8192 1 16384 (frac R 0 1) x r X (omega (arith, n .0), omega (arith, n .1)) near
+  nearly = close-through 8192 1 16384 (frac R 0 1) x r X (omega (arith, n .0), omega (arith, n .1))
+      near
 
   -- a fraction of less than 8,192 parts leaves nothing between
   pub nearest : r .c < 8192 → Nearest R r

@@ -1,4 +1,5 @@
--- The signs of the numerical literature for the operations of IEEE 754 at single precision: each rounds once, to the nearest, a tie to even.
+-- The signs of the numerical literature for the operations of IEEE 754 at single precision: each
+-- rounds once, to the nearest, a tie to even.
 -- They bind as + - * / do, to the left. Definitions only.
 use lib.Ieee.{Float, binary32, add, sub, mul, div}
 

@@ -1,4 +1,5 @@
--- What each operation rounds: the exact sum, difference, product and quotient, as a signed fraction made of any fractions that the operands equal.
+-- What each operation rounds: the exact sum, difference, product and quotient, as a signed fraction
+-- made of any fractions that the operands equal.
 use mathlib.Core.Path.{_≡_, refl, sym, ap, _∙_}
 use mathlib.Core.Logic.{inl, inr}
 use Prim.Native.Nat.{ℕ, _+_, _-_, _*_, _≤_, _<_}
@@ -72,11 +73,13 @@ unfolding sum
 opposite f a b c = go (ltb a b) (ltb b a) (ltb→lt a b) (ltb→lt b a) (nltb→le a b) (nltb→le b a)
   where
     go : (t u : Bool) → (T t → a < b) → (T u → b < a) → (T (not t) → b ≤ a) → (T (not u) → a ≤ b)
-        → cond t (round f true (b - a) c) (round f false (a - b) c) ≡ cond u (round f false (a - b) c) (round f t (b - a) c)
+        → cond t (round f true (b - a) c) (round f false (a - b) c)
+        ≡ cond u (round f false (a - b) c) (round f t (b - a) c)
     go true true h k i j = let none : ⊥ = omega (arith, h tt, k tt) in absurd none
     go true false h k i j = refl
     go false true h k i j = refl
-    go false false h k i j = let zero : a - b ≡ b - a = omega (arith, i tt, j tt) in ap (λ (z : ℕ). round f false z c) zero
+    go false false h k i j = let zero : a - b ≡ b - a = omega (arith, i tt, j tt) in
+        ap (λ (z : ℕ). round f false z c) zero
 
 sum-swap : (f : Format) (s : Bool) (a : ℕ) (t : Bool) (b c : ℕ) → sum f s a t b c ≡ sum f t b s a c
 unfolding sum
@@ -101,7 +104,8 @@ add-commutes f (fin s m e) (inf t) = refl
 add-commutes f (fin s m e) (fin t n d) =
     let a = m * up e * down d in
     let b = n * up d * down e in
-    sum-swap f s a t b (down e * down d) ∙ ap (λ (c : ℕ). sum f t b s a c) (mul-comm (down e) (down d))
+    sum-swap f s a t b (down e * down d)
+    ∙ ap (λ (c : ℕ). sum f t b s a c) (mul-comm (down e) (down d))
 
 pub mul-commutes : (f : Format) (x y : Float) → mul f x y ≡ mul f y x
 unfolding mul
@@ -124,41 +128,53 @@ differ : (f : Format) (a b c p n : ℕ) → p ≡ a → n ≡ b → Rounds f (su
 unfolding sum
 differ f a b c p n e g = go (ltb a b) (ltb→lt a b) (nltb→le a b)
   where
-    go : (t : Bool) → (T t → a < b) → (T (not t) → b ≤ a) → Rounds f (cond t (round f true (b - a) c) (round f false (a - b) c)) p n c
+    go : (t : Bool) → (T t → a < b) → (T (not t) → b ≤ a)
+        → Rounds f (cond t (round f true (b - a) c) (round f false (a - b) c)) p n c
     go true h k = under (b - a) (let l = h tt in omega arith) refl
     go false h k = over (a - b) (let l = k tt in omega arith) refl
 
 pub add-own : (f : Format) (x y : Float) → T (finite x) → T (finite y)
-    → Rounds f (add f x y) (top x * den y + top y * den x) (bot x * den y + bot y * den x) (den x * den y)
+    → Rounds f (add f x y) (top x * den y + top y * den x) (bot x * den y + bot y * den x)
+    (den x * den y)
 unfolding add sum
 add-own f nan y p q = absurd p
 add-own f (inf s) y p q = absurd p
 add-own f (fin s m e) nan p q = absurd q
 add-own f (fin s m e) (inf t) p q = absurd q
-add-own f (fin false m e) (fin false n d) p q = over (m * up e * down d + n * up d * down e) (omega arith) refl
+add-own f (fin false m e) (fin false n d) p q =
+    over (m * up e * down d + n * up d * down e) (omega arith) refl
 add-own f (fin false m e) (fin true n d) p q =
-    differ f (m * up e * down d) (n * up d * down e) (down e * down d) (m * up e * down d + 0 * down e) (0 * down d + n * up d * down e)
+    differ f (m * up e * down d) (n * up d * down e) (down e * down d)
+    (m * up e * down d + 0 * down e) (0 * down d + n * up d * down e)
     (omega arith) (omega arith)
 add-own f (fin true m e) (fin false n d) p q =
     rw (← opposite f (n * up d * down e) (m * up e * down d) (down e * down d))
-    (differ f (n * up d * down e) (m * up e * down d) (down e * down d) (0 * down d + n * up d * down e) (m * up e * down d + 0 * down e)
+    (differ f (n * up d * down e) (m * up e * down d) (down e * down d)
+    (0 * down d + n * up d * down e) (m * up e * down d + 0 * down e)
     (omega arith) (omega arith))
-add-own f (fin true m e) (fin true n d) p q = under (m * up e * down d + n * up d * down e) (omega arith) refl
+add-own f (fin true m e) (fin true n d) p q =
+    under (m * up e * down d + n * up d * down e) (omega arith) refl
 
-pub add-rounds : (f : Format) (x y : Float) (p n c q m d : ℕ) → 0 < c → 0 < d → Is x p n c → Is y q m d
+pub add-rounds : (f : Format) (x y : Float) (p n c q m d : ℕ) → 0 < c → 0 < d → Is x p n c
+    → Is y q m d
     → Rounds f (add f x y) (p * d + q * c) (n * d + m * c) (c * d)
 add-rounds f x y p n c q m d C D h k =
-    rounds-same f (add f x y) (top x * den y + top y * den x) (bot x * den y + bot y * den x) (den x * den y)
+    rounds-same f (add f x y) (top x * den y + top y * den x) (bot x * den y + bot y * den x)
+    (den x * den y)
     (p * d + q * c) (n * d + m * c) (c * d) (mul-pos (den-pos x) (den-pos y)) (mul-pos C D)
-    (add-own f x y (h .0) (k .0)) (sum-same (top x) (bot x) (den x) (top y) (bot y) (den y) p n c q m d (h .1) (k .1))
+    (add-own f x y (h .0) (k .0))
+    (sum-same (top x) (bot x) (den x) (top y) (bot y) (den y) p n c q m d (h .1) (k .1))
 
-pub sub-rounds : (f : Format) (x y : Float) (p n c q m d : ℕ) → 0 < c → 0 < d → Is x p n c → Is y q m d
+pub sub-rounds : (f : Format) (x y : Float) (p n c q m d : ℕ) → 0 < c → 0 < d → Is x p n c
+    → Is y q m d
     → Rounds f (sub f x y) (p * d + m * c) (n * d + q * c) (c * d)
-sub-rounds f x y p n c q m d C D h k = rw sub-is (add-rounds f x (neg y) p n c m q d C D h (is-neg y q m d k))
+sub-rounds f x y p n c q m d C D h k =
+    rw sub-is (add-rounds f x (neg y) p n c m q d C D h (is-neg y q m d k))
 
 -- ---- the product
 mul-own : (f : Format) (x y : Float) → T (finite x) → T (finite y)
-    → Rounds f (mul f x y) (top x * top y + bot x * bot y) (top x * bot y + bot x * top y) (den x * den y)
+    → Rounds f (mul f x y) (top x * top y + bot x * bot y) (top x * bot y + bot x * top y)
+    (den x * den y)
 unfolding mul
 mul-own f nan y p q = absurd p
 mul-own f (inf s) y p q = absurd p
@@ -169,15 +185,19 @@ mul-own f (fin false m e) (fin true n d) p q = under (m * up e * (n * up d)) (om
 mul-own f (fin true m e) (fin false n d) p q = under (m * up e * (n * up d)) (omega arith) refl
 mul-own f (fin true m e) (fin true n d) p q = over (m * up e * (n * up d)) (omega arith) refl
 
-pub mul-rounds : (f : Format) (x y : Float) (p n c q m d : ℕ) → 0 < c → 0 < d → Is x p n c → Is y q m d
+pub mul-rounds : (f : Format) (x y : Float) (p n c q m d : ℕ) → 0 < c → 0 < d → Is x p n c
+    → Is y q m d
     → Rounds f (mul f x y) (p * q + n * m) (p * m + n * q) (c * d)
 mul-rounds f x y p n c q m d C D h k =
-    rounds-same f (mul f x y) (top x * top y + bot x * bot y) (top x * bot y + bot x * top y) (den x * den y)
+    rounds-same f (mul f x y) (top x * top y + bot x * bot y) (top x * bot y + bot x * top y)
+    (den x * den y)
     (p * q + n * m) (p * m + n * q) (c * d) (mul-pos (den-pos x) (den-pos y)) (mul-pos C D)
-    (mul-own f x y (h .0) (k .0)) (product-same (top x) (bot x) (den x) (top y) (bot y) (den y) p n c q m d (h .1) (k .1))
+    (mul-own f x y (h .0) (k .0))
+    (product-same (top x) (bot x) (den x) (top y) (bot y) (den y) p n c q m d (h .1) (k .1))
 
 -- ---- the quotient, by a divisor above zero and by one below
-scaled : (f : Format) (x : Float) (a c : ℕ) → T (finite x) → Rounds f (round f (sign x) (num x * a) c) (top x * a) (bot x * a) c
+scaled : (f : Format) (x : Float) (a c : ℕ) → T (finite x)
+    → Rounds f (round f (sign x) (num x * a) c) (top x * a) (bot x * a) c
 scaled f nan a c p = absurd p
 scaled f (inf s) a c p = absurd p
 scaled f (fin false m e) a c p = over (m * up e * a) (omega arith) refl
@@ -194,7 +214,8 @@ by-size f x y p n c q d C Q N h e =
     (quotient-same (top x) (bot x) (den x) (num y) (den y) p n c q d (h .1) e)
 
 -- (p - n) / c over q / d is (p - n) * d / (c * q)
-pub div-rounds : (f : Format) (x y : Float) (p n c q d : ℕ) → 0 < c → 0 < d → 0 < q → Is x p n c → Is y q 0 d
+pub div-rounds : (f : Format) (x y : Float) (p n c q d : ℕ) → 0 < c → 0 < d → 0 < q → Is x p n c
+    → Is y q 0 d
     → Rounds f (div f x y) (p * d) (n * d) (c * q)
 div-rounds f x y p n c q d C D Q h k =
     let apart = inl (sym (zero-add q)) in

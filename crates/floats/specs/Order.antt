@@ -10,7 +10,19 @@ use lib.Ieee.Bits.{is-false}
 use lib.Ieee.Scale.{finite}
 use lib.Ieee.Positive.{den, den-pos}
 use Rattle.floats.specs.Signed.{le-through}
-use Rattle.floats.specs.Value.{top, bot, Is, own, is-neg, unsigned, le-of, of-le, le-of-is, of-lt, le-of-nlt}
+use Rattle.floats.specs.Value.{
+  top,
+  bot,
+  Is,
+  own,
+  is-neg,
+  unsigned,
+  le-of,
+  of-le,
+  le-of-is,
+  of-lt,
+  le-of-nlt,
+}
 
 -- a comparison that holds has no NaN
 pub le-numbers : (x y : Float) → T (le x y) → T (not (isNan x)) × T (not (isNan y))
@@ -39,7 +51,8 @@ under-bottom (inf false) h = absurd h
 under-bottom (fin s m e) h = absurd h
 
 -- what lies between two finite floats is finite
-pub finite-between : (a z b : Float) → T (finite a) → T (finite b) → T (le a z) → T (le z b) → T (finite z)
+pub finite-between : (a z b : Float) → T (finite a) → T (finite b) → T (le a z) → T (le z b)
+    → T (finite z)
 unfolding le
 finite-between a nan b p q h k = absurd k
 finite-between nan (inf s) b p q h k = absurd p
@@ -64,13 +77,16 @@ le-trans (fin s m e) y (fin u o c) h k =
     let z = fin u o c in
     let f = finite-between x y z tt tt h k in
     le-of x z tt tt
-    (le-through (top x) (bot x) (den x) (top y) (bot y) (den y) (top z) (bot z) (den z) (den-pos y) (of-le x y tt f h) (of-le y z f tt k))
+    (le-through (top x) (bot x) (den x) (top y) (bot y) (den y) (top z) (bot z) (den z) (den-pos y)
+    (of-le x y tt f h) (of-le y z f tt k))
 
 -- ---- floats of one value are in the same order
-pub above-equal : (x y z : Float) (p n c : ℕ) → 0 < c → Is x p n c → Is y p n c → T (le y z) → T (le x z)
+pub above-equal : (x y z : Float) (p n c : ℕ) → 0 < c → Is x p n c → Is y p n c → T (le y z)
+    → T (le x z)
 above-equal x y z p n c C i j l = le-trans x y z (le-of-is x y p n c p n c C C i j (le-refl _)) l
 
-pub below-equal : (x y z : Float) (p n c : ℕ) → 0 < c → Is x p n c → Is y p n c → T (le z y) → T (le z x)
+pub below-equal : (x y z : Float) (p n c : ℕ) → 0 < c → Is x p n c → Is y p n c → T (le z y)
+    → T (le z x)
 below-equal x y z p n c C i j l = le-trans z y x l (le-of-is y x p n c p n c C C j i (le-refl _))
 
 -- ---- the strict order
@@ -82,7 +98,8 @@ le-of-lt x y h = left (lt x y) h
     left true i = tt
     left false i = absurd i
 
-pub le-of-not-lt : (x y : Float) → T (not (isNan x)) → T (not (isNan y)) → lt x y ≡ false → T (le y x)
+pub le-of-not-lt : (x y : Float) → T (not (isNan x)) → T (not (isNan y)) → lt x y ≡ false
+    → T (le y x)
 unfolding isNan le
 le-of-not-lt nan y p q h = absurd p
 le-of-not-lt (inf s) nan p q h = absurd q
@@ -113,7 +130,8 @@ not-lt-of-le (fin s m e) (inf false) h = refl
 not-lt-of-le (fin s m e) (fin t n d) h =
     let x = fin s m e in
     let y = fin t n d in
-    is-false (lt y x) (not-T (lt y x) (λ (k : T (lt y x)). not-le-of-lt (of-lt y x tt tt k) (of-le x y tt tt h)))
+    is-false (lt y x)
+    (not-T (lt y x) (λ (k : T (lt y x)). not-le-of-lt (of-lt y x tt tt k) (of-le x y tt tt h)))
 
 -- ---- a sign changed
 pub le-neg : (x y : Float) → T (le x y) → T (le (neg y) (neg x))
@@ -132,8 +150,10 @@ le-neg (fin s m e) (inf false) h = tt
 le-neg (fin s m e) (fin t n d) h =
     let x = fin s m e in
     let y = fin t n d in
-    le-of-is (fin (not t) n d) (fin (not s) m e) (bot y) (top y) (den y) (bot x) (top x) (den x) (den-pos y) (den-pos x)
-    (is-neg y (top y) (bot y) (den y) (own y tt)) (is-neg x (top x) (bot x) (den x) (own x tt)) (omega (arith, of-le x y tt tt h))
+    le-of-is (fin (not t) n d) (fin (not s) m e) (bot y) (top y) (den y) (bot x) (top x) (den x)
+    (den-pos y) (den-pos x)
+    (is-neg y (top y) (bot y) (den y) (own y tt)) (is-neg x (top x) (bot x) (den x) (own x tt))
+    (omega (arith, of-le x y tt tt h))
 
 -- what has a sign is not above what has none
 pub le-cross : (x y : Float) → T (unsigned x) → T (unsigned y) → T (le (neg x) y)
@@ -149,4 +169,5 @@ le-cross (fin false m e) nan p q = absurd q
 le-cross (fin false m e) (inf true) p q = absurd q
 le-cross (fin false m e) (inf false) p q = tt
 le-cross (fin false m e) (fin true n d) p q = absurd q
-le-cross (fin false m e) (fin false n d) p q = le-of (fin true m e) (fin false n d) tt tt (omega arith)
+le-cross (fin false m e) (fin false n d) p q =
+    le-of (fin true m e) (fin false n d) tt tt (omega arith)

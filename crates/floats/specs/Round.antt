@@ -1,7 +1,15 @@
--- The float that a signed fraction (p - n) / c is rounded to: the sign goes through, the order is kept, and only the fraction's value counts.
+-- The float that a signed fraction (p - n) / c is rounded to: the sign goes through, the order is
+-- kept, and only the fraction's value counts.
 use mathlib.Core.Path.{_≡_, refl, sym, ap, _∙_}
 use Prim.Native.Nat.{ℕ, zero, suc, _+_, _*_, _^_, _<_}
-use native.Mathlib.Nat.{le-of-eq, le-dest, lt-of-le-of-lt, le-of-mul-le-mul-right, eq-of-mul-eq-mul-right, zero-mul}
+use native.Mathlib.Nat.{
+  le-of-eq,
+  le-dest,
+  lt-of-le-of-lt,
+  le-of-mul-le-mul-right,
+  eq-of-mul-eq-mul-right,
+  zero-mul,
+}
 use native.Mathlib.Omega.{arith}
 use mathlib.Core.Bool.{Bool, true, false, not, cond}
 use lib.Dec.{T, ltb}
@@ -30,7 +38,9 @@ neg-units : (f : Format) (q k : ℕ) → neg (units f false q k) ≡ units f tru
 unfolding units
 neg-units f q k = go (ltb (q * 2 ^ k) (2 ^ (low f + suc (emax f))))
   where
-    go : (b : Bool) → neg (cond b (odd (suc (prec f)) false q k (low f)) (inf false)) ≡ cond b (odd (suc (prec f)) true q k (low f)) (inf true)
+    go : (b : Bool)
+        → neg (cond b (odd (suc (prec f)) false q k (low f)) (inf false))
+        ≡ cond b (odd (suc (prec f)) true q k (low f)) (inf true)
     go true = neg-odd (suc (prec f)) q k (low f)
     go false = unfold neg in refl
 
@@ -70,23 +80,31 @@ units-unsigned f q k = go (ltb (q * 2 ^ k) (2 ^ (low f + suc (emax f))))
     go false = tt
 
 pub round-unsigned : (f : Format) (a c : ℕ) → T (unsigned (round f false a c))
-round-unsigned f a c = rw round-is (units-unsigned f (kept (prec f) (a * 2 ^ low f) c) (drop (prec f) (a * 2 ^ low f) c))
+round-unsigned f a c =
+    rw round-is
+    (units-unsigned f (kept (prec f) (a * 2 ^ low f) c) (drop (prec f) (a * 2 ^ low f) c))
 
 -- ---- zero
 zero-is : (f : Format) (s : Bool) (c : ℕ) → 0 < c → HasValue (round f s 0 c) s 0 c
 zero-is f s c C =
-    round-exact f s 0 c 0 0 C (pow-pos (prec f)) (lt-of-le-of-lt (le-of-eq (zero-mul (2 ^ 0))) (pow-pos (low f + suc (emax f)))) (simp zero-mul)
+    round-exact f s 0 c 0 0 C (pow-pos (prec f))
+    (lt-of-le-of-lt (le-of-eq (zero-mul (2 ^ 0))) (pow-pos (low f + suc (emax f))))
+    (simp zero-mul)
 
 pub round-zero : (f : Format) (s : Bool) (c : ℕ) → 0 < c → Is (round f s 0 c) 0 0 c
 round-zero f true c C = is-of-neg (round f true 0 c) 0 c (zero-is f true c C)
 round-zero f false c C = is-of-pos (round f false 0 c) 0 c (zero-is f false c C)
 
 -- ---- the order is kept, overflow and all sign pairs included
-zeros : (f : Format) (a c b d : ℕ) → 0 < c → 0 < d → a ≡ 0 → b ≡ 0 → T (le (round f false a c) (round f true b d))
+zeros : (f : Format) (a c b d : ℕ) → 0 < c → 0 < d → a ≡ 0 → b ≡ 0
+    → T (le (round f false a c) (round f true b d))
 zeros f a c b d C D z w =
-    rw (z, w) (le-of-is (round f false 0 c) (round f true 0 d) 0 0 c 0 0 d C D (round-zero f false c C) (round-zero f true d D) (omega arith))
+    rw (z, w)
+    (le-of-is (round f false 0 c) (round f true 0 d) 0 0 c 0 0 d C D (round-zero f false c C)
+    (round-zero f true d D) (omega arith))
 
-pub rounds-mono : (f : Format) (z w : Float) (p n c q m d : ℕ) → 0 < c → 0 < d → Rounds f z p n c → Rounds f w q m d → Le p n c q m d → T (le z w)
+pub rounds-mono : (f : Format) (z w : Float) (p n c q m d : ℕ) → 0 < c → 0 < d → Rounds f z p n c
+    → Rounds f w q m d → Le p n c q m d → T (le z w)
 rounds-mono f z w p n c q m d C D (over a e i) (over b g j) h =
     let pd : p * d ≡ (n + a) * d = ap (λ (x : ℕ). x * d) e in
     let qc : q * c ≡ (m + b) * c = ap (λ (x : ℕ). x * c) g in
@@ -94,9 +112,13 @@ rounds-mono f z w p n c q m d C D (over a e i) (over b g j) h =
 rounds-mono f z w p n c q m d C D (over a e i) (under b g j) h =
     let pd : p * d ≡ (n + a) * d = ap (λ (x : ℕ). x * d) e in
     let mc : m * c ≡ (q + b) * c = ap (λ (x : ℕ). x * c) g in
-    rw (i, j) (zeros f a c b d C D (eq-of-mul-eq-mul-right d D a 0 (omega arith)) (eq-of-mul-eq-mul-right c C b 0 (omega arith)))
+    rw (i, j)
+    (zeros f a c b d C D (eq-of-mul-eq-mul-right d D a 0 (omega arith))
+    (eq-of-mul-eq-mul-right c C b 0 (omega arith)))
 rounds-mono f z w p n c q m d C D (under a e i) (over b g j) h =
-    rw (i, j, ← round-neg) (le-cross (round f false a c) (round f false b d) (round-unsigned f a c) (round-unsigned f b d))
+    rw (i, j, ← round-neg)
+    (le-cross (round f false a c) (round f false b d) (round-unsigned f a c)
+    (round-unsigned f b d))
 rounds-mono f z w p n c q m d C D (under a e i) (under b g j) h =
     let nd : n * d ≡ (p + a) * d = ap (λ (x : ℕ). x * d) e in
     let mc : m * c ≡ (q + b) * c = ap (λ (x : ℕ). x * c) g in
@@ -104,13 +126,15 @@ rounds-mono f z w p n c q m d C D (under a e i) (under b g j) h =
     (le-neg (round f false b d) (round f false a c) (round-mono f b d a c D C (omega arith)))
 
 -- ---- only the fraction's value counts
-size-of : (p n c q m d a : ℕ) → 0 < c → p ≡ n + a → Equal p n c q m d → (b : ℕ) × (q ≡ m + b) × (a * d ≡ b * c)
+size-of : (p n c q m d a : ℕ) → 0 < c → p ≡ n + a → Equal p n c q m d
+    → (b : ℕ) × (q ≡ m + b) × (a * d ≡ b * c)
 size-of p n c q m d a C e h =
     let pd : p * d ≡ (n + a) * d = ap (λ (x : ℕ). x * d) e in
     let k = le-dest (le-of-mul-le-mul-right {m = m} {n = q} {k = c} (omega arith) C) in
     (k .0, sym (k .1), omega (arith, ap (λ (x : ℕ). x * c) (k .1)))
 
-pub rounds-same : (f : Format) (z : Float) (p n c q m d : ℕ) → 0 < c → 0 < d → Rounds f z p n c → Equal p n c q m d → Rounds f z q m d
+pub rounds-same : (f : Format) (z : Float) (p n c q m d : ℕ) → 0 < c → 0 < d → Rounds f z p n c
+    → Equal p n c q m d → Rounds f z q m d
 rounds-same f z p n c q m d C D (over a e i) h =
     let b = size-of p n c q m d a C e h in
     over (b .0) (b .1) (i ∙ round-same f false a c (b .0) d C D (b .2))

@@ -146,12 +146,15 @@ div-sign f (fin s m e) (fin t n d) h = go (eqb n 0) h
     go false i = round-sign f (unlike s t) (m * up e * down d) (n * up d * down e)
 
 -- ---- results that have no sign bit
-pub add-unsigned : (f : Format) (x y : Float) → T (finite x) → T (finite y) → T (unsigned x) → T (unsigned y) → T (unsigned (add f x y))
+pub add-unsigned : (f : Format) (x y : Float) → T (finite x) → T (finite y) → T (unsigned x)
+    → T (unsigned y) → T (unsigned (add f x y))
 unfolding sum
 add-unsigned f x y p q u w =
-    rw (add-is f x y p q, unsigned-sign x u, unsigned-sign y w) (round-unsigned f (num x * den y + num y * den x) (den x * den y))
+    rw (add-is f x y p q, unsigned-sign x u, unsigned-sign y w)
+    (round-unsigned f (num x * den y + num y * den x) (den x * den y))
 
-pub sub-unsigned : (f : Format) (x y : Float) → T (finite x) → T (finite y) → T (unsigned x) → T (unsigned y) → T (le y x) → T (unsigned (sub f x y))
+pub sub-unsigned : (f : Format) (x y : Float) → T (finite x) → T (finite y) → T (unsigned x)
+    → T (unsigned y) → T (le y x) → T (unsigned (sub f x y))
 unfolding sub add neg sum
 sub-unsigned f nan y p q u w h = absurd p
 sub-unsigned f (inf s) y p q u w h = absurd p
@@ -162,7 +165,9 @@ sub-unsigned f (fin false m e) (fin true n d) p q u w h = absurd w
 sub-unsigned f (fin false m e) (fin false n d) p q u w h =
     let a = m * up e * down d in
     let b = n * up d * down e in
-    rw (le-ltb a b (omega (arith, of-le (fin false n d) (fin false m e) tt tt h))) (round-unsigned f (a - b) (down e * down d))
+    rw (le-ltb a b (omega (arith, of-le (fin false n d) (fin false m e) tt tt h)))
+    (round-unsigned f (a - b) (down e * down d))
 
 pub square-unsigned : (f : Format) (x : Float) → T (finite x) → T (unsigned (mul f x x))
-square-unsigned f x p = rw (mul-is f x x p p, unlike-self (sign x)) (round-unsigned f (num x * num x) (den x * den x))
+square-unsigned f x p =
+    rw (mul-is f x x p p, unlike-self (sign x)) (round-unsigned f (num x * num x) (den x * den x))

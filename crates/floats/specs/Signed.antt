@@ -1,12 +1,23 @@
--- Signed fractions (p - n) / c of natural numbers, c above zero: their order, also up to a slack i / k, and their sums, products and quotients.
+-- Signed fractions (p - n) / c of natural numbers, c above zero: their order, also up to a slack i
+-- / k, and their sums, products and quotients.
 -- Nothing here is about floats.
 use mathlib.Core.Path.{_≡_, ap}
 use Prim.Native.Nat.{ℕ, _+_, _*_, _≤_, _<_}
-use native.Mathlib.Nat.{le-trans, add-zero, zero-add, mul-comm, mul-assoc, mul-left-comm, mul-add, add-mul}
+use native.Mathlib.Nat.{
+  le-trans,
+  add-zero,
+  zero-add,
+  mul-comm,
+  mul-assoc,
+  mul-left-comm,
+  mul-add,
+  add-mul,
+}
 use native.Mathlib.Nat.{mul-le-mul-left, mul-le-mul-right, le-of-mul-le-mul-right}
 use native.Mathlib.Omega.{arith}
 
--- A sum of products, multiplied out and sorted, for where omega's own multiplying out meets its bound: `simp poly at h`, `simp poly (omega arith)`.
+-- A sum of products, multiplied out and sorted, for where omega's own multiplying out meets its
+-- bound: `simp poly at h`, `simp poly (omega arith)`.
 pub ruleset poly = (mul-assoc, mul-comm, mul-left-comm, mul-add, add-mul)
 
 -- (p - n) / c ≤ (q - m) / d
@@ -38,17 +49,23 @@ pub le→up : (i k p n c q m d : ℕ) → Le p n c q m d → Up i k p n c q m d
 le→up i k p n c q m d h = le-trans (mul-le-mul-left k h) (omega arith)
 
 -- the slacks of a chain add up
-pub up-through : (i j k p n c q m d r l e : ℕ) → 0 < d → Up i k p n c q m d → Up j k q m d r l e → Up (i + j) k p n c r l e
+pub up-through : (i j k p n c q m d r l e : ℕ) → 0 < d → Up i k p n c q m d → Up j k q m d r l e
+    → Up (i + j) k p n c r l e
 up-through i j k p n c q m d r l e D h g =
     let first = simp poly at (mul-le-mul-right e h) in
     let second = simp poly at (mul-le-mul-right c g) in
-    le-of-mul-le-mul-right {m = k * (p * e + l * c)} {n = k * (r * c + n * e) + (i + j) * (c * e)} {k = d} (simp poly (omega arith)) D
+    le-of-mul-le-mul-right {m = k * (p * e + l * c)} {n = k * (r * c + n * e) + (i + j) * (c * e)}
+    {k = d} (simp poly (omega arith)) D
 
-pub le-up : (i k p n c q m d r l e : ℕ) → 0 < d → Le p n c q m d → Up i k q m d r l e → Up i k p n c r l e
-le-up i k p n c q m d r l e D h g = rw zero-add at (up-through 0 i k p n c q m d r l e D (le→up 0 k p n c q m d h) g)
+pub le-up : (i k p n c q m d r l e : ℕ) → 0 < d → Le p n c q m d → Up i k q m d r l e
+    → Up i k p n c r l e
+le-up i k p n c q m d r l e D h g =
+    rw zero-add at (up-through 0 i k p n c q m d r l e D (le→up 0 k p n c q m d h) g)
 
-pub up-le : (i k p n c q m d r l e : ℕ) → 0 < d → Up i k p n c q m d → Le q m d r l e → Up i k p n c r l e
-up-le i k p n c q m d r l e D h g = rw add-zero at (up-through i 0 k p n c q m d r l e D h (le→up 0 k q m d r l e g))
+pub up-le : (i k p n c q m d r l e : ℕ) → 0 < d → Up i k p n c q m d → Le q m d r l e
+    → Up i k p n c r l e
+up-le i k p n c q m d r l e D h g =
+    rw add-zero at (up-through i 0 k p n c q m d r l e D h (le→up 0 k q m d r l e g))
 
 -- ---- both signs changed, and a larger slack
 pub up-flip : (i k p n c q m d : ℕ) → Up i k p n c q m d → Up i k m q d n p c
@@ -78,7 +95,8 @@ product-same a b c e f g p n d q m h x y =
     simp poly (omega arith)
 
 -- by e / g = q / h
-pub quotient-same : (a b c e g p n d q h : ℕ) → Equal a b c p n d → e * h ≡ q * g → Equal (a * g) (b * g) (e * c) (p * h) (n * h) (d * q)
+pub quotient-same : (a b c e g p n d q h : ℕ) → Equal a b c p n d → e * h ≡ q * g
+    → Equal (a * g) (b * g) (e * c) (p * h) (n * h) (d * q)
 quotient-same a b c e g p n d q h x y =
     let first = simp poly at (ap (λ (z : ℕ). z * (q * g)) x) in
     let y₁ = simp poly at (ap (λ (z : ℕ). z * (n * c)) y) in

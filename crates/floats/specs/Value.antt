@@ -5,7 +5,14 @@ use mathlib.Core.Path.{_≡_, refl, sym, ap, _∙_, subst}
 use mathlib.Core.Logic.{_⊎_, inl, inr}
 use Prim.Native.Nat.{ℕ, _+_, _*_, _≤_, _<_, zero-le}
 use native.Mathlib.Nat.{zero-add, mul-pos, mul-lt-mul-of-pos-right, eq-of-mul-eq-mul-right}
-use native.Mathlib.Nat.{mul-le-mul-right, le-of-eq, le-of-lt, eq-or-lt-of-le, lt-of-not-le, le-of-suc-le-suc}
+use native.Mathlib.Nat.{
+  mul-le-mul-right,
+  le-of-eq,
+  le-of-lt,
+  eq-or-lt-of-le,
+  lt-of-not-le,
+  le-of-suc-le-suc,
+}
 use native.Mathlib.Omega.{arith}
 use mathlib.Core.Bool.{Bool, true, false, not, _&&_, _||_, true≢false}
 use lib.IntN.{pos}
@@ -92,7 +99,8 @@ size-is (fin true m k) p n c a h (inr e) = omega (arith, h .1, ap (λ (z : ℕ).
 
 -- 0 < num x says that x is finite and no zero
 pub nonzero-is : (x : Float) (p n c a : ℕ) → Is x p n c → Apart p n a → 0 < a → 0 < num x
-nonzero-is x p n c a h e A = first-pos (num x) c (rw (size-is x p n c a h e) (mul-pos A (den-pos x)))
+nonzero-is x p n c a h e A =
+    first-pos (num x) c (rw (size-is x p n c a h e) (mul-pos A (den-pos x)))
 
 -- ---- sign
 -- the sign bit, which a NaN has not
@@ -133,7 +141,8 @@ pub sign-is : (x : Float) (p n c : ℕ) → Is x p n c → n < p → sign x ≡ 
 sign-is nan p n c h l = refl
 sign-is (inf s) p n c h l = absurd (h .0)
 sign-is (fin false m e) p n c h l = refl
-sign-is (fin true m e) p n c h l = let none : ⊥ = omega (arith, h .1, mul-lt-mul-of-pos-right l (down-pos e)) in absurd none
+sign-is (fin true m e) p n c h l = let none : ⊥ =
+    omega (arith, h .1, mul-lt-mul-of-pos-right l (down-pos e)) in absurd none
 
 -- and what is below has one
 pub sign-is-below : (x : Float) (p n c : ℕ) → Is x p n c → p < n → sign x ≡ true
@@ -162,11 +171,17 @@ value-is (inf s) p n c a h e = absurd (h .0)
 value-is (fin s m k) p n c a h e = (refl, size-is (fin s m k) p n c a h e)
 
 pub unsigned-value : (x : Float) (a c : ℕ) → T (unsigned x) → Is x a 0 c → HasValue x false a c
-unsigned-value x a c u h = subst (λ (s : Bool). HasValue x s a c) (unsigned-sign x u) (value-is x a 0 c a h (inl (sym (zero-add a))))
+unsigned-value x a c u h =
+    subst (λ (s : Bool). HasValue x s a c) (unsigned-sign x u)
+    (value-is x a 0 c a h (inl (sym (zero-add a))))
 
 -- ---- the order: `le` asks whether one size is less than the other, or else whether they are equal
 less-or-equal : (a b : ℕ) (e : Bool) → (a ≡ b → T e) → a ≤ b → T (ltb a b || e)
-less-or-equal a b e k h = elim (eq-or-lt-of-le h) [ inl p ↦ right (ltb a b) (k p) | inr l ↦ left (ltb a b) (lt→ltb a b l) ]
+less-or-equal a b e k h =
+    elim (eq-or-lt-of-le h) [
+      | inl p ↦ right (ltb a b) (k p)
+      | inr l ↦ left (ltb a b) (lt→ltb a b l)
+    ]
   where
     left : (t : Bool) → T t → T (t || e)
     left true i = tt
@@ -192,7 +207,8 @@ of-equal a b t = eqb→eq a b (and-l (eqb a b) true t)
 both-zero : (a b : ℕ) → a ≡ 0 → b ≡ 0 → T (eqb a b && eqb a 0)
 both-zero a b z w = and-i (eqb a b) (eqb a 0) (eq→eqb (z ∙ sym w)) (eq→eqb z)
 
-pub le-of : (x y : Float) → T (finite x) → T (finite y) → Le (top x) (bot x) (den x) (top y) (bot y) (den y) → T (le x y)
+pub le-of : (x y : Float) → T (finite x) → T (finite y)
+    → Le (top x) (bot x) (den x) (top y) (bot y) (den y) → T (le x y)
 unfolding le
 le-of nan y p q h = absurd p
 le-of (inf s) y p q h = absurd p
@@ -202,19 +218,22 @@ le-of (fin false m e) (fin false n d) p q h =
     let a = m * up e * down d in
     let b = n * up d * down e in
     less-or-equal a b (eqb a b && true) (equal a b) (omega arith)
-le-of (fin false m e) (fin true n d) p q h = both-zero (m * up e * down d) (n * up d * down e) (omega arith) (omega arith)
+le-of (fin false m e) (fin true n d) p q h =
+    both-zero (m * up e * down d) (n * up d * down e) (omega arith) (omega arith)
 le-of (fin true m e) nan p q h = absurd q
 le-of (fin true m e) (inf t) p q h = absurd q
 le-of (fin true m e) (fin false n d) p q h =
     let a = m * up e * down d in
     let b = n * up d * down e in
-    less-or-equal 0 (a + b) (eqb a b && eqb a 0) (λ (z : 0 ≡ a + b). both-zero a b (omega arith) (omega arith)) zero-le
+    less-or-equal 0 (a + b) (eqb a b && eqb a 0)
+    (λ (z : 0 ≡ a + b). both-zero a b (omega arith) (omega arith)) zero-le
 le-of (fin true m e) (fin true n d) p q h =
     let a = m * up e * down d in
     let b = n * up d * down e in
     less-or-equal b a (eqb a b && true) (λ (z : b ≡ a). equal a b (sym z)) (omega arith)
 
-pub of-le : (x y : Float) → T (finite x) → T (finite y) → T (le x y) → Le (top x) (bot x) (den x) (top y) (bot y) (den y)
+pub of-le : (x y : Float) → T (finite x) → T (finite y) → T (le x y)
+    → Le (top x) (bot x) (den x) (top y) (bot y) (den y)
 unfolding le
 of-le nan y p q h = absurd p
 of-le (inf s) y p q h = absurd p
@@ -227,14 +246,22 @@ of-le (fin false m e) (fin false n d) p q h =
 of-le (fin false m e) (fin true n d) p q h =
     let a = m * up e * down d in
     let b = n * up d * down e in
-    omega (arith, eqb→eq a b (and-l (eqb a b) (eqb a 0) h), eqb→eq a 0 (and-r (eqb a b) (eqb a 0) h))
+    omega (
+      arith,
+      eqb→eq a b (and-l (eqb a b) (eqb a 0) h),
+      eqb→eq a 0 (and-r (eqb a b) (eqb a 0) h),
+    )
 of-le (fin true m e) nan p q h = absurd q
 of-le (fin true m e) (inf t) p q h = absurd q
 of-le (fin true m e) (fin false n d) p q h = omega arith
 of-le (fin true m e) (fin true n d) p q h =
     let a = m * up e * down d in
     let b = n * up d * down e in
-    omega (arith, of-less-or-equal b a (eqb a b && true) (λ (t : T (eqb a b && true)). sym (of-equal a b t)) h)
+    omega (
+      arith,
+      of-less-or-equal b a (eqb a b && true) (λ (t : T (eqb a b && true)). sym (of-equal a b t))
+          h,
+    )
 
 -- ---- the order by any fractions that the two equal
 pub is→le : (x : Float) (p n c : ℕ) → Is x p n c → Le (top x) (bot x) (den x) p n c
@@ -243,19 +270,23 @@ is→le x p n c h = omega (arith, h .1)
 pub is→ge : (x : Float) (p n c : ℕ) → Is x p n c → Le p n c (top x) (bot x) (den x)
 is→ge x p n c h = omega (arith, h .1)
 
-pub le-of-is : (x y : Float) (p n c q m d : ℕ) → 0 < c → 0 < d → Is x p n c → Is y q m d → Le p n c q m d → T (le x y)
+pub le-of-is : (x y : Float) (p n c q m d : ℕ) → 0 < c → 0 < d → Is x p n c → Is y q m d
+    → Le p n c q m d → T (le x y)
 le-of-is x y p n c q m d C D h k l =
     le-of x y (h .0) (k .0)
     (le-through (top x) (bot x) (den x) p n c (top y) (bot y) (den y) C (is→le x p n c h)
     (le-through p n c q m d (top y) (bot y) (den y) D l (is→ge y q m d k)))
 
-pub is-of-le : (x y : Float) (p n c q m d : ℕ) → Is x p n c → Is y q m d → T (le x y) → Le p n c q m d
+pub is-of-le : (x y : Float) (p n c q m d : ℕ) → Is x p n c → Is y q m d → T (le x y)
+    → Le p n c q m d
 is-of-le x y p n c q m d h k l =
     le-through p n c (top x) (bot x) (den x) q m d (den-pos x) (is→ge x p n c h)
-    (le-through (top x) (bot x) (den x) (top y) (bot y) (den y) q m d (den-pos y) (of-le x y (h .0) (k .0) l) (is→le y q m d k))
+    (le-through (top x) (bot x) (den x) (top y) (bot y) (den y) q m d (den-pos y)
+    (of-le x y (h .0) (k .0) l) (is→le y q m d k))
 
 -- ---- the strict order, and a test that failed
-pub lt-of : (x y : Float) → T (finite x) → T (finite y) → Lt (top x) (bot x) (den x) (top y) (bot y) (den y) → T (lt x y)
+pub lt-of : (x y : Float) → T (finite x) → T (finite y)
+    → Lt (top x) (bot x) (den x) (top y) (bot y) (den y) → T (lt x y)
 unfolding lt
 lt-of nan y p q h = absurd p
 lt-of (inf s) y p q h = absurd p
@@ -268,7 +299,8 @@ lt-of (fin true m e) (inf t) p q h = absurd q
 lt-of (fin true m e) (fin false n d) p q h = omega (arith, lt→ltb)
 lt-of (fin true m e) (fin true n d) p q h = omega (arith, lt→ltb)
 
-pub of-lt : (x y : Float) → T (finite x) → T (finite y) → T (lt x y) → Lt (top x) (bot x) (den x) (top y) (bot y) (den y)
+pub of-lt : (x y : Float) → T (finite x) → T (finite y) → T (lt x y)
+    → Lt (top x) (bot x) (den x) (top y) (bot y) (den y)
 unfolding lt
 of-lt nan y p q h = absurd p
 of-lt (inf s) y p q h = absurd p
@@ -284,7 +316,10 @@ of-lt (fin true m e) (fin true n d) p q h = omega (arith, ltb→lt)
 pub le-of-nlt : (x y : Float) → T (finite x) → T (finite y) → T (not (lt x y)) → T (le y x)
 le-of-nlt x y p q h =
     le-of y x q p
-    (le-of-suc-le-suc (lt-of-not-le (λ (l : Lt (top x) (bot x) (den x) (top y) (bot y) (den y)). T-not (lt x y) h (lt-of x y p q l))))
+    (le-of-suc-le-suc
+    (lt-of-not-le
+    (λ (l : Lt (top x) (bot x) (den x) (top y) (bot y) (den y)). T-not (lt x y) h
+    (lt-of x y p q l))))
 
 -- a float that is at least 0 as a fraction without a sign
 pub not-below : (v : Float) → T (finite v) → bot v ≤ top v → Is v (top v) 0 (den v)

@@ -1,5 +1,6 @@
--- Bounds by powers of two, for chains of operations: the exponents add. `Within x k` says that x is finite and at most 2 ^ k units in size, of
--- which 1.0 has 2 ^ 149, and `Beyond x k` that it is finite and at least that. The largest power of two of single precision is 2 ^ 276 units.
+-- Bounds by powers of two, for chains of operations: the exponents add. `Within x k` says that x is
+-- finite and at most 2 ^ k units in size, of which 1.0 has 2 ^ 149, and `Beyond x k` that it is
+-- finite and at least that. The largest power of two of single precision is 2 ^ 276 units.
 use mathlib.Core.Path.{_≡_, refl, sym}
 use mathlib.Core.Logic.{inl}
 use Prim.Native.Nat.{ℕ, suc, _+_, _*_, _^_, _≤_, _<_, zero-le}
@@ -14,8 +15,22 @@ use lib.Ieee.Positive.{num, den}
 use Rattle.floats.specs.Notation.{_⊕_, _⊖_, _⊗_, _⊘_}
 use Rattle.floats.specs.Value.{Is, Apart, sign, unsigned, absolute}
 use Rattle.floats.specs.Exact.{rep-power}
-use Rattle.floats.specs.Bound.{AtMost, AtLeast, at-most-is, at-least-zero, at-most-more, at-least-guarded}
-use Rattle.floats.specs.Bound.{at-most-add, at-most-sub, at-most-mul, at-most-div, at-least-add, at-least-mul}
+use Rattle.floats.specs.Bound.{
+  AtMost,
+  AtLeast,
+  at-most-is,
+  at-least-zero,
+  at-most-more,
+  at-least-guarded,
+}
+use Rattle.floats.specs.Bound.{
+  at-most-add,
+  at-most-sub,
+  at-most-mul,
+  at-most-div,
+  at-least-add,
+  at-least-mul,
+}
 
 pub record Within (x : Float) (k : ℕ) : Type 0 where
   pub most : AtMost (2 ^ k) (2 ^ 149) x
@@ -30,15 +45,19 @@ within-of f h = record { most = record { fin = f; unit = pow-pos 149; most = h }
 pub beyond-of : {x : Float} {k : ℕ} → T (finite x) → 2 ^ k * den x ≤ num x * 2 ^ 149 → Beyond x k
 beyond-of f h = record { least = record { fin = f; unit = pow-pos 149; least = h } }
 
-pub within-is : (x : Float) (p n c a k : ℕ) → 0 < c → Is x p n c → Apart p n a → a * 2 ^ 149 ≤ 2 ^ k * c → Within x k
-within-is x p n c a k C h e l = record { most = at-most-more (2 ^ k) (2 ^ 149) (pow-pos 149) l (at-most-is x p n c a C h e) }
+pub within-is : (x : Float) (p n c a k : ℕ) → 0 < c → Is x p n c → Apart p n a
+    → a * 2 ^ 149 ≤ 2 ^ k * c → Within x k
+within-is x p n c a k C h e l =
+    record { most = at-most-more (2 ^ k) (2 ^ 149) (pow-pos 149) l (at-most-is x p n c a C h e) }
 
 pub within-zero : (x : Float) (k : ℕ) → Is x 0 0 1 → Within x k
 within-zero x k h = within-is x 0 0 1 0 k (lit< tt) h (inl refl) zero-le
 
--- ---- the sizes of numbers, with the units in 1.0 as a variable u: omega reads no number of that length
+-- ---- the sizes of numbers, with the units in 1.0 as a variable u: omega reads
+-- no number of that length
 powers : (i j k l : ℕ) → i + j ≤ k + l → 2 ^ i * 2 ^ j ≤ 2 ^ k * 2 ^ l
-powers i j k l h = le-trans (le-of-eq (sym (pow-add 2 i j))) (le-trans (pow-mono h) (le-of-eq (pow-add 2 k l)))
+powers i j k l h =
+    le-trans (le-of-eq (sym (pow-add 2 i j))) (le-trans (pow-mono h) (le-of-eq (pow-add 2 k l)))
 
 twice : (k u : ℕ) → (2 ^ k * u + 2 ^ k * u) * u ≤ 2 ^ suc k * (u * u)
 twice k u = rw two-pow-succ (omega arith)
@@ -54,52 +73,69 @@ quotient a b t u h = omega (arith, mul-le-mul-right u h)
 
 -- ---- the operations
 pub widen : {x : Float} {j : ℕ} (k : ℕ) → Within x j → j ≤ k → Within x k
-widen k w h = record { most = at-most-more (2 ^ k) (2 ^ 149) (pow-pos 149) (mul-le-mul-right (2 ^ 149) (pow-mono h)) (w .most) }
+widen k w h =
+    record {
+      most = at-most-more (2 ^ k) (2 ^ 149) (pow-pos 149)
+          (mul-le-mul-right (2 ^ 149) (pow-mono h)) (w .most);
+    }
 
 pub within-cond : (b : Bool) {x y : Float} {k : ℕ} → Within x k → Within y k → Within (cond b x y) k
 within-cond true v w = v
 within-cond false v w = w
 
 -- y need be bounded only where the test fails
-pub within-test : (b : Bool) {x y : Float} {k : ℕ} → Within x k → (b ≡ false → Within y k) → Within (cond b x y) k
+pub within-test : (b : Bool) {x y : Float} {k : ℕ} → Within x k → (b ≡ false → Within y k)
+    → Within (cond b x y) k
 within-test true v w = v
 within-test false v w = w refl
 
 pub within-add : {x y : Float} {k : ℕ} → Within x k → Within y k → k < 276 → Within (x ⊕ y) (suc k)
 within-add {k = k} v w K =
-    record { most = at-most-add binary32 (2 ^ suc k) (2 ^ 149) (pow-pos 149) (rep-power (suc k) K) (v .most) (w .most) (twice k (2 ^ 149)) }
+    record {
+      most = at-most-add binary32 (2 ^ suc k) (2 ^ 149) (pow-pos 149) (rep-power (suc k) K)
+          (v .most) (w .most) (twice k (2 ^ 149));
+    }
 
 pub within-sub : {x y : Float} {k : ℕ} → Within x k → Within y k → k < 276 → Within (x ⊖ y) (suc k)
 within-sub {k = k} v w K =
-    record { most = at-most-sub binary32 (2 ^ suc k) (2 ^ 149) (pow-pos 149) (rep-power (suc k) K) (v .most) (w .most) (twice k (2 ^ 149)) }
+    record {
+      most = at-most-sub binary32 (2 ^ suc k) (2 ^ 149) (pow-pos 149) (rep-power (suc k) K)
+          (v .most) (w .most) (twice k (2 ^ 149));
+    }
 
-pub within-mul : {x y : Float} {j k : ℕ} (t : ℕ) → Within x j → Within y k → j + k ≤ t + 149 → t ≤ 276 → Within (x ⊗ y) t
+pub within-mul : {x y : Float} {j k : ℕ} (t : ℕ) → Within x j → Within y k → j + k ≤ t + 149
+    → t ≤ 276 → Within (x ⊗ y) t
 within-mul {j = j} {k = k} t v w h K = record {
   most =
       at-most-mul binary32 (2 ^ t) (2 ^ 149) (pow-pos 149) (rep-power t K) (v .most) (w .most)
       (product (2 ^ j) (2 ^ k) (2 ^ t) (2 ^ 149) (powers j k t 149 h));
 }
 
-pub within-div : {x y : Float} {j l : ℕ} (t : ℕ) → Within x j → Beyond y l → j + 149 ≤ t + l → t ≤ 276 → Within (x ⊘ y) t
+pub within-div : {x y : Float} {j l : ℕ} (t : ℕ) → Within x j → Beyond y l → j + 149 ≤ t + l
+    → t ≤ 276 → Within (x ⊘ y) t
 within-div {j = j} {l = l} t v w h K = record {
   most =
-      at-most-div binary32 (2 ^ t) (2 ^ 149) (pow-pos 149) (rep-power t K) (v .most) (w .least) (pow-pos l)
+      at-most-div binary32 (2 ^ t) (2 ^ 149) (pow-pos 149) (rep-power t K) (v .most) (w .least)
+      (pow-pos l)
       (quotient (2 ^ j) (2 ^ l) (2 ^ t) (2 ^ 149) (powers j 149 t l h));
 }
 
 -- ---- bounds from below, where nothing overflows
 -- a sum of two terms with one sign is no smaller than either
-pub beyond-add : {x y : Float} {i j k : ℕ} → Beyond x k → Within y i → sign x ≡ sign y → Within (x ⊕ y) j → k ≤ 276 → Beyond (x ⊕ y) k
+pub beyond-add : {x y : Float} {i j k : ℕ} → Beyond x k → Within y i → sign x ≡ sign y
+    → Within (x ⊕ y) j → k ≤ 276 → Beyond (x ⊕ y) k
 beyond-add {y = y} {k = k} v w e z K = record {
   least =
-      at-least-add binary32 (2 ^ k) (2 ^ 149) (pow-pos 149) (rep-power k K) (v .least) (at-least-zero y (w .most .fin)) e
+      at-least-add binary32 (2 ^ k) (2 ^ 149) (pow-pos 149) (rep-power k K) (v .least)
+      (at-least-zero y (w .most .fin)) e
       (alone (2 ^ k) (2 ^ 149)) (z .most .fin);
 }
   where
     alone : (a u : ℕ) → a * (u * 1) ≤ (a * 1 + 0 * u) * u
     alone a u = omega arith
 
-pub beyond-mul : {x y : Float} {i j k : ℕ} (t : ℕ) → Beyond x j → Beyond y k → t + 149 ≤ j + k → Within (x ⊗ y) i → t ≤ 276 → Beyond (x ⊗ y) t
+pub beyond-mul : {x y : Float} {i j k : ℕ} (t : ℕ) → Beyond x j → Beyond y k → t + 149 ≤ j + k
+    → Within (x ⊗ y) i → t ≤ 276 → Beyond (x ⊗ y) t
 beyond-mul {j = j} {k = k} t v w h z K = record {
   least =
       at-least-mul binary32 (2 ^ t) (2 ^ 149) (pow-pos 149) (rep-power t K) (v .least) (w .least)
@@ -107,5 +143,6 @@ beyond-mul {j = j} {k = k} t v w h z K = record {
 }
 
 -- what is not below a guard in size is at least what the guard is
-pub guarded : {x guard : Float} {k l : ℕ} → Within x k → T (unsigned guard) → Beyond guard l → lt (absolute x) guard ≡ false → Beyond x l
+pub guarded : {x guard : Float} {k l : ℕ} → Within x k → T (unsigned guard) → Beyond guard l
+    → lt (absolute x) guard ≡ false → Beyond x l
 guarded v u w h = record { least = at-least-guarded (v .most .fin) u (w .least) h }

@@ -16,10 +16,12 @@ neither true t e = absurd (true≢false e)
 neither false t e = (refl, e)
 
 pub sides : (w h : ℕ) → tooLarge w h ≡ false → (w ≤ 4096) × (h ≤ 4096)
-sides w h e = let q = neither (ltb 4096 w) (ltb 4096 h) e in (ltb-false 4096 w (q .0), ltb-false 4096 h (q .1))
+sides w h e = let q = neither (ltb 4096 w) (ltb 4096 h) e in
+    (ltb-false 4096 w (q .0), ltb-false 4096 h (q .1))
 
 pub steps : (row step : ℕ) → wrongStep row step ≡ false → (row ≤ step) × (step ≤ 32768)
-steps row step e = let q = neither (ltb step row) (ltb 32768 step) e in (ltb-false step row (q .0), ltb-false 32768 step (q .1))
+steps row step e = let q = neither (ltb step row) (ltb 32768 step) e in
+    (ltb-false step row (q .0), ltb-false 32768 step (q .1))
 
 -- what is known of a plane of len bytes once it is accepted
 pub record GoodPlane (f : PixelFormat) (w h step len : ℕ) : Type 0 where
@@ -29,7 +31,8 @@ pub record GoodPlane (f : PixelFormat) (w h step len : ℕ) : Type 0 where
   pub rows : Rows w h (w * bytesAPixel f) step len
 
 module _ (f : PixelFormat) (w h step len : ℕ) where
-  pub good-plane : tooLarge w h ≡ false → AllPassed (planeChecks w h (w * bytesAPixel f) step len) → GoodPlane f w h step len
+  pub good-plane : tooLarge w h ≡ false → AllPassed (planeChecks w h (w * bytesAPixel f) step len)
+      → GoodPlane f w h step len
   good-plane small passed =
       let row = w * bytesAPixel f in
       let stepped = steps row step (passed .0) in
@@ -37,9 +40,13 @@ module _ (f : PixelFormat) (w h step len : ℕ) where
         wide = sides w h small .0;
         high = sides w h small .1;
         stepped = stepped .1;
-        rows = record { stepped = stepped .0; enough = ltb-false len (needed w h row step) (passed .1 .0) };
+        rows = record {
+          stepped = stepped .0;
+          enough = ltb-false len (needed w h row step) (passed .1 .0);
+        };
       }
 
   pub lut-done : lutAnswer f w h step len ≡ Done → GoodPlane f w h step len
   unfolding lutAnswer
-  lut-done e = let passed = all-passed (lutChecks f w h step len) e in good-plane (passed .0) (passed .1)
+  lut-done e = let passed = all-passed (lutChecks f w h step len) e in
+      good-plane (passed .0) (passed .1)

@@ -1,11 +1,18 @@
--- The checks of the picture calls on numbers, in the order of document 01's section "When a call says no". Definitions only.
+-- The checks of the picture calls on numbers, in the order of document 01's section "When a call
+-- says no". Definitions only.
 use Prim.Native.Nat.{ℕ, _*_}
 use mathlib.Core.Path.{_≡_}
 use mathlib.Core.Bool.{Bool, cond, _||_}
 use mathlib.Core.List.{List, [], _∷_, _++_}
 use lib.Dec.{ltb, eqb}
 use Rattle.answers.specs.declared.Answer.{Answer}
-use Rattle.answers.specs.declared.Answer.the-variants.{UnsupportedFormat, PictureTooLarge, MissingPlane, RowStep, PlaneTooShort}
+use Rattle.answers.specs.declared.Answer.the-variants.{
+  UnsupportedFormat,
+  PictureTooLarge,
+  MissingPlane,
+  RowStep,
+  PlaneTooShort,
+}
 use Rattle.answers.specs.Checks.{Check, _when_, firstRefusal, roomCheck}
 use Rattle.rows.specs.Rows.{needed}
 use Rattle.formats.specs.declared.PixelFormat.{PixelFormat}
@@ -22,11 +29,13 @@ wrongStep row step = ltb step row || ltb 32768 step
 
 -- a first plane of len bytes
 abbrev pub planeChecks : ℕ → ℕ → ℕ → ℕ → ℕ → List Check
-planeChecks w h row step len = RowStep when wrongStep row step ∷ PlaneTooShort when ltb len (needed w h row step) ∷ []
+planeChecks w h row step len =
+    RowStep when wrongStep row step ∷ PlaneTooShort when ltb len (needed w h row step) ∷ []
 
 -- the one-table call
 abbrev pub lutChecks : PixelFormat → ℕ → ℕ → ℕ → ℕ → List Check
-lutChecks f w h step len = PictureTooLarge when tooLarge w h ∷ planeChecks w h (w * bytesAPixel f) step len
+lutChecks f w h step len =
+    PictureTooLarge when tooLarge w h ∷ planeChecks w h (w * bytesAPixel f) step len
 
 unfoldable pub lutAnswer : PixelFormat → ℕ → ℕ → ℕ → ℕ → Answer
 lutAnswer f w h step len = firstRefusal (lutChecks f w h step len)
@@ -43,7 +52,8 @@ chromaRead f = eqb (planesRead f) 3
 abbrev pub outputChecks : PixelFormat → ℕ → Lengths → List Check
 outputChecks f size held =
     roomCheck size (held .out)
-    ∷ cond (chromaRead f) (roomCheck (held .cb) (held .«out_cb») ∷ roomCheck (held .cr) (held .«out_cr») ∷ []) []
+    ∷ cond (chromaRead f)
+    (roomCheck (held .cb) (held .«out_cb») ∷ roomCheck (held .cr) (held .«out_cr») ∷ []) []
 
 -- the set call, after its lists
 abbrev pub pictureChecks : PixelFormat → ℕ → ℕ → ℕ → ℕ → Lengths → List Check

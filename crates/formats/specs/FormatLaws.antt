@@ -55,7 +55,8 @@ in-place YuvJ420P = inl (omega arith, omega arith)
 in-place YuvJ422P = inl (omega arith, omega arith)
 in-place YuvJ444P = inl (omega arith, omega arith)
 
-pub tight : (f : PixelFormat) → Supported f → Tight (bytesAPixel f) × (tightAlpha (bytesAPixel f) ≡ alphaOf f)
+pub tight : (f : PixelFormat) → Supported f
+    → Tight (bytesAPixel f) × (tightAlpha (bytesAPixel f) ≡ alphaOf f)
 unfolding tightAlpha
 tight Gray8 s = (inl refl, refl)
 tight Ya8 s = absurd (s refl)

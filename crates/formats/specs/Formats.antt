@@ -22,7 +22,9 @@ use Rattle.formats.specs.declared.PixelFormat.the-variants.{
 
 -- the formats in the order of their numbers at the C boundary, from 0 to 11
 abbrev pub inOrder : List PixelFormat
-inOrder = Gray8 ∷ Ya8 ∷ Rgb24 ∷ Rgba ∷ Cmyk ∷ CmykInverted ∷ Yuv420P ∷ Yuv422P ∷ Yuv444P ∷ YuvJ420P ∷ YuvJ422P ∷ YuvJ444P ∷ []
+inOrder =
+    Gray8 ∷ Ya8 ∷ Rgb24 ∷ Rgba ∷ Cmyk ∷ CmykInverted ∷ Yuv420P ∷ Yuv422P ∷ Yuv444P ∷ YuvJ420P
+    ∷ YuvJ422P ∷ YuvJ444P ∷ []
 
 -- the number of the last
 abbrev pub lastFormat : ℕ

@@ -3,7 +3,14 @@ ghost use mathlib.Core.Path.{_≡_};
 ghost use Prim.Native.Nat.{_≤_};
 ghost use Rattle.rows.specs.Rows.{needed};
 ghost use Rattle.answers.specs.Checks.{firstRefusal};
-ghost use Rattle.formats.specs.Checks.{tooLarge, wrongStep, planeChecks, lutAnswer, outputChecks, pictureAnswer};
+ghost use Rattle.formats.specs.Checks.{
+  tooLarge,
+  wrongStep,
+  planeChecks,
+  lutAnswer,
+  outputChecks,
+  pictureAnswer,
+};
 use crate::Lengths;
 use crate::PixelFormat;
 use answers::Answer;

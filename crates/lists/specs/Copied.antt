@@ -11,7 +11,8 @@ module _ {ℓ} {A : Type ℓ} where
   unfoldable pub elementOf : A → List A → ℕ → A
   elementOf d xs w = getD xs w d
 
-  pub stored-copy : (d : A) (xs : List A) {b : ℕ} {l m : List A} → Stored (elementOf d xs) 0 b l m → b ≡ length xs
+  pub stored-copy : (d : A) (xs : List A) {b : ℕ} {l m : List A} → Stored (elementOf d xs) 0 b l m
+      → b ≡ length xs
       → length xs ≤ length l → m ≡ xs ++ drop (length xs) l
   unfolding filled elementOf
   stored-copy d xs {l = l} r e h =

@@ -1,4 +1,5 @@
--- `each f l`: every element of l replaced by f of its place and itself. Wherever an element is read, d is what `getD` answers past the end.
+-- `each f l`: every element of l replaced by f of its place and itself. Wherever an element is
+-- read, d is what `getD` answers past the end.
 use mathlib.Core.Path.{_≡_, refl, sym, ap, _∙_}
 use mathlib.Core.List.{List, [], _∷_}
 use Prim.Native.Nat.{ℕ, suc, zero, _+_, _<_}
@@ -27,13 +28,15 @@ module _ {ℓ} {A : Type ℓ} where
   unfolding each-from
   getD-each-from f i [] k d h = absurd (omega arith)
   getD-each-from f i (x ∷ xs) zero d h = simp add-zero
-  getD-each-from f i (x ∷ xs) (suc k) d h = getD-each-from f (suc i) xs k d (omega arith) ∙ simp (add-suc, suc-add)
+  getD-each-from f i (x ∷ xs) (suc k) d h =
+      getD-each-from f (suc i) xs k d (omega arith) ∙ simp (add-suc, suc-add)
 
   pub length-each : (f : ℕ → A → A) (l : List A) → length (each f l) ≡ length l
   unfolding each
   length-each f l = length-each-from f 0 l
 
-  pub getD-each : (f : ℕ → A → A) (l : List A) (k : ℕ) (d : A) → k < length l → getD (each f l) k d ≡ f k (getD l k d)
+  pub getD-each : (f : ℕ → A → A) (l : List A) (k : ℕ) (d : A) → k < length l
+      → getD (each f l) k d ≡ f k (getD l k d)
   unfolding each
   getD-each f l k d h = getD-each-from f 0 l k d h ∙ ap (λ (i : ℕ). f i (getD l k d)) (zero-add k)
 

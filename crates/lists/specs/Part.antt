@@ -1,14 +1,33 @@
--- A part of a list that is lent, as `&mut s[a..e]` is, and comes back: what was stored in the part is stored in the whole.
+-- A part of a list that is lent, as `&mut s[a..e]` is, and comes back: what was stored in the
+-- part is stored in the whole.
 -- Wherever an element is read, d is what `getD` answers past the end.
 use mathlib.Core.Path.{_≡_, refl, sym, ap, _∙_}
 use mathlib.Core.List.{List, _++_}
 use Prim.Native.Nat.{ℕ, zero, suc, _+_, _-_, _<_, _≤_}
 use native.Mathlib.Decide.{decLt}
 use native.Mathlib.Omega.{arith}
-use lib.ListN.{length, getD, set, take, drop, length-append, length-take, length-drop, List·getD-append}
+use lib.ListN.{
+  length,
+  getD,
+  set,
+  take,
+  drop,
+  length-append,
+  length-take,
+  length-drop,
+  List·getD-append,
+}
 use lib.Seq.{getD-append-add, getD-take, getD-drop, ext-getD}
 use Rattle.lists.specs.Each.{each, length-each, getD-each}
-use Rattle.lists.specs.Stored.{Stored, stored-none, stored-next, stored-end, stored-inside, stored-below, stored-above}
+use Rattle.lists.specs.Stored.{
+  Stored,
+  stored-none,
+  stored-next,
+  stored-end,
+  stored-inside,
+  stored-below,
+  stored-above,
+}
 use Rattle.lists.specs.Replaced.{Replaced, replacing, replaced}
 
 module _ {ℓ} {A : Type ℓ} where
@@ -23,14 +42,17 @@ module _ {ℓ} {A : Type ℓ} where
   pub length-part : (a e : ℕ) (l : List A) → e ≤ length l → length (part a e l) ≡ e - a
   length-part a e l h = simp (length-take, length-drop) (omega arith)
 
-  pub getD-part : (a e : ℕ) (l : List A) (k : ℕ) (d : A) → k < e - a → getD (part a e l) k d ≡ getD l (a + k) d
+  pub getD-part : (a e : ℕ) (l : List A) (k : ℕ) (d : A) → k < e - a
+      → getD (part a e l) k d ≡ getD l (a + k) d
   getD-part a e l k d h = getD-take (e - a) (drop a l) k d h ∙ getD-drop a l k d
 
   -- there is a list that has f's elements in the span and l's elsewhere
-  stores : (f : ℕ → A) (a n : ℕ) (l : List A) {G : Type ℓ} → ((m : List A) → Stored f a (a + n) l m → G) → G
+  stores : (f : ℕ → A) (a n : ℕ) (l : List A) {G : Type ℓ}
+      → ((m : List A) → Stored f a (a + n) l m → G) → G
   stores f a zero l made = made l (stored-end stored-none (omega arith))
   stores f a (suc n) l made =
-      stores f a n l (λ m r. made (set m (a + n) (f (a + n))) (stored-end (stored-next r refl) (omega arith)))
+      stores f a n l
+      (λ m r. made (set m (a + n) (f (a + n))) (stored-end (stored-next r refl) (omega arith)))
 
   -- any such list is Stored
   pub is-stored : {f : ℕ → A} {a b : ℕ} {l m : List A} (d : A) → a ≤ b → length m ≡ length l
@@ -51,19 +73,22 @@ module _ {ℓ} {A : Type ℓ} where
       let r-m : Stored f a (a + (b - a)) l m = rw same r in
       stored-end r-m (omega arith))
 
-  module _ (a e : ℕ) (l m : List A) (d : A) (order : a ≤ e) (inside : e ≤ length l) (count : length m ≡ e - a) where
+  module _ (a e : ℕ) (l m : List A) (d : A) (order : a ≤ e) (inside : e ≤ length l)
+      (count : length m ≡ e - a) where
     back-length : length (back a e l m) ≡ length l
     back-length = simp (length-append, length-take, length-drop) (omega arith)
 
     back-below : (w : ℕ) → w < a → getD (back a e l m) w d ≡ getD l w d
     back-below w h =
         let front : length (take a l) ≡ a = simp length-take (omega arith) in
-        List·getD-append (take a l) (m ++ drop (e - a) (drop a l)) d w (omega arith) ∙ getD-take a l w d h
+        List·getD-append (take a l) (m ++ drop (e - a) (drop a l)) d w (omega arith)
+        ∙ getD-take a l w d h
 
     back-from : (k : ℕ) → getD (back a e l m) (a + k) d ≡ getD (m ++ drop (e - a) (drop a l)) k d
     back-from k =
         let front : length (take a l) ≡ a = simp length-take (omega arith) in
-        ap (λ (n : ℕ). getD (back a e l m) (n + k) d) (sym front) ∙ getD-append-add (take a l) (m ++ drop (e - a) (drop a l)) k d
+        ap (λ (n : ℕ). getD (back a e l m) (n + k) d) (sym front)
+        ∙ getD-append-add (take a l) (m ++ drop (e - a) (drop a l)) k d
 
     back-inside : (k : ℕ) → k < e - a → getD (back a e l m) (a + k) d ≡ getD m k d
     back-inside k h = back-from k ∙ List·getD-append m (drop (e - a) (drop a l)) d k (omega arith)
@@ -79,7 +104,8 @@ module _ {ℓ} {A : Type ℓ} where
         ∙ ap (λ (n : ℕ). getD l n d) (omega arith)
 
     -- the part came back with f's elements
-    pub stored-part : (f : ℕ → A) → ((k : ℕ) → k < e - a → getD m k d ≡ f (a + k)) → Stored f a e l (back a e l m)
+    pub stored-part : (f : ℕ → A) → ((k : ℕ) → k < e - a → getD m k d ≡ f (a + k))
+        → Stored f a e l (back a e l m)
     stored-part f h =
         is-stored d order back-length
         (λ w low high lt.
@@ -92,17 +118,21 @@ module _ {ℓ} {A : Type ℓ} where
         (λ w past lt. back-above w past)
 
   -- the part came back with what g makes of each element of r
-  pub stored-part-each : (a e : ℕ) (l r : List A) {m : List A} (d : A) (f : ℕ → A) (g : ℕ → A → A) → a ≤ e → e ≤ length l → length r ≡ e - a
-      → m ≡ each g r → ((k : ℕ) → k < e - a → g k (getD r k d) ≡ f (a + k)) → Stored f a e l (back a e l m)
+  pub stored-part-each : (a e : ℕ) (l r : List A) {m : List A} (d : A) (f : ℕ → A) (g : ℕ → A → A)
+      → a ≤ e → e ≤ length l → length r ≡ e - a
+      → m ≡ each g r → ((k : ℕ) → k < e - a → g k (getD r k d) ≡ f (a + k))
+      → Stored f a e l (back a e l m)
   stored-part-each a e l r {m} d f g order inside count is h =
       stored-part a e l m d order inside (ap length is ∙ length-each g r ∙ count) f
       (λ k lt. ap (λ (x : List A). getD x k d) is ∙ getD-each g r k d (omega arith) ∙ h k lt)
 
   -- of each of its own
-  pub replaced-part : (a e : ℕ) (l : List A) {m : List A} (d : A) (f g : ℕ → A → A) → a ≤ e → e ≤ length l → m ≡ each g (part a e l)
+  pub replaced-part : (a e : ℕ) (l : List A) {m : List A} (d : A) (f g : ℕ → A → A) → a ≤ e
+      → e ≤ length l → m ≡ each g (part a e l)
       → ((k : ℕ) → k < e - a → (x : A) → g k x ≡ f (a + k) x) → Replaced d f a e l (back a e l m)
   unfolding replacing
   replaced-part a e l d f g order inside is h =
       replaced
-      (stored-part-each a e l (part a e l) d (replacing d f l) g order inside (length-part a e l inside) is
+      (stored-part-each a e l (part a e l) d (replacing d f l) g order inside
+      (length-part a e l inside) is
       (λ k lt. ap (g k) (getD-part a e l k d lt) ∙ h k lt (getD l (a + k) d)))

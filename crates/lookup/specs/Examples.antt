@@ -22,9 +22,12 @@ use Rattle.lookup.specs.Lookup.{
   lookedUp,
 }
 
--- a table of nothing but 255 gives 1 at both zeros, within, at the end, for NaN and for the infinities
-pub flat : lookedUp (replicate 4096 𝟐𝟓𝟓) (𝟎 ∷ −𝟎 ∷ ½ ∷ 𝟏 ∷ nan ∷ inf true ∷ inf false ∷ []) ≡ replicate 7 𝟏
-unfolding lookedUp tabulate looked blended position clampedUnit floorOf lt le add sub mul div ofInt ofBits
+-- a table of nothing but 255 gives 1 at both zeros, within, at the end, for
+-- NaN and for the infinities
+pub flat : lookedUp (replicate 4096 𝟐𝟓𝟓) (𝟎 ∷ −𝟎 ∷ ½ ∷ 𝟏 ∷ nan ∷ inf true ∷ inf false ∷ [])
+    ≡ replicate 7 𝟏
+unfolding lookedUp tabulate looked blended position clampedUnit floorOf lt le add sub mul div ofInt
+    ofBits
 flat = refl
 
 -- 255 at one place and 0 elsewhere
@@ -60,7 +63,8 @@ abbrev ¾ : Float
 ¾ = ofBits binary32 0x3f40_0000
 
 pub weights : lookedUp (tabulate 4096 (spikeAt 1024)) (¼ ∷ []) ≡ ¾ ∷ []
-unfolding lookedUp tabulate looked blended position clampedUnit floorOf lt le add sub mul div ofInt ofBits
+unfolding lookedUp tabulate looked blended position clampedUnit floorOf lt le add sub mul div ofInt
+    ofBits
 weights = refl
 
 -- 14: "A float table's length isn't .. 4,096 (lookup)"; 256 is a length of a build only

@@ -21,7 +21,8 @@ unfolding position clampedUnit isNan lt le mul ofBits
 position-within v =
     by-test (lt 𝟏 v)
     (λ e. rw e (tt, tt))
-    (λ e. by-test (le 𝟎 v) (λ g. rw (e, g) (inside (subst T (sym g) tt) e)) (λ g. rw (e, g) (tt, tt)))
+    (λ e. by-test (le 𝟎 v) (λ g. rw (e, g) (inside (subst T (sym g) tt) e))
+    (λ g. rw (e, g) (tt, tt)))
   where
     inside : T (le 𝟎 v) → lt 𝟏 v ≡ false → T (le 𝟎 (v ⊗ 𝟒𝟎𝟗𝟓)) × T (le (v ⊗ 𝟒𝟎𝟗𝟓) 𝟒𝟎𝟗𝟓)
     inside low e =

@@ -1,4 +1,5 @@
--- The fine lookup in a table of 4,096 samples, as document 01's section "Fine lookup" has it. Definitions only.
+-- The fine lookup in a table of 4,096 samples, as document 01's section "Fine lookup"
+-- has it. Definitions only.
 use Prim.Native.Nat.{ℕ, _+_}
 use mathlib.Core.Path.{_≡_}
 use mathlib.Core.Bool.{cond, not}
@@ -23,7 +24,8 @@ clampedUnit v = cond (lt 𝟏 v) 𝟏 (cond (le 𝟎 v) v 𝟎)
 unfoldable pub position : Float → Float
 position v = clampedUnit v ⊗ 𝟒𝟎𝟗𝟓
 
--- "i its floor, at most 4,094; f the rest; the result is (T[i] × (1 − f) + T[i+1] × f) / 255": T is the table, p the position
+-- "i its floor, at most 4,094; f the rest; the result is (T[i] × (1 − f) + T[i+1] × f) / 255": T is
+-- the table, p the position
 unfoldable pub blended : List Float → Float → Float
 blended table p =
     let i = floorOf p in
@@ -38,14 +40,17 @@ looked table values k = blended table (position (getD values k nan))
 unfoldable pub indexFrom : List Float → ℕ → ℕ → ℕ
 indexFrom values at j = floorOf (position (getD values (at + j) nan))
 
--- the checks of the lookup in a table of S samples: 14, "A float table's length isn't .. 4,096 (lookup)"
+-- the checks of the lookup in a table of S samples: 14, "A float table's length
+-- isn't .. 4,096 (lookup)"
 abbrev pub lookupChecks : ℕ → List Check
 lookupChecks S = TableLength when not (eqb S 4096) ∷ []
 
--- the values after the call: "Each lent value is replaced by its result", unless the table is refused
+-- the values after the call: "Each lent value is replaced by its result",
+-- unless the table is refused
 unfoldable pub lookedUp : List Float → List Float → List Float
 lookedUp table values =
-    cond (isDone (firstRefusal (lookupChecks (length table)))) (tabulate (length values) (looked table values)) values
+    cond (isDone (firstRefusal (lookupChecks (length table))))
+    (tabulate (length values) (looked table values)) values
 
 -- the call: its answer, and the values after it
 pub record LookupCall (table old : List Float) (r : Answer) (new : List Float) : Type 0 where

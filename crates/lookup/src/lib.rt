@@ -1,5 +1,7 @@
-// The fine lookup: each value is replaced by the table's height there, between the two samples beside it.
-// It goes in blocks: all indices of a block are found before any of its values is replaced, so that LLVM finds several at once.
+// The fine lookup: each value is replaced by the table's height there, between
+// the two samples beside it.
+// It goes in blocks: all indices of a block are found before any of its values is replaced, so that
+// LLVM finds several at once.
 ghost use mathlib.Core.Path.{_≡_};
 ghost use Prim.Native.Nat.{_+_, _≤_, min};
 ghost use lib.ListN.{length, replicate};
@@ -71,7 +73,9 @@ fn indices(values: &[f32], at: usize, n: usize) -> [u16; 64]
 fn replace(table: &[f32], indices: &[u16; 64], at: usize, n: usize, values: &mut [f32])
     requires { ⌜ (length (now table) ≡ 4096) × (n ≤ 64) × (at + n ≤ length (now values)) ⌝ }
     requires { ⌜ Stored (L.indexFrom (now values) at) 0 n (replicate 64 0) (now indices) ⌝ }
-    ensures { λ _. ⌜ Stored (L.looked (now (table .entry)) (now (values .entry))) at (at + n) (now (values .entry)) (now (values .exit)) ⌝ }
+    ensures { λ _. ⌜
+        Stored (L.looked (now (table .entry)) (now (values .entry))) at (at + n)
+        (now (values .entry)) (now (values .exit)) ⌝ }
 {
     let mut j = 0;
     while j < n {
@@ -84,7 +88,8 @@ fn replace(table: &[f32], indices: &[u16; 64], at: usize, n: usize, values: &mut
 
 // Replaces every value. A table that has not 4,096 entries is refused, and the values stay.
 pub fn lookup(table: &[f32], values: &mut [f32]) -> Answer
-    ensures { λ r. ⌜ L.LookupCall (now (table .entry)) (now (values .entry)) r (now (values .exit)) ⌝ }
+    ensures { λ r. ⌜
+        L.LookupCall (now (table .entry)) (now (values .entry)) r (now (values .exit)) ⌝ }
 {
     if table.len() != Answer::FINE_TABLE_LENGTH {
         return Answer::TableLength;

@@ -24,7 +24,8 @@ secantAt xs ys i = slope (knotAt xs ys i) (knotAt xs ys (i + 1))
 unfoldable pub meanAt : List Float → List Float → ℕ → ℕ → Float
 meanAt xs ys n i =
     cond (eqb i 0) (secantAt xs ys 0)
-    (cond (eqb (i + 1) n) (secantAt xs ys (i - 1)) (½ ⊗ (secantAt xs ys (i - 1) ⊕ secantAt xs ys i)))
+    (cond (eqb (i + 1) n) (secantAt xs ys (i - 1))
+    (½ ⊗ (secantAt xs ys (i - 1) ⊕ secantAt xs ys i)))
 
 -- "a negative one sets its tangent 0": the tangent m, with the ratio m / Δ, which is α or β
 abbrev pub nonnegative : Float → Float → Float
@@ -41,7 +42,8 @@ boxed Δ l r =
     let β = r ⊘ Δ in
     record { left = capped l α Δ; right = capped r β Δ }
 
--- "if a × a + b × b > 9, both become 3 / root × a (or b) × secant, from the a and b before that zeroing"
+-- "if a × a + b × b > 9, both become 3 / root × a (or b) × secant, from the a
+-- and b before that zeroing"
 unfoldable pub circled : Float → Float → Float → Tangents
 circled Δ l r =
     let α = l ⊘ Δ in
@@ -60,7 +62,8 @@ adjusted box Δ l r =
 -- "segment by segment from the left": the tangent of knot i as the segments before it leave it
 unfoldable pub reached : Bool → List Float → List Float → ℕ → ℕ → Float
 reached box xs ys n zero = meanAt xs ys n 0
-reached box xs ys n (suc i) = adjusted box (secantAt xs ys i) (reached box xs ys n i) (meanAt xs ys n (suc i)) .right
+reached box xs ys n (suc i) =
+    adjusted box (secantAt xs ys i) (reached box xs ys n i) (meanAt xs ys n (suc i)) .right
 
 -- and as the segment after it leaves it; the last knot has none after it
 unfoldable pub monotoneAt : Bool → List Float → List Float → ℕ → ℕ → Float

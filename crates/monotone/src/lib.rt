@@ -97,7 +97,9 @@ fn adjusted(boxed: bool, delta: f32, l: f32, r: f32, beta: f32) -> Tangents
 // The secants of the segments between n knots, to the front of a row.
 fn secants(xs: &[f32; 66], ys: &[f32; 66], n: usize, row: &mut [f32; 66])
     requires { ⌜ (2 ≤ n) × (n ≤ 66) ⌝ }
-    ensures { λ _. ⌜ Stored (Monotone.secantAt (now (xs .entry)) (now (ys .entry))) 0 (n - 1) (now (row .entry)) (now (row .exit)) ⌝ }
+    ensures { λ _. ⌜
+        Stored (Monotone.secantAt (now (xs .entry)) (now (ys .entry))) 0 (n - 1) (now (row .entry))
+        (now (row .exit)) ⌝ }
 {
     let mut i: usize = 0;
     while i + 1 < n {
@@ -109,7 +111,9 @@ fn secants(xs: &[f32; 66], ys: &[f32; 66], n: usize, row: &mut [f32; 66])
 // The first tangents at their right knots.
 fn means(ds: &[f32; 66], n: usize, row: &mut [f32; 66])
     requires { ⌜ (2 ≤ n) × (n ≤ 66) ⌝ }
-    ensures { λ _. ⌜ Stored (Monotone.rightMean (now (ds .entry)) n) 0 (n - 1) (now (row .entry)) (now (row .exit)) ⌝ }
+    ensures { λ _. ⌜
+        Stored (Monotone.rightMean (now (ds .entry)) n) 0 (n - 1) (now (row .entry))
+        (now (row .exit)) ⌝ }
 {
     let mut i: usize = 0;
     while i + 2 < n {
@@ -122,7 +126,9 @@ fn means(ds: &[f32; 66], n: usize, row: &mut [f32; 66])
 // beta of each segment: these over the secants.
 fn quotients(rs: &[f32; 66], ds: &[f32; 66], n: usize, row: &mut [f32; 66])
     requires { ⌜ (2 ≤ n) × (n ≤ 66) ⌝ }
-    ensures { λ _. ⌜ Stored (Monotone.quotientOf (now (rs .entry)) (now (ds .entry))) 0 (n - 1) (now (row .entry)) (now (row .exit)) ⌝ }
+    ensures { λ _. ⌜
+        Stored (Monotone.quotientOf (now (rs .entry)) (now (ds .entry))) 0 (n - 1)
+        (now (row .entry)) (now (row .exit)) ⌝ }
 {
     let mut i: usize = 0;
     while i + 1 < n {
@@ -131,12 +137,15 @@ fn quotients(rs: &[f32; 66], ds: &[f32; 66], n: usize, row: &mut [f32; 66])
     }
 }
 
-// The tangents of MonotoneCubic, or where boxed of MonotoneCubicBox, segment by segment from the left. m is the tangent of knot i as the segments before
-// it leave it. What does not wait for m is found before, in rows: with m / d and r / d in one turn LLVM makes one vector of them, and each turn waits for
-// the one before it.
+// The tangents of MonotoneCubic, or where boxed of MonotoneCubicBox, segment by segment from the
+// left. m is the tangent of knot i as the segments before it leave it. What does not wait for m is
+// found before, in rows: with m / d and r / d in one turn LLVM makes one vector of them, and each
+// turn waits for the one before it.
 pub fn monotone(boxed: bool, xs: &[f32; 66], ys: &[f32; 66], n: usize, tangents: &mut [f32; 66])
     requires { ⌜ (2 ≤ n) × (n ≤ 66) ⌝ }
-    ensures { λ _. ⌜ Stored (Monotone.monotoneAt boxed (now (xs .entry)) (now (ys .entry)) n) 0 n (now (tangents .entry)) (now (tangents .exit)) ⌝ }
+    ensures { λ _. ⌜
+        Stored (Monotone.monotoneAt boxed (now (xs .entry)) (now (ys .entry)) n) 0 n
+        (now (tangents .entry)) (now (tangents .exit)) ⌝ }
 {
     let mut ds = [0.0; 66];
     secants(xs, ys, n, &mut ds);

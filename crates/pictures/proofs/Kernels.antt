@@ -24,7 +24,8 @@ use Rattle.formats.specs.FormatLaws.{tight}
 use Rattle.pictures.specs.Runs.{tablesOf, tightRows}
 
 -- the chosen table of a channel is that of its list
-module _ (kind : CurveInterpolation) (c : Channel) (master : List Point) {own m : List ℕ} (m-is : m ≡ byteTable kind master) where
+module _ (kind : CurveInterpolation) (c : Channel) (master : List Point) {own m : List ℕ}
+    (m-is : m ≡ byteTable kind master) where
   own-or-master : (present : Bool) → (present ≡ true → own ≡ byteTable kind (listOf (c .curve)))
       → chosen present own m ≡ byteTable kind (ownOrMaster (cond present (some (listOf (c .curve))) none) master)
   own-or-master true built = built refl
@@ -41,7 +42,8 @@ abbrev channelTable : Bool → View → Colour → List ℕ
 channelTable by v c = byteTable (v .kind) (cond by (ownOrMaster (colourOf c v) (v .master)) (v .master))
 
 -- the kernel's tight rows are the format's
-pub tight-rows-by : (f : PixelFormat) (v : View) (w h step : ℕ) (plane out : List ℕ) {by : Bool} {p : ℕ} {red green blue new : List ℕ}
+pub tight-rows-by :
+    (f : PixelFormat) (v : View) (w h step : ℕ) (plane out : List ℕ) {by : Bool} {p : ℕ} {red green blue new : List ℕ}
     → Supported f → by ≡ byColour f → p ≡ bytesAPixel f
     → red ≡ channelTable by v Red → green ≡ channelTable by v Green → blue ≡ channelTable by v Blue
     → new ≡ filled (h * (w * p)) (tightByte (w * p) step (rowByte p (tightAlpha p) (three red green blue)) plane) out

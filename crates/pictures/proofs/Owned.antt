@@ -1,4 +1,5 @@
--- What a job that a function is given tells because it is owned: the points and the tension of its set are bytes.
+-- What a job that a function is given tells because it is owned: the points and the
+-- tension of its set are bytes.
 -- A need c of a function of which the job is the first parameter has `own = c .good .0`.
 use mathlib.Core.List.{List}
 use Prim.Native.Nat.{_<_}

@@ -155,11 +155,13 @@ unfolding lutAnswered each tabulate planeByte inRow rowByte toned
 one-row-within = refl
 
 -- "lent memory is unchanged": a step of 1 is below the row bytes of each format
-pub refused-plane : (others (left 2 2 1) ≡ replicate 6 plane) × (yuv (left 2 2 1) ≡ replicate 6 plane)
+pub refused-plane : (others (left 2 2 1) ≡ replicate 6 plane)
+    × (yuv (left 2 2 1) ≡ replicate 6 plane)
 unfolding lutAnswered
 refused-plane = (refl, refl)
 
--- ---- the order of the refusals: each line mends the first fault of the line before it, and has all the later ones still
+-- ---- the order of the refusals: each line mends the first fault of the line before it, and has
+-- all the later ones still
 pub refused-3 : answer (run many Cmyk 4097 2 2 3 7 7 2) ≡ PointCount
 unfolding answered
 refused-3 = refl
@@ -340,7 +342,8 @@ first-row-by-set t cb cr c =
 pub copied-within : (a : Answer) → OneTableCall Gray8 2 2 9 more plane a plane → ⊥
 unfolding lutAnswered each tabulate planeByte inRow rowByte toned
 copied-within a c =
-    let copied : _≡_ {A = ℕ} 1 11 = ap (λ (l : List ℕ). getD l 0 0) (left-is 2 2 9 Gray8 a plane c) in
+    let copied : _≡_ {A = ℕ} 1 11 =
+    ap (λ (l : List ℕ). getD l 0 0) (left-is 2 2 9 Gray8 a plane c) in
     omega (arith, copied)
 
 pub copied-by-set : (t : Toned) (cb cr : List ℕ)

@@ -32,7 +32,8 @@ use Rattle.pictures.specs.Runs.{
 }
 
 -- the table of each channel is that of the list that tones it
-pub tables-of : (f : PixelFormat) (v : View) (j : ℕ) → tablesOf f v j ≡ byteTable (v .kind) (tonedBy f v j)
+pub tables-of : (f : PixelFormat) (v : View) (j : ℕ)
+    → tablesOf f v j ≡ byteTable (v .kind) (tonedBy f v j)
 tables-of f v zero = refl
 tables-of f v (suc zero) = refl
 tables-of f v (suc (suc j)) = refl

@@ -94,7 +94,8 @@ module _ (r : Run) where
   answer = firstRefusal runChecks
 
 -- ---- the tables of the set call
--- the list of a colour's channel: "In Rgb24 and Rgba the list that tones a byte is its colour's where present; in every other case it is the master's"
+-- the list of a colour's channel: "In Rgb24 and Rgba the list that tones a byte is its colour's
+-- where present; in every other case it is the master's"
 abbrev pub listFor : PixelFormat → View → Colour → List Point
 listFor f v c = cond (byColour f) (ownOrMaster (colourOf c v) (v .master)) (v .master)
 
@@ -105,7 +106,8 @@ tableFor f v c = byteTable (v .kind) (listFor f v c)
 abbrev pub tablesOf : PixelFormat → View → ℕ → List ℕ
 tablesOf f v = three (tableFor f v Red) (tableFor f v Green) (tableFor f v Blue)
 
--- "the list that tones a byte", by its channel; `tables-of` of `RunLaws` has it that its table tones the channel
+-- "the list that tones a byte", by its channel; `tables-of` of `RunLaws` has it that
+-- its table tones the channel
 abbrev pub tonedBy : PixelFormat → View → ℕ → List Point
 tonedBy f v zero = listFor f v Red
 tonedBy f v (suc zero) = listFor f v Green
@@ -115,7 +117,8 @@ tonedBy f v (suc (suc j)) = listFor f v Blue
 -- "tight rows" at the front of an output, alpha copied; "Output bytes past that are unchanged"
 abbrev pub tightRows : PixelFormat → ℕ → ℕ → ℕ → (ℕ → List ℕ) → List ℕ → List ℕ → List ℕ
 tightRows f w h step tables plane out =
-    filled (h * (w * bytesAPixel f)) (tightByte (w * bytesAPixel f) step (rowByte (bytesAPixel f) (alphaOf f) tables) plane) out
+    filled (h * (w * bytesAPixel f))
+    (tightByte (w * bytesAPixel f) step (rowByte (bytesAPixel f) (alphaOf f) tables) plane) out
 
 -- "for YUV each chroma plane is copied whole", to the front of its output
 abbrev pub copied : PlaneOf → List ℕ → List ℕ

@@ -58,7 +58,8 @@ impl Toned {
     }
 }
 
-// Tones a plane in place by one table, all twelve formats. Alpha, chroma and padding stay as they are.
+// Tones a plane in place by one table, all twelve formats. Alpha, chroma and
+// padding stay as they are.
 pub fn apply_tone_lut(
     plane: &mut [u8],
     step: usize,
@@ -100,7 +101,8 @@ fn own_table(present: bool, curve: Curve, kind: CurveInterpolation) -> [u8; 256]
     }
 }
 
-// Tones the first plane of an accepted run: by colour, each by its own table or else the master's; or all by the master.
+// Tones the first plane of an accepted run: by colour, each by its own table or else the
+// master's; or all by the master.
 fn tone_first(job: Job, plane: &[u8], step: usize, out: &mut [u8])
     requires { ⌜ (setAnswer (job .set) ≡ Done) × Supported (job .format) ⌝ }
     requires { ⌜
@@ -138,7 +140,8 @@ fn tone_first(job: Job, plane: &[u8], step: usize, out: &mut [u8])
     );
 }
 
-// Tones a picture by a set of curves into tight rows; chroma is copied. On a refusal no output changes.
+// Tones a picture by a set of curves into tight rows; chroma is copied. On a
+// refusal no output changes.
 pub fn apply_pixels<'a, 'x, 'y, 'z>(
     job: Job,
     plane: &'a [u8],

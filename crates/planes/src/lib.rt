@@ -1,6 +1,7 @@
-// Planes: "A plane is its bytes together with its row step". It gives its rows, and the picture calls take it. Whatever the bytes and the step,
-// every open function answers. A function over a plane takes it apart and leaves the work to one on slices and numbers; its proof is
-// written by tools/walk_planes.py.
+// Planes: "A plane is its bytes together with its row step". It gives its rows, and the picture
+// calls take it. Whatever the bytes and the step, every open function answers. A function over
+// a plane takes it apart and leaves the work to one on slices and numbers; its proof is written
+// by tools/walk_planes.py.
 ghost use mathlib.Core.Path.{_≡_};
 ghost use Prim.Native.Nat.{_+_, _*_, _≤_, min};
 ghost use Rattle.pictures.specs.OneTable.{OneTableCall};
@@ -68,7 +69,8 @@ impl<'a> Plane<'a> {
     }
 }
 
-// The set call on planes: tones a picture by a set of curves into tight rows; chroma is copied. On a refusal no output changes.
+// The set call on planes: tones a picture by a set of curves into tight rows; chroma is copied. On
+// a refusal no output changes.
 pub fn tone_picture<'a, 'x, 'y, 'z>(
     job: Job,
     plane: Plane<'a>,
@@ -112,7 +114,8 @@ pub fn tone_picture<'a, 'x, 'y, 'z>(
     )
 }
 
-// The one-table call on a plane: tones it in place, all twelve formats. Alpha, chroma and padding stay as they are.
+// The one-table call on a plane: tones it in place, all twelve formats. Alpha, chroma and
+// padding stay as they are.
 pub fn tone_plane<'a>(
     plane: PlaneMut<'a>,
     table: [u8; 256],

@@ -1,4 +1,5 @@
--- The knots of a list, and its exact broken line, as document 01's section "Points" has them. Definitions only.
+-- The knots of a list, and its exact broken line, as document 01's section "Points"
+-- has them. Definitions only.
 use Prim.Native.Nat.{ℕ, suc, _+_, _-_, _*_, _≤_, _<_, min}
 use mathlib.Core.Path.{_≡_}
 use mathlib.Core.Bool.{Bool, cond}
@@ -17,7 +18,8 @@ use Rattle.points.specs.declared.Knots.{Knots}
 use Rattle.points.specs.Points.{pt, nth, kept}
 
 -- ---- the knots
--- what is behind p, followed by the points of l: these, and if the last is not at 255, one at 255 with the last y
+-- what is behind p, followed by the points of l: these, and if the last is not at 255,
+-- one at 255 with the last y
 unfoldable pub rest : Point → List Point → List Point
 rest p [] = cond (eqb (p .x) 255) [] (pt 255 (p .y) ∷ [])
 rest p (q ∷ l) = q ∷ rest q l
@@ -70,7 +72,8 @@ before i = i - 1
 abbrev pub after : ℕ → ℕ → ℕ
 after n i = min (i + 1) (n - 1)
 
--- whether a segment, with its knots at l and r, is too thin to divide by its width: thinner than 1e-6
+-- whether a segment, with its knots at l and r, is too thin to divide by its
+-- width: thinner than 1e-6
 abbrev pub tooThin : Float → Float → Bool
 tooThin l r = lt (absolute (r ⊖ l)) micro
 

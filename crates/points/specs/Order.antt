@@ -1,4 +1,5 @@
--- The words for a list's points one by one, and for each with the next one; and what these tell of places and members.
+-- The words for a list's points one by one, and for each with the next one; and what these
+-- tell of places and members.
 use mathlib.Core.Path.{_≡_, sym}
 use mathlib.Core.List.{List, [], _∷_, List·Memᴰ, List·Memᴰ·head, List·Memᴰ·tail, List·Memᴰ·not-nil}
 use Prim.Native.Nat.{ℕ, zero, suc, _≤_, _<_}
@@ -60,12 +61,15 @@ module _ (R : Point → Point → Type 0) (trans : (p q r : Point) → R p q →
   nexts-to (p ∷ l) n i zero h k = absurd (omega arith)
   nexts-to (p ∷ l) n zero (suc j) h k = first-to p l n j (omega arith)
   nexts-to (p ∷ []) n (suc i) (suc j) h k = absurd (omega arith)
-  nexts-to (p ∷ q ∷ l) n (suc i) (suc j) h k = nexts-to (q ∷ l) (n .1) i j (omega arith) (omega arith)
+  nexts-to (p ∷ q ∷ l) n (suc i) (suc j) h k =
+      nexts-to (q ∷ l) (n .1) i j (omega arith) (omega arith)
 
-pub rising-to : (l : List Point) → Rising l → (i j : ℕ) → i < j → j < length l → nth l i .x < nth l j .x
+pub rising-to : (l : List Point) → Rising l → (i j : ℕ) → i < j → j < length l
+    → nth l i .x < nth l j .x
 rising-to = nexts-to Before (λ p q r h k. lt-trans h k)
 
-pub never-falls-to : (l : List Point) → NeverFalls l → (i j : ℕ) → i < j → j < length l → nth l i .y ≤ nth l j .y
+pub never-falls-to : (l : List Point) → NeverFalls l → (i j : ℕ) → i < j → j < length l
+    → nth l i .y ≤ nth l j .y
 never-falls-to = nexts-to NoLower (λ p q r h k. le-trans h k)
 
 -- ---- members
@@ -77,7 +81,8 @@ all-mem P (q ∷ l) a p (List·Memᴰ·tail m) = all-mem P l (a .1) p m
 pub mem-at : (l : List Point) (p : Point) → List·Memᴰ p l → (i : ℕ) × (i < length l) × (nth l i ≡ p)
 mem-at [] p m = absurd (List·Memᴰ·not-nil m)
 mem-at (q ∷ l) p (List·Memᴰ·head e) = (0, omega arith, sym e)
-mem-at (q ∷ l) p (List·Memᴰ·tail m) = let r = mem-at l p m in (suc (r .0), omega (arith, r .1), r .2)
+mem-at (q ∷ l) p (List·Memᴰ·tail m) = let r = mem-at l p m in
+    (suc (r .0), omega (arith, r .1), r .2)
 
 pub all-take : (P : Point → Type 0) (n : ℕ) (l : List Point) → All P l → All P (take n l)
 all-take P zero l a = tt

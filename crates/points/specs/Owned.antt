@@ -1,5 +1,7 @@
--- What a `Curve` that a function is given, or that a call hands back, tells of its points: there are 64, each of two bytes.
--- The type says neither, but that the value is owned does, in a form that `search` finds. At a need c of a function of a parameter `curve`:
+-- What a `Curve` that a function is given, or that a call hands back, tells of its points: there
+-- are 64, each of two bytes.
+-- The type says neither, but that the value is owned does, in a form that `search` finds. At a need
+-- c of a function of a parameter `curve`:
 --     let long : length (c .args .curve .points) ≡ 64 = search (needs, length-told) in
 --     let bytes : All Bytes (listOf (c .args .curve)) = search (needs, all-take, bytes-told) in ..
 use mathlib.Core.Path.{_≡_, sym, _∙_}
@@ -24,7 +26,8 @@ use Rattle.points.specs.Order.{All, Bytes}
 abbrev twoBytes : RattleType
 twoBytes = Struct (record { name = []; args = []; fields = rows (u8-field ∷ u8-field ∷ []) })
 
-pub length-told : (X Y : Type 0) (f : X → Y) (l : List X) (n : ℕ) → length (map f l) ≡ n → length l ≡ n
+pub length-told : (X Y : Type 0) (f : X → Y) (l : List X) (n : ℕ) → length (map f l) ≡ n
+    → length l ≡ n
 length-told X Y f l n e = sym (length-map l f) ∙ e
 
 -- so the list has as many points as are claimed, and no more than 64
@@ -41,7 +44,8 @@ limited-list l n long = elim (decLe n 64) [
 ]
 
 pub bytes-told : (l : List Point) (us : List Val)
-    → shadow (each (twoBytes .Denot) (twoBytes .own) (map (λ p. (p .x, (p .y, tt))) l) us) → All Bytes l
+    → shadow (each (twoBytes .Denot) (twoBytes .own) (map (λ p. (p .x, (p .y, tt))) l) us)
+    → All Bytes l
 bytes-told [] us s = tt
 bytes-told (p ∷ l) [] s = absurd s
 bytes-told (p ∷ l) (u ∷ us) s = ((s .0 .1 .1 .0 .1, s .0 .1 .1 .1 .0 .1), bytes-told l us (s .1))

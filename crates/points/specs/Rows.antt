@@ -1,4 +1,5 @@
--- The rows of floats that hold knots: what is at each place below the count, and which number that is.
+-- The rows of floats that hold knots: what is at each place below the count,
+-- and which number that is.
 use mathlib.Core.Path.{_≡_}
 use mathlib.Core.List.{List}
 use Prim.Native.Nat.{ℕ, _*_, _<_}
@@ -20,7 +21,8 @@ use Rattle.points.specs.Order.{All, Bytes, all-at}
 -- ---- heights
 -- a height in 256ths
 pub height-is : (y : ℕ) → y < 256 → Is (heightOf y) (256 * y) 0 256
-height-is y h = is-same (heightOf y) y 0 1 (256 * y) 0 256 (lit< tt) (float-is y (omega arith)) (omega arith)
+height-is y h =
+    is-same (heightOf y) y 0 1 (256 * y) 0 256 (lit< tt) (float-is y (omega arith)) (omega arith)
 
 pub height-fits : (y : ℕ) → T (fits binary32 (heightOf y))
 height-fits y = ofInt-fits binary32 (pos y)

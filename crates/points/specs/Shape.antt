@@ -1,4 +1,5 @@
--- The knots of a kept list: from 0 to 255, strictly rising, every point of the list among them, and never falling where the list never falls.
+-- The knots of a kept list: from 0 to 255, strictly rising, every point of the list among them, and
+-- never falling where the list never falls.
 use mathlib.Core.Path.{_≡_, refl}
 use mathlib.Core.List.{List, [], _∷_, List·Memᴰ, List·Memᴰ·head, List·Memᴰ·tail, List·Memᴰ·not-nil}
 use Prim.Native.Nat.{suc, _+_, _-_, _≤_, _<_}
@@ -16,7 +17,8 @@ use Rattle.points.specs.Order.{All, Nexts, Before, NoLower, Bytes, Risin
 
 -- ---- p and what is behind it
 -- what holds both of none and of one at 255 holds of what is behind the last point
-by-end : (P : List Point → Type 0) (p : Point) → (p .x ≡ 255 → P []) → ((p .x ≡ 255 → ⊥) → P (pt 255 (p .y) ∷ [])) → P (rest p [])
+by-end : (P : List Point → Type 0) (p : Point) → (p .x ≡ 255 → P [])
+    → ((p .x ≡ 255 → ⊥) → P (pt 255 (p .y) ∷ [])) → P (rest p [])
 unfolding rest
 by-end P p without with-one = elim (ℕ-discrete (p .x) 255) [
   | yes here ↦ rw (eq-eqb (p .x) 255 here) (without here)
@@ -25,13 +27,16 @@ by-end P p without with-one = elim (ℕ-discrete (p .x) 255) [
 
 rest-all : (p : Point) (l : List Point) → All Bytes (p ∷ l) → All Bytes (p ∷ rest p l)
 unfolding rest
-rest-all p [] a = by-end (λ t. All Bytes (p ∷ t)) p (λ here. a) (λ other. (a .0, ((lit< tt, a .0 .1), tt)))
+rest-all p [] a =
+    by-end (λ t. All Bytes (p ∷ t)) p (λ here. a) (λ other. (a .0, ((lit< tt, a .0 .1), tt)))
 rest-all p (q ∷ l) a = (a .0, rest-all q l (a .1))
 
-rest-nexts : (R : Point → Point → Type 0) → ((p : Point) → p .x < 255 → R p (pt 255 (p .y))) → (p : Point) (l : List Point)
+rest-nexts : (R : Point → Point → Type 0) → ((p : Point) → p .x < 255 → R p (pt 255 (p .y)))
+    → (p : Point) (l : List Point)
     → All Bytes (p ∷ l) → Nexts R (p ∷ l) → Nexts R (p ∷ rest p l)
 unfolding rest
-rest-nexts R end p [] a n = by-end (λ t. Nexts R (p ∷ t)) p (λ here. tt) (λ other. (end p (omega (arith, a .0 .0)), tt))
+rest-nexts R end p [] a n =
+    by-end (λ t. Nexts R (p ∷ t)) p (λ here. tt) (λ other. (end p (omega (arith, a .0 .0)), tt))
 rest-nexts R end p (q ∷ l) a n = (n .0, rest-nexts R end q l (a .1) (n .1))
 
 rest-last : (p : Point) (l : List Point) → xOf (p ∷ rest p l) (length (rest p l)) ≡ 255
@@ -49,7 +54,8 @@ unfolding rest
 rest-length p [] = by-end (λ t. length t ≤ 1) p (λ here. lit≤ tt) (λ other. lit≤ tt)
 rest-length p (q ∷ l) = omega (arith, rest-length q l)
 
-rest-mem : (q : Point) (l : List Point) (p : Point) → List·Memᴰ p (q ∷ l) → List·Memᴰ p (q ∷ rest q l)
+rest-mem : (q : Point) (l : List Point) (p : Point) → List·Memᴰ p (q ∷ l)
+    → List·Memᴰ p (q ∷ rest q l)
 unfolding rest
 rest-mem q l p (List·Memᴰ·head e) = List·Memᴰ·head e
 rest-mem q [] p (List·Memᴰ·tail m) = absurd (List·Memᴰ·not-nil m)
@@ -58,7 +64,8 @@ rest-mem q (r ∷ l) p (List·Memᴰ·tail m) = List·Memᴰ·tail (rest-mem r l
 -- ---- the knots
 -- what holds both without and with one in front holds of the knots
 by-front : (P : List Point → Type 0) (p : Point) (l : List Point)
-    → (p .x ≡ 0 → P (p ∷ rest p l)) → (0 < p .x → P (pt 0 (p .y) ∷ p ∷ rest p l)) → P (knots (p ∷ l))
+    → (p .x ≡ 0 → P (p ∷ rest p l)) → (0 < p .x → P (pt 0 (p .y) ∷ p ∷ rest p l))
+    → P (knots (p ∷ l))
 unfolding knots
 by-front P p l without with-one = elim (ℕ-discrete (p .x) 0) [
   | yes here ↦ rw (eq-eqb (p .x) 0 here) (without here)
@@ -114,7 +121,9 @@ knots-length (p ∷ l) =
 -- the list's points are knots
 pub knots-mem : (l : List Point) (p : Point) → List·Memᴰ p l → List·Memᴰ p (knots l)
 knots-mem [] p m = absurd (List·Memᴰ·not-nil m)
-knots-mem (q ∷ l) p m = by-front (List·Memᴰ p) q l (λ zero. rest-mem q l p m) (λ above. List·Memᴰ·tail (rest-mem q l p m))
+knots-mem (q ∷ l) p m =
+    by-front (List·Memᴰ p) q l (λ zero. rest-mem q l p m)
+    (λ above. List·Memᴰ·tail (rest-mem q l p m))
 
 -- the knots added at the ends are no higher and no lower than their neighbours
 pub knots-never-fall : (l : List Point) → IsKept l → NeverFalls l → NeverFalls (knots l)

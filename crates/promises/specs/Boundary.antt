@@ -43,21 +43,26 @@ use Rattle.tone_c.specs.PictureLaws.{first-is, cb-is, cr-is}
 use Rattle.promises.specs.Checks.{Answers, answers}
 
 -- ---- the first demand, call by call
-pub tone-table : {points old new : List ℕ} {kind tension r : ℕ} {start end : ℤ} → ToneTableCall points kind tension start end old r new
+pub tone-table : {points old new : List ℕ} {kind tension r : ℕ} {start end : ℤ}
+    → ToneTableCall points kind tension start end old r new
     → Answers (toneTableChecks points kind (length old)) r (new ≡ old)
 tone-table call = answers (call .number) (λ no. rw no at (call .table))
 
-pub tone-fine-table : {points : List ℕ} {kind tension r : ℕ} {start end : ℤ} {old new : List Float} → ToneFineTableCall points kind tension start end old r new
+pub tone-fine-table : {points : List ℕ} {kind tension r : ℕ} {start end : ℤ} {old new : List Float}
+    → ToneFineTableCall points kind tension start end old r new
     → Answers (toneFineTableChecks points kind (length old)) r (new ≡ old)
 tone-fine-table call = answers (call .number) (λ no. rw no at (call .table))
 
-pub tone-lookup : {table old new : List Float} {r : ℕ} → ToneLookupCall table old r new → Answers (lookupChecks (length table)) r (new ≡ old)
+pub tone-lookup : {table old new : List Float} {r : ℕ} → ToneLookupCall table old r new
+    → Answers (lookupChecks (length table)) r (new ≡ old)
 unfolding lookedUp
 tone-lookup {table} call =
     answers (call .number)
-    (λ no. by-test (eqb (length table) 4096) (λ t. absurd (true≢false (rw (call .number, t) at no))) (λ t. rw t at (call .values)))
+    (λ no. by-test (eqb (length table) 4096) (λ t. absurd (true≢false (rw (call .number, t) at no)))
+    (λ t. rw t at (call .values)))
 
-pub tone-plane : {table old new : List ℕ} {format width height step r : ℕ} → TonePlaneCall table format width height step old r new
+pub tone-plane : {table old new : List ℕ} {format width height step r : ℕ}
+    → TonePlaneCall table format width height step old r new
     → Answers (tonePlaneChecks format width height step (length old)) r (new ≡ old)
 tone-plane call = answers (call .number) (λ no. rw no at (call .plane))
 
@@ -66,30 +71,38 @@ pub tone-picture : {asked : PictureAsked} {r : ℕ} {after : Outputs} → TonePi
 tone-picture {r = r} call =
     answers (call .number) (λ no. call .unchanged (λ zero. true≢false (rw zero at no)))
 
-pub tone-record-table : (stored : List ℕ) {old new : List ℕ} {r : ℕ} → ToneRecordTableCall stored old r new
+pub tone-record-table : (stored : List ℕ) {old new : List ℕ} {r : ℕ}
+    → ToneRecordTableCall stored old r new
     → Answers (toneRecordTableChecks stored (length old)) r (new ≡ old)
 tone-record-table stored call = answers (call .number) (λ no. rw no at (call .table))
 
-pub tone-record-copy : (stored : List ℕ) {old new : List ℕ} {oldWritten newWritten r : ℕ} → ToneRecordCopyCall stored old oldWritten r new newWritten
+pub tone-record-copy : (stored : List ℕ) {old new : List ℕ} {oldWritten newWritten r : ℕ}
+    → ToneRecordCopyCall stored old oldWritten r new newWritten
     → Answers (toneRecordCopyChecks stored (length old)) r ((new ≡ old) × (newWritten ≡ oldWritten))
-tone-record-copy stored call = answers (call .number) (λ no. (rw no at (call .out), rw no at (call .written)))
+tone-record-copy stored call =
+    answers (call .number) (λ no. (rw no at (call .out), rw no at (call .written)))
 
 -- ---- the second
-pub tone-table-gives : {points old new : List ℕ} {kind tension r : ℕ} {start end : ℤ} → ToneTableCall points kind tension start end old r new → r ≡ 0
+pub tone-table-gives : {points old new : List ℕ} {kind tension r : ℕ} {start end : ℤ}
+    → ToneTableCall points kind tension start end old r new → r ≡ 0
     → new ≡ byteTable (kindOf kind tension start end) (pairsOf points) ++ drop 256 old
 tone-table-gives call zero = rw zero at (call .table)
 
-pub tone-fine-table-gives : {points : List ℕ} {kind tension r : ℕ} {start end : ℤ} {old new : List Float}
+pub tone-fine-table-gives :
+    {points : List ℕ} {kind tension r : ℕ} {start end : ℤ} {old new : List Float}
     → ToneFineTableCall points kind tension start end old r new → r ≡ 0
     → new ≡ fineTable (kindOf kind tension start end) (pairsOf points) (length old)
 tone-fine-table-gives call zero = rw zero at (call .table)
 
-pub tone-lookup-gives : {table old new : List Float} {r : ℕ} → ToneLookupCall table old r new → r ≡ 0 → new ≡ tabulate (length old) (λ k. looked table old k)
+pub tone-lookup-gives : {table old new : List Float} {r : ℕ} → ToneLookupCall table old r new
+    → r ≡ 0 → new ≡ tabulate (length old) (λ k. looked table old k)
 unfolding lookedUp
 tone-lookup-gives {table} call zero =
-    by-test (eqb (length table) 4096) (λ t. rw t at (call .values)) (λ t. absurd (omega (arith, zero, rw t at (call .number))))
+    by-test (eqb (length table) 4096) (λ t. rw t at (call .values))
+    (λ t. absurd (omega (arith, zero, rw t at (call .number))))
 
-pub tone-plane-gives : {table old new : List ℕ} {format width height step r : ℕ} → TonePlaneCall table format width height step old r new → r ≡ 0
+pub tone-plane-gives : {table old new : List ℕ} {format width height step r : ℕ}
+    → TonePlaneCall table format width height step old r new → r ≡ 0
     → new ≡ tonedWithin (formatOf format) width height step table old
 tone-plane-gives call zero = rw zero at (call .plane)
 
@@ -108,10 +121,13 @@ pub tone-picture-gives : {asked : PictureAsked} {r : ℕ} {after : Outputs}
 tone-picture-gives call zero =
     (rw zero at (first-is call), rw zero at (cb-is call), rw zero at (cr-is call))
 
-pub tone-record-table-gives : (stored : List ℕ) {old new : List ℕ} {r : ℕ} → ToneRecordTableCall stored old r new → r ≡ 0
+pub tone-record-table-gives : (stored : List ℕ) {old new : List ℕ} {r : ℕ}
+    → ToneRecordTableCall stored old r new → r ≡ 0
     → new ≡ byteTable (setOf stored .kind) (setOf stored .master) ++ drop 256 old
 tone-record-table-gives stored call zero = rw zero at (call .table)
 
-pub tone-record-copy-gives : (stored : List ℕ) {old new : List ℕ} {oldWritten newWritten r : ℕ} → ToneRecordCopyCall stored old oldWritten r new newWritten → r ≡ 0
-    → (new ≡ copyOf stored ++ drop (length (copyOf stored)) old) × (newWritten ≡ length (copyOf stored))
+pub tone-record-copy-gives : (stored : List ℕ) {old new : List ℕ} {oldWritten newWritten r : ℕ}
+    → ToneRecordCopyCall stored old oldWritten r new newWritten → r ≡ 0
+    → (new ≡ copyOf stored ++ drop (length (copyOf stored)) old)
+    × (newWritten ≡ length (copyOf stored))
 tone-record-copy-gives stored call zero = (rw zero at (call .out), rw zero at (call .written))

@@ -20,7 +20,11 @@ use Rattle.segments.specs.Straight.{slope}
 use Rattle.monotone.specs.Monotone.{secantAt, meanAt, boxed, adjusted, reached, monotoneAt}
 use Rattle.spline.specs.Second.{recovered, endsRecovered, notAKnotAt}
 use Rattle.tables.specs.declared.CurveInterpolation.{CurveInterpolation}
-use Rattle.tables.specs.declared.CurveInterpolation.the-variants.{Linear, MonotoneCubicBox, NotAKnotCubic}
+use Rattle.tables.specs.declared.CurveInterpolation.the-variants.{
+  Linear,
+  MonotoneCubicBox,
+  NotAKnotCubic,
+}
 use Rattle.tables.specs.Tables.{entryOf}
 use Rattle.sets.specs.Sets.{viewOf}
 use Rattle.sets.specs.SameLaws.{same-refl}
@@ -72,7 +76,8 @@ use Rattle.promises.specs.Pixels.{
 
 -- what the computation of an entry opens, under every kind that is used here
 computed : CurveInterpolation → List Point → ℕ → ℕ
-unfolding Computed.entry slope secantAt meanAt boxed adjusted reached monotoneAt recovered endsRecovered notAKnotAt
+unfolding Computed.entry slope secantAt meanAt boxed adjusted reached monotoneAt recovered
+    endsRecovered notAKnotAt
 computed = entryOf
 
 abbrev straightLine : Toning
@@ -89,29 +94,42 @@ linear-is-no-spline = no-splines 0 .0
 -- ---- "order", with P for its premise on kind and lists
 abbrev OrderUnder : (Run → Type 0) → Type 0
 OrderUnder P =
-    (a b : Call) → Share a b → Accepted a → Accepted b → P (a .given) → ((p : Place) → TonedAt (a .given) p → input a p ≤ input b p)
+    (a b : Call) → Share a b → Accepted a → Accepted b → P (a .given)
+    → ((p : Place) → TonedAt (a .given) p → input a p ≤ input b p)
     → (p : Place) → TonedAt (a .given) p → output a p ≤ output b p
 
 -- an entry lower than one before it refutes it
-order-refuted : (P : Run → Type 0) (s : Toning) (v w : ℕ) (v-byte : v < 256) (w-byte : w < 256) → v ≤ w
+order-refuted : (P : Run → Type 0) (s : Toning) (v w : ℕ) (v-byte : v < 256) (w-byte : w < 256)
+    → v ≤ w
     → entryOf (s .kind) (s .list) w < entryOf (s .kind) (s .list) v
-    → Accepted (ranGrey s v v-byte) → Accepted (ranGrey s w w-byte) → P (runOf (grey s v)) → OrderUnder P → ⊥
+    → Accepted (ranGrey s v v-byte) → Accepted (ranGrey s w w-byte) → P (runOf (grey s v))
+    → OrderUnder P → ⊥
 order-refuted P s v w v-byte w-byte le lower v-ok w-ok holds order =
     let a = ranGrey s v v-byte in
     let b = ranGrey s w w-byte in
     let below : (p : Place) → TonedAt (a .given) p → input a p ≤ input b p = λ p t.
     let i = t .within in
-    rw (grey-input s v v-byte p (i .row) (i .column) (i .channel), grey-input s w w-byte p (i .row) (i .column) (i .channel)) le in
+    rw (
+      grey-input s v v-byte p (i .row) (i .column) (i .channel),
+      grey-input s w w-byte p (i .row) (i .column) (i .channel),
+    ) le in
     omega (
       arith,
-      order a b (shared (grey s v) (grey s w) (v-byte, tt) (w-byte, tt) refl refl refl) v-ok w-ok holds below here (grey-toned s v),
+      order a b (shared (grey s v) (grey s w) (v-byte, tt) (w-byte, tt) refl refl refl) v-ok w-ok
+          holds below here (grey-toned s v),
       grey-output s v v-byte v-ok,
       grey-output s w w-byte w-ok,
     )
 
 -- a list that falls breaks it under Linear ..
 abbrev falling : Toning
-falling = record { list = pt 0 9 ∷ pt 255 0 ∷ []; kind = Linear; bytes = ((lit< tt, lit< tt), ((lit< tt, lit< tt), tt)); tension = lit< tt }
+falling =
+    record {
+      list = pt 0 9 ∷ pt 255 0 ∷ [];
+      kind = Linear;
+      bytes = ((lit< tt, lit< tt), ((lit< tt, lit< tt), tt));
+      tension = lit< tt;
+    }
 
 pub falling-at-0 : entryOf Linear (falling .list) 0 ≡ 9
 unfolding computed
@@ -124,14 +142,18 @@ falling-at-255 = refl
 pub order-wants-no-list-to-fall : OrderUnder IsLinear → ⊥
 unfolding answered
 order-wants-no-list-to-fall =
-    order-refuted IsLinear falling 0 255 (lit< tt) (lit< tt) (lit≤ tt) (omega (arith, falling-at-0, falling-at-255)) refl refl refl
+    order-refuted IsLinear falling 0 255 (lit< tt) (lit< tt) (lit≤ tt)
+    (omega (arith, falling-at-0, falling-at-255)) refl refl refl
 
 -- .. and a list that never falls breaks it under another kind
 abbrev steep : Toning
 steep = record {
   list = pt 0 0 ∷ pt 1 50 ∷ pt 66 51 ∷ pt 255 255 ∷ [];
   kind = MonotoneCubicBox;
-  bytes = ((lit< tt, lit< tt), ((lit< tt, lit< tt), ((lit< tt, lit< tt), ((lit< tt, lit< tt), tt))));
+  bytes = (
+    (lit< tt, lit< tt),
+    ((lit< tt, lit< tt), ((lit< tt, lit< tt), ((lit< tt, lit< tt), tt))),
+  );
   tension = lit< tt;
 }
 
@@ -146,7 +168,8 @@ steep-at-34 = refl
 pub order-wants-linear : OrderUnder NoListFalls → ⊥
 unfolding answered
 order-wants-linear =
-    order-refuted NoListFalls steep 33 34 (lit< tt) (lit< tt) (lit≤ tt) (omega (arith, steep-at-33, steep-at-34)) refl refl
+    order-refuted NoListFalls steep 33 34 (lit< tt) (lit< tt) (lit≤ tt)
+    (omega (arith, steep-at-33, steep-at-34)) refl refl
     (record { master = (lit≤ tt, (lit≤ tt, (lit≤ tt, tt))); red = tt; green = tt; blue = tt })
 
 -- .. and so does a colour that falls, where the master never does: red in a pixel of Rgb24, by the
@@ -205,7 +228,8 @@ order-wants-no-colour-to-fall order =
           (List·Memᴰ·tail (List·Memᴰ·head refl)) refl,
     )
 
--- ---- "near", with P for its premise on the kind, and IsNear for what it says of an output byte and the line n / d
+-- ---- "near", with P for its premise on the kind, and IsNear for what it says of an
+-- output byte and the line n / d
 abbrev NearUnder : (Run → Type 0) → (ℕ → ℕ → ℕ → Type 0) → Type 0
 NearUnder P IsNear =
     (a : Call) → Accepted a → P (a .given) → (p : Place) → TonedAt (a .given) p
@@ -214,26 +238,40 @@ NearUnder P IsNear =
 -- the line of the steep list is 3,283 / 65 at 34, to which 51 is nearest, and not 50
 pub steep-line-at-34 : OnLine (steep .list) 34 3283 65
 unfolding kept keptBelow firstAt knots rest
-steep-line-at-34 = record { i = 1; inside = lit< tt; left = lit≤ tt; right = lit≤ tt; width = refl; height = refl }
+steep-line-at-34 =
+    record { i = 1; inside = lit< tt; left = lit≤ tt; right = lit≤ tt; width = refl; height = refl }
 
 pub near-wants-linear : NearUnder (λ r. Unit {0}) Nearest → ⊥
 unfolding answered
 near-wants-linear near =
     let byte : 34 < 256 = lit< tt in
-    let claim = near (ranGrey steep 34 byte) refl tt here (grey-toned steep 34) 3283 65 steep-line-at-34 in
+    let claim =
+    near (ranGrey steep 34 byte) refl tt here (grey-toned steep 34) 3283 65 steep-line-at-34 in
     omega (arith, claim .0, claim .1, grey-output steep 34 byte refl, steep-at-34)
 
 -- 31 and 32 are both nearest to 378 / 12 = 31.5, 30 and 33 are not ..
-pub nearest-half : Nearest 378 12 31 × Nearest 378 12 32 × (Nearest 378 12 30 → ⊥) × (Nearest 378 12 33 → ⊥)
-nearest-half = ((lit≤ tt, lit≤ tt), (lit≤ tt, lit≤ tt), λ h. omega (arith, h .0, h .1), λ h. omega (arith, h .0, h .1))
+pub nearest-half : Nearest 378 12 31 × Nearest 378 12 32 × (Nearest 378 12 30 → ⊥)
+    × (Nearest 378 12 33 → ⊥)
+nearest-half = (
+  (lit≤ tt, lit≤ tt),
+  (lit≤ tt, lit≤ tt),
+  λ h. omega (arith, h .0, h .1),
+  λ h. omega (arith, h .0, h .1),
+)
 
 -- .. which is the line of (0,0),(12,54) at 7. This half goes down: not every half goes up
 abbrev ramp : Toning
-ramp = record { list = pt 0 0 ∷ pt 12 54 ∷ []; kind = Linear; bytes = ((lit< tt, lit< tt), ((lit< tt, lit< tt), tt)); tension = lit< tt }
+ramp = record {
+  list = pt 0 0 ∷ pt 12 54 ∷ [];
+  kind = Linear;
+  bytes = ((lit< tt, lit< tt), ((lit< tt, lit< tt), tt));
+  tension = lit< tt;
+}
 
 pub ramp-line-at-7 : OnLine (ramp .list) 7 378 12
 unfolding kept keptBelow firstAt knots rest
-ramp-line-at-7 = record { i = 0; inside = lit< tt; left = lit≤ tt; right = lit≤ tt; width = refl; height = refl }
+ramp-line-at-7 =
+    record { i = 0; inside = lit< tt; left = lit≤ tt; right = lit≤ tt; width = refl; height = refl }
 
 pub ramp-at-7 : entryOf Linear (ramp .list) 7 ≡ 31
 unfolding computed
@@ -243,7 +281,12 @@ pub near-goes-either-way : NearUnder IsLinear (λ n d b. 2 * n < 2 * (b * d) + d
 unfolding answered
 near-goes-either-way up =
     let byte : 7 < 256 = lit< tt in
-    omega (arith, up (ranGrey ramp 7 byte) refl refl here (grey-toned ramp 7) 378 12 ramp-line-at-7, grey-output ramp 7 byte refl, ramp-at-7)
+    omega (
+      arith,
+      up (ranGrey ramp 7 byte) refl refl here (grey-toned ramp 7) 378 12 ramp-line-at-7,
+      grey-output ramp 7 byte refl,
+      ramp-at-7,
+    )
 
 -- ---- "through points": NotAKnotCubic misses (163,230) by 1
 abbrev narrow : Toning
@@ -267,12 +310,14 @@ through-points-wants-no-spline through =
     let byte : 163 < 256 = lit< tt in
     omega (
       arith,
-      through (ranGrey narrow 163 byte) refl here (grey-toned narrow 163) (pt 163 230) (List·Memᴰ·head refl) refl,
+      through (ranGrey narrow 163 byte) refl here (grey-toned narrow 163) (pt 163 230)
+          (List·Memᴰ·head refl) refl,
       grey-output narrow 163 byte refl,
       narrow-at-163,
     )
 
--- ---- "rows alone": alpha and chroma are written too, so it is not enough that runs are alike in their toned bytes, or in their rows
+-- ---- "rows alone": alpha and chroma are written too, so it is not enough that runs are alike in
+-- their toned bytes, or in their rows
 abbrev colours : ℕ → List ℕ
 colours alpha = 5 ∷ 6 ∷ 7 ∷ alpha ∷ []
 
@@ -283,7 +328,15 @@ colours-alike x y (suc (suc zero)) h = refl
 colours-alike x y (suc (suc (suc i))) h = absurd (omega arith)
 
 abbrev coloured : ℕ → Strip
-coloured alpha = record { by = straightLine; format = Rgba; height = 1; plane = colours alpha; step = 4; chroma = [] }
+coloured alpha =
+    record {
+      by = straightLine;
+      format = Rgba;
+      height = 1;
+      plane = colours alpha;
+      step = 4;
+      chroma = [];
+    }
 
 abbrev alphaHere : Place
 alphaHere = record { row = 0; column = 0; channel = 3 }
@@ -292,20 +345,24 @@ alpha-within : (alpha : ℕ) → Within (runOf (coloured alpha)) alphaHere
 alpha-within alpha = record { row = lit< tt; column = lit< tt; channel = lit< tt }
 
 pub rows-alone-wants-alpha :
-    ((a b : Call) → Share a b → Accepted a → Accepted b → ((p : Place) → TonedAt (a .given) p → input a p ≡ input b p) → AlikeInChroma a b
+    ((a b : Call) → Share a b → Accepted a → Accepted b
+    → ((p : Place) → TonedAt (a .given) p → input a p ≡ input b p) → AlikeInChroma a b
     → WriteTheSame a b)
     → ⊥
 unfolding answered
 rows-alone-wants-alpha claim =
-    let bytes : (x : ℕ) → x < 256 → AreBytes (colours x) = λ x h. (lit< tt, (lit< tt, (lit< tt, (h, tt)))) in
+    let bytes : (x : ℕ) → x < 256 → AreBytes (colours x) =
+    λ x h. (lit< tt, (lit< tt, (lit< tt, (h, tt)))) in
     let a-bytes = bytes 1 (lit< tt) in
     let b-bytes = bytes 2 (lit< tt) in
     let a = ran (coloured 1) a-bytes in
     let b = ran (coloured 2) b-bytes in
     let alike : (p : Place) → TonedAt (a .given) p → input a p ≡ input b p = λ p t.
     colours-alike 1 2 (p .row * 4 + (p .column * 4 + p .channel))
-    (let other : p .channel ≡ 3 → ⊥ = t .not-alpha in omega (arith, t .within .row, t .within .column, t .within .channel)) in
-    let same = claim a b (shared (coloured 1) (coloured 2) a-bytes b-bytes refl refl refl) refl refl alike
+    (let other : p .channel ≡ 3 → ⊥ = t .not-alpha in
+    omega (arith, t .within .row, t .within .column, t .within .channel)) in
+    let same =
+    claim a b (shared (coloured 1) (coloured 2) a-bytes b-bytes refl refl refl) refl refl alike
     (record { cb = λ yuv. refl; cr = λ yuv. refl }) .out in
     omega (
       arith,
@@ -337,7 +394,12 @@ tinted cb cr = record {
 tinted-types : (cb cr : ℕ) → InTypes (tinted cb cr)
 tinted-types cb cr = record {
   plane = byte-at (5 ∷ []) (lit< tt, tt);
-  points = record { master = straightLine .bytes; red = straightLine .bytes; green = tt; blue = tt };
+  points = record {
+    master = straightLine .bytes;
+    red = straightLine .bytes;
+    green = tt;
+    blue = tt;
+  };
   tension = lit< tt;
 }
 
@@ -347,7 +409,8 @@ ranTinted cb cr = ranOn (tinted cb cr) (tinted-types cb cr)
 -- "rows alone", with alike for what is asked of chroma
 abbrev RowsAloneUnder : (Call → Call → Type 0) → Type 0
 RowsAloneUnder Alike =
-    (a b : Call) → Share a b → Accepted a → Accepted b → AlikeInRows a b → Alike a b → WriteTheSame a b
+    (a b : Call) → Share a b → Accepted a → Accepted b → AlikeInRows a b → Alike a b
+    → WriteTheSame a b
 
 abbrev SameCb : Call → Call → Type 0
 SameCb a b = a .given .lent .cb .bytes ≡ b .given .lent .cb .bytes
@@ -374,7 +437,8 @@ unfolding answered
 rows-alone-wants-cb claim =
     let same = tinted-the-same SameCr 1 3 2 3 refl claim .cb in
     let alike : _≡_ {A = List ℕ} (1 ∷ []) (2 ∷ []) =
-    sym (passed-through (ranTinted 1 3) refl .cb refl) ∙ same ∙ passed-through (ranTinted 2 3) refl .cb refl in
+    sym (passed-through (ranTinted 1 3) refl .cb refl) ∙ same
+    ∙ passed-through (ranTinted 2 3) refl .cb refl in
     omega (arith, ap (λ (l : List ℕ). getD l 0 0) alike)
 
 pub rows-alone-wants-cr : RowsAloneUnder SameCb → ⊥
@@ -382,13 +446,22 @@ unfolding answered
 rows-alone-wants-cr claim =
     let same = tinted-the-same SameCb 3 1 3 2 refl claim .cr in
     let alike : _≡_ {A = List ℕ} (1 ∷ []) (2 ∷ []) =
-    sym (passed-through (ranTinted 3 1) refl .cr refl) ∙ same ∙ passed-through (ranTinted 3 2) refl .cr refl in
+    sym (passed-through (ranTinted 3 1) refl .cr refl) ∙ same
+    ∙ passed-through (ranTinted 3 2) refl .cr refl in
     omega (arith, ap (λ (l : List ℕ). getD l 0 0) alike)
 
 -- it speaks of runs whose padding and row steps differ: rows 5 and 6, one after the other, and with
 -- two bytes of padding between; and of a format without chroma, whatever is in its place
 abbrev unpadded : Strip
-unpadded = record { by = straightLine; format = Gray8; height = 2; plane = 5 ∷ 6 ∷ []; step = 1; chroma = [] }
+unpadded =
+    record {
+      by = straightLine;
+      format = Gray8;
+      height = 2;
+      plane = 5 ∷ 6 ∷ [];
+      step = 1;
+      chroma = [];
+    }
 
 abbrev padded : Strip
 padded = record {
@@ -411,12 +484,16 @@ rows-alone-with-padding =
     let b = ran padded b-bytes in
     let alike : AlikeInRows a b = λ p w. elim (ℕ-discrete (p .row) 0) [
       | yes top ↦
-          let i : p .row * 1 + (p .column * 1 + p .channel) ≡ 0 = omega (arith, w .column, w .channel) in
-          let j : p .row * 3 + (p .column * 1 + p .channel) ≡ 0 = omega (arith, w .column, w .channel) in
+          let i : p .row * 1 + (p .column * 1 + p .channel) ≡ 0 =
+          omega (arith, w .column, w .channel) in
+          let j : p .row * 3 + (p .column * 1 + p .channel) ≡ 0 =
+          omega (arith, w .column, w .channel) in
           rw (i, j)
       | no below ↦
-          let i : p .row * 1 + (p .column * 1 + p .channel) ≡ 1 = omega (arith, w .row, w .column, w .channel) in
-          let j : p .row * 3 + (p .column * 1 + p .channel) ≡ 3 = omega (arith, w .row, w .column, w .channel) in
+          let i : p .row * 1 + (p .column * 1 + p .channel) ≡ 1 =
+          omega (arith, w .row, w .column, w .channel) in
+          let j : p .row * 3 + (p .column * 1 + p .channel) ≡ 3 =
+          omega (arith, w .row, w .column, w .channel) in
           rw (i, j)
     ] in
     let grey-has-none : AlikeInChroma a b =
@@ -432,8 +509,10 @@ rows-alone-with-padding =
       refl,
     )
 
--- ---- programs that must not pass: one flat table for every set, and a copy of the picture. Each misses a point's y
-pub no-flat-table : (t : ℕ) → ((a : Call) → Accepted a → (p : Place) → TonedAt (a .given) p → output a p ≡ t) → ⊥
+-- ---- programs that must not pass: one flat table for every set, and a copy of the
+-- picture. Each misses a point's y
+pub no-flat-table : (t : ℕ)
+    → ((a : Call) → Accepted a → (p : Place) → TonedAt (a .given) p → output a p ≡ t) → ⊥
 unfolding answered
 no-flat-table t flat =
     let a = ranGrey straightLine 0 (lit< tt) in
@@ -445,13 +524,20 @@ no-flat-table t flat =
       flat a refl here a-here,
       flat b refl here b-here,
       through-points a refl linear-is-no-spline here a-here (pt 0 0) (List·Memᴰ·head refl) refl,
-      through-points b refl linear-is-no-spline here b-here (pt 255 255) (List·Memᴰ·tail (List·Memᴰ·head refl)) refl,
+      through-points b refl linear-is-no-spline here b-here (pt 255 255)
+          (List·Memᴰ·tail (List·Memᴰ·head refl)) refl,
     )
 
 abbrev lifted : Toning
-lifted = record { list = pt 128 200 ∷ []; kind = Linear; bytes = ((lit< tt, lit< tt), tt); tension = lit< tt }
+lifted = record {
+  list = pt 128 200 ∷ [];
+  kind = Linear;
+  bytes = ((lit< tt, lit< tt), tt);
+  tension = lit< tt;
+}
 
-pub no-copy : ((a : Call) → Accepted a → (p : Place) → TonedAt (a .given) p → output a p ≡ input a p) → ⊥
+pub no-copy :
+    ((a : Call) → Accepted a → (p : Place) → TonedAt (a .given) p → output a p ≡ input a p) → ⊥
 unfolding answered
 no-copy copied =
     let a = ranGrey lifted 128 (lit< tt) in

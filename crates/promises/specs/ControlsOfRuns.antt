@@ -1,8 +1,8 @@
 -- Controls of the third demand: what it asks of the runs themselves is needed. Each of the four
 -- things that two runs share is needed for the order; and that the documents do not refuse a run is
 -- needed for order, of both runs, for nearness, for the y at a point's x, for the bytes of rows
--- alone and for no dithering, of the second run, and for what passes through. By runs of one pixel at most, of Linear and
--- of lists that never fall.
+-- alone and for no dithering, of the second run, and for what passes through. By runs of one pixel
+-- at most, of Linear and of lists that never fall.
 use Prim.Native.Nat.{ℕ, _≤_, _<_}
 use native.Mathlib.Omega.{arith}
 use mathlib.Core.Path.{_≡_, refl, ap}

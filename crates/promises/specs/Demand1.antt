@@ -58,7 +58,8 @@ pub build-lut : {given : Curve} {kind : CurveInterpolation} {r : Lut} → BuildL
 build-lut call = answers (ap numberOf (call .answer)) (λ no. rw no at (call .table))
 
 -- `build_table`
-pub build-table : {given : Curve} {kind : CurveInterpolation} {old new : List Float} {r : Answer} → BuildTableCall given kind old r new
+pub build-table : {given : Curve} {kind : CurveInterpolation} {old new : List Float} {r : Answer}
+    → BuildTableCall given kind old r new
     → Answers (tableChecks given (length old)) (numberOf r) (new ≡ old)
 build-table call = answers (ap numberOf (call .answer)) (λ no. rw no at (call .table))
 
@@ -73,14 +74,16 @@ check set call = answers (ap numberOf call) (λ no. tt)
 pub write-record : {set : Curves} {old new : List ℕ} {r : Written} → WriteRecordCall set old r new
     → Answers (writeChecks set (length old)) (numberOf (r .answer)) (new ≡ old)
 write-record {set} {old} call =
-    answers (ap numberOf (call .answer ∙ write-answer set old)) (λ no. call .buffer ∙ write-unchanged set old (rw (call .answer) at no))
+    answers (ap numberOf (call .answer ∙ write-answer set old))
+    (λ no. call .buffer ∙ write-unchanged set old (rw (call .answer) at no))
 
 -- ---- "record"
 -- `read_record`
 pub read-record : (s : List ℕ) {r : RecordRead} → ReadRecordCall s r
     → Answers (recordChecks s) (numberOf (r .answer)) (viewOf (r .set) ≡ emptyView)
 read-record s call =
-    answers (ap numberOf (call .answer ∙ read-answer s)) (λ no. call .set ∙ read-empty s (rw (call .answer) at no))
+    answers (ap numberOf (call .answer ∙ read-answer s))
+    (λ no. call .set ∙ read-empty s (rw (call .answer) at no))
 
 -- `text_of`: "one line, `refused ` and the number"
 pub text-of : (s : List ℕ) (r : Text) → textOf r ≡ printed s
@@ -97,11 +100,13 @@ unfolding lookedUp
 lookup {table} call =
     answers (ap numberOf (call .answer))
     (λ no.
-    by-test (eqb (length table) 4096) (λ t. absurd (true≢false (rw (call .answer, t) at no))) (λ t. rw t at (call .values)))
+    by-test (eqb (length table) 4096) (λ t. absurd (true≢false (rw (call .answer, t) at no)))
+    (λ t. rw t at (call .values)))
 
 -- ---- "or planes at all"
 -- `apply_tone_lut`
-pub apply-tone-lut : {format : PixelFormat} {width height step : ℕ} {table old new : List ℕ} {r : Answer}
+pub apply-tone-lut :
+    {format : PixelFormat} {width height step : ℕ} {table old new : List ℕ} {r : Answer}
     → OneTableCall format width height step table old r new
     → Answers (lutChecks format width height step (length old)) (numberOf r) (new ≡ old)
 unfolding lutAnswer

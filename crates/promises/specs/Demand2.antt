@@ -1,6 +1,8 @@
--- The second demand. "Everywhere else tables and pictures equal the Rust's, bit for bit": that is a matter of running both, and docs/DIFFERENCES.md has what
--- was compared. What is proved is here: each call that answers 0 gives what its definition says, the definitions are those of the published
--- curves, and records survive writing then reading. What a call gives with another number is the first demand's.
+-- The second demand. "Everywhere else tables and pictures equal the Rust's, bit for bit": that is
+-- a matter of running both, and docs/DIFFERENCES.md has what was compared. What is proved is
+-- here: each call that answers 0 gives what its definition says, the definitions are those of the
+-- published curves, and records survive writing then reading. What a call gives with another
+-- number is the first demand's.
 use Prim.Native.Nat.{ℕ, _≤_, _<_}
 use mathlib.Core.Path.{_≡_}
 use mathlib.Core.Bool.{false}
@@ -70,17 +72,20 @@ use Rattle.promises.specs.PictureFacts.{as-defined}
 
 -- ---- "tables"
 -- `Curve::new`: the kept points
-pub new : {given : Curve} {r : Sorted} → NewCall given r → numberOf (r .answer) ≡ 0 → listOf (r .curve) ≡ kept (listOf given)
+pub new : {given : Curve} {r : Sorted} → NewCall given r → numberOf (r .answer) ≡ 0
+    → listOf (r .curve) ≡ kept (listOf given)
 new = Fact.new-sorts
 
 -- `build_lut`: each of 256 samples to a byte
-pub build-lut : {given : Curve} {kind : CurveInterpolation} {r : Lut} → BuildLutCall given kind r → numberOf (r .answer) ≡ 0
+pub build-lut : {given : Curve} {kind : CurveInterpolation} {r : Lut} → BuildLutCall given kind r
+    → numberOf (r .answer) ≡ 0
     → r .table ≡ tabulate 256 (λ v. byteOf (sampleOf kind (listOf given) 256 v))
 unfolding entryOf
 build-lut = Fact.build-lut-builds
 
 -- `build_table`: as many samples as the slice holds
-pub build-table : {given : Curve} {kind : CurveInterpolation} {old new : List Float} {r : Answer} → BuildTableCall given kind old r new → numberOf r ≡ 0
+pub build-table : {given : Curve} {kind : CurveInterpolation} {old new : List Float} {r : Answer}
+    → BuildTableCall given kind old r new → numberOf r ≡ 0
     → new ≡ tabulate (length old) (λ v. sampleOf kind (listOf given) (length old) v)
 build-table = Fact.build-table-builds
 
@@ -99,8 +104,10 @@ lookup = Fact.lookup-replaces
 
 -- ---- "and pictures"
 -- `apply_tone_lut`
-pub apply-tone-lut : {format : PixelFormat} {width height step : ℕ} {table old new : List ℕ} {r : Answer}
-    → OneTableCall format width height step table old r new → numberOf r ≡ 0 → ExactPlane format width height step table old new
+pub apply-tone-lut :
+    {format : PixelFormat} {width height step : ℕ} {table old new : List ℕ} {r : Answer}
+    → OneTableCall format width height step table old r new → numberOf r ≡ 0
+    → ExactPlane format width height step table old new
 apply-tone-lut = Fact.apply-tone-lut-tones
 
 -- `apply_pixels`
@@ -133,7 +140,8 @@ module _ (l : List Point) (S v : ℕ) where
   unfolding pieceHeight
   monotone-cubic-box = drawn l S v MonotoneCubicBox
 
-  -- Barry and Goldman, "A recursive evaluation algorithm for a class of Catmull-Rom splines", 1988: by the root of the chord, and by the chord
+  -- Barry and Goldman, "A recursive evaluation algorithm for a class of Catmull-Rom splines", 1988:
+  -- by the root of the chord, and by the chord
   pub centripetal-catmull-rom : sampleOf CentripetalCatmullRom l S v ≡ hermiteBy l S v centripetalAt
   unfolding pieceHeight
   centripetal-catmull-rom = drawn l S v CentripetalCatmullRom
@@ -147,7 +155,9 @@ module _ (l : List Point) (S v : ℕ) where
   unfolding pieceHeight
   natural-cubic = drawn l S v NaturalCubic
 
-  pub clamped-cubic : (start end : ℤ) → sampleOf (ClampedCubic start end) l S v ≡ splineBy l S v (Clamped (slopeOf start) (slopeOf end))
+  pub clamped-cubic : (start end : ℤ)
+      → sampleOf (ClampedCubic start end) l S v
+      ≡ splineBy l S v (Clamped (slopeOf start) (slopeOf end))
   unfolding pieceHeight
   clamped-cubic start end = drawn l S v (ClampedCubic start end)
 
@@ -157,48 +167,61 @@ module _ (l : List Point) (S v : ℕ) where
 
 -- ---- "and records survive writing then reading."
 -- `read_record`: the set of the definition
-pub read-record : (s : List ℕ) {r : RecordRead} → ReadRecordCall s r → viewOf (r .set) ≡ readRecord s .set
+pub read-record : (s : List ℕ) {r : RecordRead} → ReadRecordCall s r
+    → viewOf (r .set) ≡ readRecord s .set
 read-record s call = call .set
 
 -- `write_record`: the set's record at the front of the buffer, the rest of it unchanged
-pub write-record : {set : Curves} {old new : List ℕ} {r : Written} → WriteRecordCall set old r new → numberOf (r .answer) ≡ 0
-    → (r .length ≡ length (encode (viewOf set))) × (new ≡ encode (viewOf set) ++ drop (length (encode (viewOf set))) old)
+pub write-record : {set : Curves} {old new : List ℕ} {r : Written} → WriteRecordCall set old r new
+    → numberOf (r .answer) ≡ 0
+    → (r .length ≡ length (encode (viewOf set)))
+    × (new ≡ encode (viewOf set) ++ drop (length (encode (viewOf set))) old)
 write-record = Fact.write-record-writes
 
 -- what was written, up to its length, is read without a refusal as the same set
-pub written-then-read : {set : Curves} {old new : List ℕ} {w : Written} {r : RecordRead} → WriteRecordCall set old w new → w .answer ≡ Done
+pub written-then-read : {set : Curves} {old new : List ℕ} {w : Written} {r : RecordRead}
+    → WriteRecordCall set old w new → w .answer ≡ Done
     → ReadRecordCall (take (w .length) new) r → (r .answer ≡ Done) × Same (r .set) set
 written-then-read = Writing.written-then-read
 
--- on the definitions: the record of every set that passes its check, with a tension of a byte or slopes of 16 bits, is read as that set
-pub round-trip : (v : View) → Legal v → LegalKind (v .kind) → readRecord (encode v) ≡ record { answer = Done; set = v }
+-- on the definitions: the record of every set that passes its check, with a tension of a byte or
+-- slopes of 16 bits, is read as that set
+pub round-trip : (v : View) → Legal v → LegalKind (v .kind)
+    → readRecord (encode v) ≡ record { answer = Done; set = v }
 round-trip = RoundTrip.round-trip
 
--- and a set that was read can be written: its record is not longer than the one it was read from, the writer refuses it for want of room alone ..
-pub not-longer : (s : List ℕ) → readRecord s .answer ≡ Done → length (encode (readRecord s .set)) ≤ length s
+-- and a set that was read can be written: its record is not longer than the one it was read from,
+-- the writer refuses it for want of room alone ..
+pub not-longer : (s : List ℕ) → readRecord s .answer ≡ Done
+    → length (encode (readRecord s .set)) ≤ length s
 not-longer = NotLonger.not-longer
 
-pub accepted-not-refused : (s : List ℕ) {old new : List ℕ} {r : RecordRead} {w : Written} → ReadRecordCall s r → WriteRecordCall (r .set) old w new
+pub accepted-not-refused : (s : List ℕ) {old new : List ℕ} {r : RecordRead} {w : Written}
+    → ReadRecordCall s r → WriteRecordCall (r .set) old w new
     → w .answer ≡ firstRefusal (roomCheck (length (encode (readRecord s .set))) (length old) ∷ [])
 accepted-not-refused = Writing.accepted-not-refused
 
 -- .. and never in a buffer as long as that record
-pub accepted-fits : (s : List ℕ) {old new : List ℕ} {r : RecordRead} {w : Written} → ReadRecordCall s r → r .answer ≡ Done
+pub accepted-fits : (s : List ℕ) {old new : List ℕ} {r : RecordRead} {w : Written}
+    → ReadRecordCall s r → r .answer ≡ Done
     → WriteRecordCall (r .set) old w new → length s ≤ length old → w .answer ≡ Done
 accepted-fits = Writing.accepted-fits
 
 -- .. nor any set whose lists pass the check in 522 bytes: they always suffice
-pub always-fits : {set : Curves} {old new : List ℕ} {w : Written} → WriteRecordCall set old w new → 522 ≤ length old
+pub always-fits : {set : Curves} {old new : List ℕ} {w : Written} → WriteRecordCall set old w new
+    → 522 ≤ length old
     → (w .answer ≡ setAnswer set) × (w .answer ≡ OutputTooSmall → ⊥)
 always-fits = Writing.always-fits
 
 -- records are canonical: the same sets are written as the same bytes ..
-pub same-bytes : {a b : Curves} {old newA newB : List ℕ} {w x : Written} → Same a b → WriteRecordCall a old w newA → WriteRecordCall b old x newB
+pub same-bytes : {a b : Curves} {old newA newB : List ℕ} {w x : Written} → Same a b
+    → WriteRecordCall a old w newA → WriteRecordCall b old x newB
     → (w .answer ≡ x .answer) × (w .length ≡ x .length) × (newA ≡ newB)
 same-bytes = Writing.same-runs
 
 -- .. and an accepted record comes back byte for byte, unless it names the default kind
-pub returned : (s : List ℕ) {old new : List ℕ} {r : RecordRead} {w : Written} → AllBytes s → ReadRecordCall s r → r .answer ≡ Done
+pub returned : (s : List ℕ) {old new : List ℕ} {r : RecordRead} {w : Written} → AllBytes s
+    → ReadRecordCall s r → r .answer ≡ Done
     → namesDefault s ≡ false → WriteRecordCall (r .set) old w new → w .answer ≡ Done
     → (w .length ≡ length s) × (take (w .length) new ≡ s)
 returned = Writing.returned

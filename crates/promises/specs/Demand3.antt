@@ -1,5 +1,6 @@
--- The third demand, clause by clause, in the mission's order and words. "For every two runs of the set call, A and B, that share one set, format and
--- size, and neither of which the documents refuse": a clause that speaks of one run holds of each of the two, and asks nothing of the other.
+-- The third demand, clause by clause, in the mission's order and words. "For every two runs of the
+-- set call, A and B, that share one set, format and size, and neither of which the documents
+-- refuse": a clause that speaks of one run holds of each of the two, and asks nothing of the other.
 use Prim.Native.Nat.{ℕ, _≤_}
 use mathlib.Core.Path.{_≡_}
 use mathlib.Core.List.{List·Memᴰ}
@@ -34,15 +35,18 @@ use Rattle.promises.specs.PictureFacts as Fact
 pub exact : (a : Call) → Accepted a → ExactPicture a
 exact = Fact.as-defined
 
--- "If the kind is Linear, no list in the set has a point lower than the one before it, and no toned input byte of A is above B's at the same place, then no
--- toned output byte of A is above B's there."
-pub order : (a b : Call) → Share a b → Accepted a → Accepted b → IsLinear (a .given) → NoListFalls (a .given)
+-- "If the kind is Linear, no list in the set has a point lower than the one before it,
+-- and no toned input byte of A is above B's at the same place, then no toned output byte
+-- of A is above B's there."
+pub order : (a b : Call) → Share a b → Accepted a → Accepted b → IsLinear (a .given)
+    → NoListFalls (a .given)
     → ((p : Place) → TonedAt (a .given) p → input a p ≤ input b p)
     → (p : Place) → TonedAt (a .given) p → output a p ≤ output b p
-order a b share a-ok b-ok linear rising below p toned = Fact.in-order a b share a-ok b-ok linear rising p toned (below p toned)
+order a b share a-ok b-ok linear rising below p toned =
+    Fact.in-order a b share a-ok b-ok linear rising p toned (below p toned)
 
--- "Under Linear each toned output byte is the whole number nearest the exact broken line of the list that tones it, at its input byte; at an exact half it is
--- one of the two nearest."
+-- "Under Linear each toned output byte is the whole number nearest the exact broken line of the
+-- list that tones it, at its input byte; at an exact half it is one of the two nearest."
 pub near : (a : Call) → Accepted a → IsLinear (a .given) → (p : Place) → TonedAt (a .given) p
     → (n d : ℕ) → OnLine (listThatTones (a .given) p) (input a p) n d → Nearest n d (output a p)
 near = Fact.toned-nearest
@@ -51,13 +55,17 @@ near = Fact.toned-nearest
 pub line : (a : Call) (p : Place) → HasLine (listThatTones (a .given) p) (input a p)
 line = Fact.line
 
--- "Under any kind but the three splines, a toned byte equal to the x of a point in the list that tones it comes out as that point's y."
-pub through-points : (a : Call) → Accepted a → (IsSpline (kindIn (a .given)) → ⊥) → (p : Place) → TonedAt (a .given) p
+-- "Under any kind but the three splines, a toned byte equal to the x of a point in the list that
+-- tones it comes out as that point's y."
+pub through-points : (a : Call) → Accepted a → (IsSpline (kindIn (a .given)) → ⊥) → (p : Place)
+    → TonedAt (a .given) p
     → (q : Point) → List·Memᴰ q (listThatTones (a .given) p) → input a p ≡ q .x → output a p ≡ q .y
 through-points = Fact.through-point
 
--- "Runs alike in their rows and chroma write the same bytes, whatever the padding holds and whatever the row steps are."
-pub rows-alone : (a b : Call) → Share a b → Accepted a → Accepted b → AlikeInRows a b → AlikeInChroma a b → WriteTheSame a b
+-- "Runs alike in their rows and chroma write the same bytes, whatever the padding holds and
+-- whatever the row steps are."
+pub rows-alone : (a b : Call) → Share a b → Accepted a → Accepted b → AlikeInRows a b
+    → AlikeInChroma a b → WriteTheSame a b
 rows-alone = Fact.same-bytes
 
 -- where planes of one row step that differ in their padding alone are alike in their rows

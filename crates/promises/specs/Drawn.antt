@@ -35,7 +35,8 @@ seek-most : (xs : List Float) (x : Float) (k i : ℕ) → seek xs x k i ≤ i + 
 unfolding seek
 seek-most xs x zero i = omega arith
 seek-most xs x (suc k) i =
-    by-test (lt (at xs (suc i)) x) (λ t. rw t (omega (arith, seek-most xs x k (suc i)))) (λ t. rw t (omega arith))
+    by-test (lt (at xs (suc i)) x) (λ t. rw t (omega (arith, seek-most xs x k (suc i))))
+    (λ t. rw t (omega arith))
 
 module _ (l : List Point) (S v : ℕ) where
   right-end : i l S v + 1 < n l

@@ -6,8 +6,8 @@
 -- survive writing then reading. Results has its words.
 -- Demand3: what holds of two runs of the set call. Words has its words.
 -- Boundary: the first two demands of the calls of the C boundary; BoundaryDemand3: the third.
--- ControlsOfWords, Determined: the words pinned from both sides, by computed cases at their edges and
--- by what they determine.
+-- ControlsOfWords, Determined: the words pinned from both sides, by computed cases at their edges
+-- and by what they determine.
 -- Controls, ControlsOfRuns: that the premises of the third demand are needed, by computed runs made
 -- in Pixels; the first on kinds, lists, rows and chroma, the other on what runs share and refusals.
 -- BoundaryControls: the same of the C boundary's words.

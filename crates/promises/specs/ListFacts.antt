@@ -1,4 +1,5 @@
--- The list that tones a byte: what holds of every list in a set holds of it, and its table is the one that tones the byte.
+-- The list that tones a byte: what holds of every list in a set holds of it, and its table is the
+-- one that tones the byte.
 use Prim.Native.Nat.{ℕ, zero, suc, _<_}
 use mathlib.Core.Path.{_≡_}
 use mathlib.Core.List.{List}
@@ -24,7 +25,8 @@ use Rattle.promises.specs.Words.{IsSpline}
 
 -- what holds of every list
 module _ (P : List Point → Type 0) where
-  own-or-master : (o : Option (List Point)) (m : List Point) → OfColour P o → P m → P (ownOrMaster o m)
+  own-or-master : (o : Option (List Point)) (m : List Point) → OfColour P o → P m
+      → P (ownOrMaster o m)
   own-or-master none m own master = master
   own-or-master (some l) m own master = own
 
@@ -35,7 +37,10 @@ module _ (P : List Point → Type 0) where
 
   of-list : (f : PixelFormat) (v : View) → EveryList P v → (c : Colour) → P (listFor f v c)
   of-list f v every c =
-      by-test (byColour f) (λ t. rw t (own-or-master (colourOf c v) (v .master) (of-colour v every c) (every .master))) (λ t. rw t (every .master))
+      by-test (byColour f)
+      (λ t. rw t
+      (own-or-master (colourOf c v) (v .master) (of-colour v every c) (every .master)))
+      (λ t. rw t (every .master))
 
   pub of-toning-list : (f : PixelFormat) (v : View) → EveryList P v → (j : ℕ) → P (tonedBy f v j)
   of-toning-list f v every zero = of-list f v every Red
@@ -43,9 +48,12 @@ module _ (P : List Point → Type 0) where
   of-toning-list f v every (suc (suc j)) = of-list f v every Blue
 
 -- the table that tones a channel is that of its list
-pub toning-table : (f : PixelFormat) (v : View) (j x : ℕ) → x < 256 → through (tablesOf f v j) x ≡ entryOf (v .kind) (tonedBy f v j) x
-toning-table f v j x h = rw (tables-of f v j) (getD-tabulate 256 (entryOf (v .kind) (tonedBy f v j)) x 0 h)
+pub toning-table : (f : PixelFormat) (v : View) (j x : ℕ) → x < 256
+    → through (tablesOf f v j) x ≡ entryOf (v .kind) (tonedBy f v j) x
+toning-table f v j x h =
+    rw (tables-of f v j) (getD-tabulate 256 (entryOf (v .kind) (tonedBy f v j)) x 0 h)
 
 -- a kind that is no spline, in the words of the table facts
-pub no-spline : (k : CurveInterpolation) → (IsSpline k → ⊥) → carriedOf k .tension < 256 → NoSpline k
+pub no-spline : (k : CurveInterpolation) → (IsSpline k → ⊥) → carriedOf k .tension < 256
+    → NoSpline k
 no-spline k other byte = record { form = λ e. other (spline-number k e); tension = byte }

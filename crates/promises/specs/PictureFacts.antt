@@ -1,4 +1,5 @@
--- What is at each place of the outputs of a run that is not refused, and the clauses of the third demand that follow.
+-- What is at each place of the outputs of a run that is not refused, and the clauses of the
+-- third demand that follow.
 use Prim.Native.Nat.{ℕ, _+_, _-_, _*_, _/_, _%_, _≤_, _<_}
 use native.Mathlib.Nat.{mod-lt, div-lt-iff-lt-mul, eq-zero-or-pos, mul-zero, div-add-mod'}
 use native.Mathlib.Decide.{ℕ-discrete, decLt}
@@ -35,7 +36,18 @@ use Rattle.rows.specs.Places.{mul-room, place-row, place-in}
 use Rattle.rows.specs.Laws.{toned-through, toned-kept, rows-inside, tight-pixel}
 use Rattle.formats.specs.declared.PixelFormat.{PixelFormat}
 use Rattle.formats.specs.Formats.{bytesAPixel, alphaOf}
-use Rattle.pictures.specs.Runs.{Run, PlaneOf, rowBytes, size, hasChroma, accepted, tablesOf, first, chroma, stepOf}
+use Rattle.pictures.specs.Runs.{
+  Run,
+  PlaneOf,
+  rowBytes,
+  size,
+  hasChroma,
+  accepted,
+  tablesOf,
+  first,
+  chroma,
+  stepOf,
+}
 use Rattle.pictures.specs.RunLaws as Checked
 use Rattle.promises.specs.Words.{
   Call,
@@ -79,7 +91,8 @@ tablesIn r = tablesOf (r .job .format) (viewOf (r .job .set))
 front-rest : (l m : List ℕ) (k : ℕ) → length l ≤ k → getD (l ++ drop (length l) m) k 0 ≡ getD m k 0
 front-rest l m k h =
     let past : length l + (k - length l) ≡ k = omega arith in
-    rw past at (getD-append-add l (drop (length l) m) (k - length l) 0) ∙ rw past at (getD-drop (length l) m (k - length l) 0)
+    rw past at (getD-append-add l (drop (length l) m) (k - length l) 0)
+    ∙ rw past at (getD-drop (length l) m (k - length l) 0)
 
 -- index k of m rows of n bytes each: its row, and how far along
 pub split-index : (m n k : ℕ) → k < m * n → (k / n < m) × (k % n < n)
@@ -173,7 +186,12 @@ module _ (c : Call) (ok : Accepted c) where
   plane-holds : (p : Place) → Within (c .given) p
       → inPlane (c .given) p < length (c .given .lent .plane .bytes)
   plane-holds p w =
-      omega (arith, along-row (c .given) p w, rows-inside (p .row) (passed-checks .plane .rows) (λ none. omega (arith, w .column)) (w .row))
+      omega (
+        arith,
+        along-row (c .given) p w,
+        rows-inside (p .row) (passed-checks .plane .rows) (λ none. omega (arith, w .column))
+            (w .row),
+      )
 
   out-long : length (c .after .first) ≡ length (c .given .lent .outputs .first)
   out-long =
@@ -192,11 +210,13 @@ module _ (c : Call) (ok : Accepted c) where
       )
 
   -- a toned byte is its entry in the table of the list that tones it; alpha is copied
-  toned-entry : (p : Place) → TonedAt (c .given) p → output c p ≡ entryOf (kindIn (c .given)) (listThatTones (c .given) p) (input c p)
+  toned-entry : (p : Place) → TonedAt (c .given) p
+      → output c p ≡ entryOf (kindIn (c .given)) (listThatTones (c .given) p) (input c p)
   toned-entry p t =
       let r = c .given in
       at-place p (t .within)
-      ∙ toned-through (alphaOf (r .job .format)) (p .channel) (tablesIn r) (input c p) (t .not-alpha)
+      ∙ toned-through (alphaOf (r .job .format)) (p .channel) (tablesIn r) (input c p)
+      (t .not-alpha)
       ∙ toning-table (r .job .format) (viewOf (r .job .set)) (p .channel) (input c p)
       (input-byte c p)
 
@@ -211,7 +231,8 @@ module _ (c : Call) (ok : Accepted c) where
       length-take-le (size (c .given)) (c .after .first)
       (omega (arith, out-long, passed-checks .room))
 
-  chroma-copied : (plane : PlaneOf) (before after : List ℕ) → IsYuv (c .given) → after ≡ chroma (c .given) plane before
+  chroma-copied : (plane : PlaneOf) (before after : List ℕ) → IsYuv (c .given)
+      → after ≡ chroma (c .given) plane before
       → length (plane .bytes) ≤ length before → Copied (plane .bytes) before after
   unfolding chroma
   chroma-copied plane before after yuv e room =
@@ -223,11 +244,14 @@ module _ (c : Call) (ok : Accepted c) where
         long = rw is (simp (length-append, length-drop) (omega arith));
       }
 
-  chroma-stays : (plane : PlaneOf) (before after : List ℕ) → (IsYuv (c .given) → ⊥) → after ≡ chroma (c .given) plane before → after ≡ before
+  chroma-stays : (plane : PlaneOf) (before after : List ℕ) → (IsYuv (c .given) → ⊥)
+      → after ≡ chroma (c .given) plane before → after ≡ before
   unfolding chroma
-  chroma-stays plane before after other e = by-test (hasChroma (c .given)) (λ t. absurd (other t)) (λ t. rw (not-refused, t) at e)
+  chroma-stays plane before after other e =
+      by-test (hasChroma (c .given)) (λ t. absurd (other t)) (λ t. rw (not-refused, t) at e)
 
-  chroma-step : (plane : PlaneOf) (step : ℕ) → IsYuv (c .given) → step ≡ stepOf (c .given) plane → step ≡ plane .step
+  chroma-step : (plane : PlaneOf) (step : ℕ) → IsYuv (c .given) → step ≡ stepOf (c .given) plane
+      → step ≡ plane .step
   chroma-step plane step yuv e = rw (not-refused, yuv) at e
 
   pub as-defined : ExactPicture c
@@ -295,7 +319,8 @@ module _ (c : Call) (ok : Accepted c) where
       (entry-near l (list-bytes c p) (input c p) (input-byte c p) n d o))
 
   pub through-point : (IsSpline (kindIn (c .given)) → ⊥) → (p : Place) → TonedAt (c .given) p
-      → (q : Point) → List·Memᴰ q (listThatTones (c .given) p) → input c p ≡ q .x → output c p ≡ q .y
+      → (q : Point) → List·Memᴰ q (listThatTones (c .given) p) → input c p ≡ q .x
+      → output c p ≡ q .y
   through-point other p t q m e =
       let l = listThatTones (c .given) p in
       toned-entry p t ∙ ap (entryOf (kindIn (c .given)) l) e
@@ -322,7 +347,8 @@ by-input-alone a b a-ok b-ok kind p q a-toned b-toned list byte =
 toned-alike : {f g : PixelFormat} {v w : View} {x y : ℕ} (j : ℕ) → f ≡ g → v ≡ w → x ≡ y
     → toned (alphaOf f) (tablesOf f v) j x ≡ toned (alphaOf g) (tablesOf g w) j y
 toned-alike {g = g} {v = v} {w = w} {x = x} j format view e =
-    ap (λ (k : PixelFormat). toned (alphaOf k) (tablesOf k v) j x) format ∙ ap (λ (u : View). toned (alphaOf g) (tablesOf g u) j x) view
+    ap (λ (k : PixelFormat). toned (alphaOf k) (tablesOf k v) j x) format
+    ∙ ap (λ (u : View). toned (alphaOf g) (tablesOf g u) j x) view
     ∙ ap (toned (alphaOf g) (tablesOf g w) j) e
 
 module _ (a b : Call) (share : Share a b) where
@@ -330,16 +356,26 @@ module _ (a b : Call) (share : Share a b) where
   same-size = rw (share .format, share .width, share .height)
 
   same-place : (p : Place) → Within (a .given) p → Within (b .given) p
-  same-place p w = record { row = rw (← share .height) (w .row); column = rw (← share .width) (w .column); channel = rw (← share .format) (w .channel) }
+  same-place p w =
+      record {
+        row = rw (← share .height) (w .row);
+        column = rw (← share .width) (w .column);
+        channel = rw (← share .format) (w .channel);
+      }
 
   same-toned : (p : Place) → TonedAt (a .given) p → TonedAt (b .given) p
-  same-toned p t = record { within = same-place p (t .within); not-alpha = λ alpha. t .not-alpha (rw (share .format) alpha) }
+  same-toned p t =
+      record {
+        within = same-place p (t .within);
+        not-alpha = λ alpha. t .not-alpha (rw (share .format) alpha);
+      }
 
   same-list : (p : Place) → listThatTones (a .given) p ≡ listThatTones (b .given) p
   same-list p = rw (share .format, same-view (a .given .job .set) (b .given .job .set) (share .set))
 
 module _ (a b : Call) (share : Share a b) (a-ok : Accepted a) (b-ok : Accepted b) where
-  pub in-order : IsLinear (a .given) → NoListFalls (a .given) → (p : Place) → TonedAt (a .given) p → input a p ≤ input b p → output a p ≤ output b p
+  pub in-order : IsLinear (a .given) → NoListFalls (a .given) → (p : Place) → TonedAt (a .given) p
+      → input a p ≤ input b p → output a p ≤ output b p
   in-order linear rising p t below =
       let l = listThatTones (a .given) p in
       let never-falls =
@@ -347,8 +383,11 @@ module _ (a b : Call) (share : Share a b) (a-ok : Accepted a) (b-ok : Accepted b
       (p .channel) in
       let of-a : output a p ≡ entryOf Linear l (input a p) = toned-entry a a-ok p t ∙ rw linear in
       let of-b : output b p ≡ entryOf Linear l (input b p) =
-      toned-entry b b-ok p (same-toned a b share p t) ∙ rw (← same-list a b share p, ← share .set .kind, linear) in
-      rw (of-a, of-b) (entry-order l (list-bytes a p) (rw (list-kept a a-ok p) never-falls) (input a p) (input b p) below
+      toned-entry b b-ok p (same-toned a b share p t)
+      ∙ rw (← same-list a b share p, ← share .set .kind, linear) in
+      rw (of-a, of-b)
+      (entry-order l (list-bytes a p) (rw (list-kept a a-ok p) never-falls) (input a p)
+      (input b p) below
       (input-byte b p))
 
   -- the same byte in, the same byte out
@@ -360,7 +399,8 @@ module _ (a b : Call) (share : Share a b) (a-ok : Accepted a) (b-ok : Accepted b
       ∙ sym (at-place b b-ok p (same-place a b share p w))
 
   -- index k of the tight rows is a place's in both
-  same-at : (p : Place) (k : ℕ) → Within (a .given) p → inOutput (a .given) p ≡ k → input a p ≡ input b p
+  same-at : (p : Place) (k : ℕ) → Within (a .given) p → inOutput (a .given) p ≡ k
+      → input a p ≡ input b p
       → getD (a .after .first) k 0 ≡ getD (b .after .first) k 0
   same-at p k w index e =
       let b-index : inOutput (b .given) p ≡ k = rw (← share .format, ← share .width) index in
@@ -378,12 +418,15 @@ module _ (a b : Call) (share : Share a b) (a-ok : Accepted a) (b-ok : Accepted b
       ∙ sym (getD-take (size (b .given)) (b .after .first) k 0 (omega arith)))
 
   same-chroma : (a-plane b-plane a-out b-out : List ℕ)
-      → (IsYuv (a .given) → take (length a-plane) a-out ≡ a-plane) → (IsYuv (b .given) → take (length b-plane) b-out ≡ b-plane)
-      → (IsYuv (a .given) → a-plane ≡ b-plane) → writtenChroma a a-plane a-out ≡ writtenChroma b b-plane b-out
+      → (IsYuv (a .given) → take (length a-plane) a-out ≡ a-plane)
+      → (IsYuv (b .given) → take (length b-plane) b-out ≡ b-plane)
+      → (IsYuv (a .given) → a-plane ≡ b-plane)
+      → writtenChroma a a-plane a-out ≡ writtenChroma b b-plane b-out
   same-chroma a-plane b-plane a-out b-out a-whole b-whole alike =
       let format : hasChroma (a .given) ≡ hasChroma (b .given) = rw (share .format) in
       by-test (hasChroma (a .given))
-      (λ t. let u : hasChroma (b .given) ≡ true = sym format ∙ t in rw (t, u) (a-whole t ∙ alike t ∙ sym (b-whole u)))
+      (λ t. let u : hasChroma (b .given) ≡ true = sym format ∙ t in
+      rw (t, u) (a-whole t ∙ alike t ∙ sym (b-whole u)))
       (λ t. let u : hasChroma (b .given) ≡ false = sym format ∙ t in rw (t, u))
 
   pub same-bytes : AlikeInRows a b → AlikeInChroma a b → WriteTheSame a b
@@ -400,7 +443,8 @@ module _ (a b : Call) (share : Share a b) (a-ok : Accepted a) (b-ok : Accepted b
   }
 
 -- ---- no place is padding
-no-padding : (c : Call) → Accepted c → (p : Place) → Within (c .given) p → IsPadding (c .given) (inPlane (c .given) p) → ⊥
+no-padding : (c : Call) → Accepted c → (p : Place) → Within (c .given) p
+    → IsPadding (c .given) (inPlane (c .given) p) → ⊥
 unfolding inRow
 no-padding c ok p w padding =
     let r = c .given in

@@ -63,7 +63,13 @@ absent = record { present = false; curve = stored [] }
 -- the Linear set of a master and a red list
 abbrev pub linear : List Point → Channel → Curves
 linear master red =
-    record { master = stored master; red = red; green = absent; blue = absent; interpolation = Linear }
+    record {
+      master = stored master;
+      red = red;
+      green = absent;
+      blue = absent;
+      interpolation = Linear;
+    }
 
 abbrev pub noBytes : PlaneOf
 noBytes = record { bytes = []; step = 0 }
@@ -104,7 +110,12 @@ byte-at (x ∷ l) a (suc k) h = byte-at l (a .1) k (omega arith)
 pub types-of : (g : Strip) → AreBytes (g .plane) → InTypes (runOf g)
 types-of g bytes = record {
   plane = byte-at (g .plane) bytes;
-  points = record { master = rw (take-length (g .by .list)) (g .by .bytes); red = tt; green = tt; blue = tt };
+  points = record {
+    master = rw (take-length (g .by .list)) (g .by .bytes);
+    red = tt;
+    green = tt;
+    blue = tt;
+  };
   tension = g .by .tension;
 }
 
@@ -138,7 +149,8 @@ ranOn r in-types = record {
 abbrev pub ran : (g : Strip) → AreBytes (g .plane) → Call
 ran g bytes = ranOn (runOf g) (types-of g bytes)
 
-pub shared : (g h : Strip) (g-bytes : AreBytes (g .plane)) (h-bytes : AreBytes (h .plane)) → g .by ≡ h .by → g .format ≡ h .format
+pub shared : (g h : Strip) (g-bytes : AreBytes (g .plane)) (h-bytes : AreBytes (h .plane))
+    → g .by ≡ h .by → g .format ≡ h .format
     → g .height ≡ h .height → Share (ran g g-bytes) (ran h h-bytes)
 shared g h g-bytes h-bytes by format height = record {
   set = rw by (same-refl (runOf h .job .set));
@@ -159,11 +171,19 @@ abbrev pub ranGrey : (s : Toning) (v : ℕ) → v < 256 → Call
 ranGrey s v byte = ran (grey s v) (byte, tt)
 
 pub grey-toned : (s : Toning) (v : ℕ) → TonedAt (runOf (grey s v)) here
-grey-toned s v = record { within = record { row = lit< tt; column = lit< tt; channel = lit< tt }; not-alpha = λ e. omega arith }
+grey-toned s v =
+    record {
+      within = record { row = lit< tt; column = lit< tt; channel = lit< tt };
+      not-alpha = λ e. omega arith;
+    }
 
 module _ (s : Toning) (v : ℕ) (byte : v < 256) where
-  pub grey-input : (p : Place) → p .row < 1 → p .column < 1 → p .channel < 1 → input (ranGrey s v byte) p ≡ v
-  grey-input p row column channel = let only : p .row * 1 + (p .column * 1 + p .channel) ≡ 0 = omega arith in rw only
+  pub grey-input : (p : Place) → p .row < 1 → p .column < 1 → p .channel < 1
+      → input (ranGrey s v byte) p ≡ v
+  grey-input p row column channel = let only : p .row * 1 + (p .column * 1 + p .channel) ≡ 0 =
+      omega arith in rw only
 
-  pub grey-output : Accepted (ranGrey s v byte) → output (ranGrey s v byte) here ≡ entryOf (s .kind) (s .list) v
-  grey-output ok = exact (ranGrey s v byte) ok .toned here (grey-toned s v) ∙ rw (take-length (s .list))
+  pub grey-output : Accepted (ranGrey s v byte)
+      → output (ranGrey s v byte) here ≡ entryOf (s .kind) (s .list) v
+  grey-output ok =
+      exact (ranGrey s v byte) ok .toned here (grey-toned s v) ∙ rw (take-length (s .list))

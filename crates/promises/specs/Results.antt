@@ -34,7 +34,8 @@ module _ (l : List Point) where
   n = length (knots (kept l))
 
 module _ (l : List Point) (S v : ℕ) where
-  -- the sample's x, its segment i from the knot a to the knot b, and the part t of the segment that lies left of it
+  -- the sample's x, its segment i from the knot a to the knot b, and the part t of the
+  -- segment that lies left of it
   abbrev pub x : Float
   x = sampleAt (step S) v
 
@@ -50,15 +51,20 @@ module _ (l : List Point) (S v : ℕ) where
   abbrev pub t : Float
   t = part a b x
 
-  -- on the straight piece; on the cubic Hermite piece with the tangents of a rule; on the piece of the spline with a boundary rule
+  -- on the straight piece; on the cubic Hermite piece with the tangents of a rule; on the piece of
+  -- the spline with a boundary rule
   abbrev pub straightly : Float
   straightly = clamped (straight a b t)
 
   abbrev pub hermiteBy : (List Float → List Float → ℕ → ℕ → Float) → Float
-  hermiteBy tangentAt = clamped (hermite a b (tangentAt (xs l) (ys l) (n l) i) (tangentAt (xs l) (ys l) (n l) (i + 1)) t)
+  hermiteBy tangentAt =
+      clamped (hermite a b (tangentAt (xs l) (ys l) (n l) i) (tangentAt (xs l) (ys l) (n l) (i + 1))
+      t)
 
   abbrev pub splineBy : SplineBoundary → Float
-  splineBy edge = clamped (splinePiece a b (secondAt (xs l) (ys l) (n l) edge i) (secondAt (xs l) (ys l) (n l) edge (i + 1)) x)
+  splineBy edge =
+      clamped (splinePiece a b (secondAt (xs l) (ys l) (n l) edge i)
+      (secondAt (xs l) (ys l) (n l) edge (i + 1)) x)
 
 -- ---- a plane toned by one table
 -- the index of a byte in a plane: channel j of the pixel in row y and column x
@@ -70,6 +76,7 @@ pub record ExactPlane (f : PixelFormat) (w h step : ℕ) (table old new : List �
   pub plane-is : new ≡ tonedWithin f w h step table old
   pub toned : (y x j : ℕ) → y < h → x < w → j < bytesAPixel f → (j ≡ alphaOf f → ⊥)
       → getD new (at f step y x j) 0 ≡ getD table (getD old (at f step y x j) 0) 0
-  pub alpha : (y x j : ℕ) → y < h → x < w → j < bytesAPixel f → j ≡ alphaOf f → getD new (at f step y x j) 0 ≡ getD old (at f step y x j) 0
+  pub alpha : (y x j : ℕ) → y < h → x < w → j < bytesAPixel f → j ≡ alphaOf f
+      → getD new (at f step y x j) 0 ≡ getD old (at f step y x j) 0
   pub padding : (k : ℕ) → inRow (w * bytesAPixel f) h step k ≡ false → getD new k 0 ≡ getD old k 0
   pub long : length new ≡ length old

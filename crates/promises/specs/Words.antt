@@ -45,8 +45,8 @@ pub record Call : Type 0 where
 abbrev pub Accepted : Call → Type 0
 Accepted c = answer (c .given) ≡ Done
 
--- two runs "share one set, format and size". "Two sets are the same if their lists, point by point, the colours present, and the kind with its tension
--- or slopes agree"
+-- two runs "share one set, format and size". "Two sets are the same if their lists, point by point,
+-- the colours present, and the kind with its tension or slopes agree"
 pub record Share (a b : Call) : Type 0 where
   pub set : Same (a .given .job .set) (b .given .job .set)
   pub format : a .given .job .format ≡ b .given .job .format
@@ -54,7 +54,8 @@ pub record Share (a b : Call) : Type 0 where
   pub height : a .given .job .height ≡ b .given .job .height
 
 -- ---- places
--- "A byte's place is its row, its column and, in colour, its channel; it is the same in the plane and in the tight output, whatever the row step";
+-- "A byte's place is its row, its column and, in colour, its channel; it is the same in the plane
+-- and in the tight output, whatever the row step";
 -- where a pixel has one byte, its channel is 0
 pub record Place : Type 0 where
   pub row : ℕ
@@ -99,7 +100,8 @@ abbrev pub IsPadding : Run → ℕ → Type 0
 IsPadding r k = inRow (rowBytes r) (r .job .height) (r .lent .plane .step) k ≡ false
 
 -- ---- the list that tones a byte, its kind and its line
--- "In Rgb24 and Rgba the list that tones a byte is its colour's where present; in every other case it is the master's"
+-- "In Rgb24 and Rgba the list that tones a byte is its colour's where present; in every other
+-- case it is the master's"
 abbrev pub listThatTones : Run → Place → List Point
 listThatTones r p = tonedBy (r .job .format) (viewOf (r .job .set)) (p .channel)
 
@@ -117,11 +119,13 @@ IsSpline k = (kindNumber k ≡ 4) ⊎ (kindNumber k ≡ 8) ⊎ (kindNumber k ≡
 abbrev pub NoListFalls : Run → Type 0
 NoListFalls r = EveryList NeverFalls (viewOf (r .job .set))
 
--- b is "the whole number nearest" n / d, "at an exact half it is one of the two nearest": 2 × |b × d − n| ≤ d
+-- b is "the whole number nearest" n / d, "at an exact half it is one of the two
+-- nearest": 2 × |b × d − n| ≤ d
 abbrev pub Nearest : ℕ → ℕ → ℕ → Type 0
 Nearest n d b = (2 * (b * d) ≤ 2 * n + d) × (2 * n ≤ 2 * (b * d) + d)
 
--- "The exact broken line" of l is there at v, of a width above 0, and where two pieces meet both give one height
+-- "The exact broken line" of l is there at v, of a width above 0, and where two pieces
+-- meet both give one height
 pub record HasLine (l : List Point) (v : ℕ) : Type 0 where
   pub there : (n d : ℕ) × OnLine l v n d
   pub wide : (n d : ℕ) → OnLine l v n d → 0 < d
@@ -152,8 +156,10 @@ pub record ExactPicture (c : Call) : Type 0 where
       → inPlane (c .given) p < length (c .given .lent .plane .bytes)
   pub in-output : (p : Place) → Within (c .given) p
       → inOutput (c .given) p < length (c .after .first)
-  -- byte by byte: a toned byte is its entry in the table of the list that tones it, alpha is copied, and what lies past the rows stays
-  pub toned : (p : Place) → TonedAt (c .given) p → output c p ≡ entryOf (kindIn (c .given)) (listThatTones (c .given) p) (input c p)
+  -- byte by byte: a toned byte is its entry in the table of the list that tones it, alpha is
+  -- copied, and what lies past the rows stays
+  pub toned : (p : Place) → TonedAt (c .given) p
+      → output c p ≡ entryOf (kindIn (c .given)) (listThatTones (c .given) p) (input c p)
   pub alpha : (p : Place) → Within (c .given) p → IsAlpha (c .given) p → output c p ≡ input c p
   pub past : (k : ℕ) → size (c .given) ≤ k
       → getD (c .after .first) k 0 ≡ getD (c .given .lent .outputs .first) k 0
@@ -168,7 +174,8 @@ pub record ExactPicture (c : Call) : Type 0 where
 
 -- alpha and chroma "come out as they went in", the chroma's step "handed back"
 pub record PassedThrough (c : Call) : Type 0 where
-  pub alpha : (p : Place) → Within (c .given) p → (TonedAt (c .given) p → ⊥) → output c p ≡ input c p
+  pub alpha : (p : Place) → Within (c .given) p → (TonedAt (c .given) p → ⊥)
+      → output c p ≡ input c p
   pub cb : IsYuv (c .given)
       → take (length (c .given .lent .cb .bytes)) (c .after .cb) ≡ c .given .lent .cb .bytes
   pub cr : IsYuv (c .given)

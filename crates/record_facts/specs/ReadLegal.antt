@@ -1,5 +1,6 @@
--- Every set that the reader hands back, on a refusal too, is one that a writer takes: each list has at most 64 points and strictly rises in x, and
--- what the kind carries is a byte or two numbers of 16 bits.
+-- Every set that the reader hands back, on a refusal too, is one that a writer takes: each
+-- list has at most 64 points and strictly rises in x, and what the kind carries is a byte
+-- or two numbers of 16 bits.
 use mathlib.Core.Path.{_≡_, refl}
 use mathlib.Core.Bool.{Bool, true, false, cond}
 use mathlib.Core.List.{List, [], _∷_}
@@ -77,7 +78,9 @@ abbrev Finds : {A : Type 0} → (A → Type 0) → Parse A → Type 0
 Finds P (good v s) = P v × AllBytes s
 Finds P (refused a) = Unit {0}
 
-finds-then : {A B : Type 0} (P : A → Type 0) (Q : B → Type 0) (p : Parse A) (f : A → List ℕ → Parse B) → Finds P p
+finds-then :
+    {A B : Type 0} (P : A → Type 0) (Q : B → Type 0) (p : Parse A) (f : A → List ℕ → Parse B)
+    → Finds P p
     → ((v : A) (s : List ℕ) → P v → AllBytes s → Finds Q (f v s)) → Finds Q (p ▷ f)
 finds-then P Q (good v s) f h k = k v s (h .0) (h .1)
 finds-then P Q (refused a) f h k = tt
@@ -99,8 +102,10 @@ unfolding readPoints
 points-legal least n s b =
     checked-has (Finds LegalList) (λ a refusal. tt) (pointChecks least n s) _
     (λ passed.
-    let few = ltb-false limit n (passed .0) in
-    (record { few = omega (arith, pairs-length n s); rising = not-false _ (passed .1 .1 .1 .0) }, bytes-drop (n * pointBytes) s b))
+    let few = ltb-false limit n (passed .0) in (
+      record { few = omega (arith, pairs-length n s); rising = not-false _ (passed .1 .1 .1 .0) },
+      bytes-drop (n * pointBytes) s b,
+    ))
 
 list-legal : (least : ℕ) (s : List ℕ) → AllBytes s → Finds LegalList (readList least s)
 unfolding readList
@@ -111,7 +116,8 @@ empty-legal : LegalList []
 unfolding risesFrom
 empty-legal = record { few = lit≤ tt; rising = refl }
 
-field-legal : (present : Bool) (least : ℕ) (s : List ℕ) → AllBytes s → Finds LegalList (readField present least s)
+field-legal : (present : Bool) (least : ℕ) (s : List ℕ) → AllBytes s
+    → Finds LegalList (readField present least s)
 field-legal present least s b =
     either (Finds LegalList) present _ _ (λ there. list-legal least s b)
     (λ absent. (empty-legal, b))
@@ -120,7 +126,8 @@ field-legal present least s b =
 slope-legal : (low high : ℕ) → low < 256 → high < 256 → mag (storedSlope low high) < 32768
 slope-legal low high l h =
     let n = low + high * 256 in
-    by-test (ltb n 32768) (λ t. rw t (ltb-true n 32768 t)) (λ t. rw t (omega (arith, ltb-false n 32768 t)))
+    by-test (ltb n 32768) (λ t. rw t (ltb-true n 32768 t))
+    (λ t. rw t (omega (arith, ltb-false n 32768 t)))
 
 tension-legal : (k : ℕ) (s : List ℕ) → AllBytes s → Finds LegalKind (readTension k s)
 unfolding readTension
@@ -157,63 +164,97 @@ carried-legal k s b =
 abbrev AnyNumber : ℕ → Type 0
 AnyNumber k = Unit {0}
 
-number-bytes : (unnamed : CurveInterpolation) (present : Bool) (s : List ℕ) → AllBytes s → Finds AnyNumber (readNumber unnamed present s)
+number-bytes : (unnamed : CurveInterpolation) (present : Bool) (s : List ℕ) → AllBytes s
+    → Finds AnyNumber (readNumber unnamed present s)
 unfolding readNumber
 number-bytes unnamed false s b = (tt, b)
 number-bytes unnamed true [] b = tt
 number-bytes unnamed true (k ∷ s) b =
-    checked-has (Finds AnyNumber) (λ a refusal. tt) (kindCheck k ∷ []) (good k s) (λ known. (tt, bytes-rest k s b))
+    checked-has (Finds AnyNumber) (λ a refusal. tt) (kindCheck k ∷ []) (good k s)
+    (λ known. (tt, bytes-rest k s b))
 
 read-kind-legal : (unnamed : CurveInterpolation) (m : ℕ) (s : List ℕ) → AllBytes s
     → Finds LegalKind (readKind unnamed m s)
 unfolding readKind
 read-kind-legal unnamed m s b =
-    finds-then AnyNumber LegalKind (readNumber unnamed (bit 16 m) s) (readAgreed m) (number-bytes unnamed (bit 16 m) s b)
+    finds-then AnyNumber LegalKind (readNumber unnamed (bit 16 m) s) (readAgreed m)
+    (number-bytes unnamed (bit 16 m) s b)
     (λ k t any c.
-    checked-has (Finds LegalKind) (λ a refusal. tt) (bitsCheck m k ∷ []) (readCarried k t) (λ agrees. carried-legal k t c))
+    checked-has (Finds LegalKind) (λ a refusal. tt) (bitsCheck m k ∷ []) (readCarried k t)
+    (λ agrees. carried-legal k t c))
 
 -- ---- the set
-master-legal : (m : ℕ) (v : View) (s : List ℕ) → LegalSet v → AllBytes s → Finds LegalSet (masterStep m v s)
+master-legal : (m : ℕ) (v : View) (s : List ℕ) → LegalSet v → AllBytes s
+    → Finds LegalSet (masterStep m v s)
 master-legal m v s h b =
     finds-then LegalList LegalSet (readField (bit 1 m) 1 s) _ (field-legal (bit 1 m) 1 s b)
     (λ l t legal c. (
       record {
-        lists = record { master = legal; red = h .lists .red; green = h .lists .green; blue = h .lists .blue };
+        lists = record {
+          master = legal;
+          red = h .lists .red;
+          green = h .lists .green;
+          blue = h .lists .blue;
+        };
         kind = h .kind;
       },
       c,
     ))
 
-with-colour-legal : (colour : Colour) (o : Option (List Point)) (v : View) → LegalColour o → LegalSet v → LegalSet (withColour colour o v)
+with-colour-legal : (colour : Colour) (o : Option (List Point)) (v : View) → LegalColour o
+    → LegalSet v → LegalSet (withColour colour o v)
 with-colour-legal Red o v new h = record {
-  lists = record { master = h .lists .master; red = new; green = h .lists .green; blue = h .lists .blue };
+  lists = record {
+    master = h .lists .master;
+    red = new;
+    green = h .lists .green;
+    blue = h .lists .blue;
+  };
   kind = h .kind;
 }
 with-colour-legal Green o v new h = record {
-  lists = record { master = h .lists .master; red = h .lists .red; green = new; blue = h .lists .blue };
+  lists = record {
+    master = h .lists .master;
+    red = h .lists .red;
+    green = new;
+    blue = h .lists .blue;
+  };
   kind = h .kind;
 }
 with-colour-legal Blue o v new h = record {
-  lists = record { master = h .lists .master; red = h .lists .red; green = h .lists .green; blue = new };
+  lists = record {
+    master = h .lists .master;
+    red = h .lists .red;
+    green = h .lists .green;
+    blue = new;
+  };
   kind = h .kind;
 }
 
-colour-list-legal : (present : Bool) (l : List Point) → LegalList l → LegalColour (colourList present l)
+colour-list-legal : (present : Bool) (l : List Point) → LegalList l
+    → LegalColour (colourList present l)
 colour-list-legal true l h = h
 colour-list-legal false l h = tt
 
-colour-legal : (colour : Colour) (m : ℕ) (v : View) (s : List ℕ) → LegalSet v → AllBytes s → Finds LegalSet (colourStep colour m v s)
+colour-legal : (colour : Colour) (m : ℕ) (v : View) (s : List ℕ) → LegalSet v → AllBytes s
+    → Finds LegalSet (colourStep colour m v s)
 colour-legal colour m v s h b =
     let stands = bit (colourBit colour) m in
     finds-then LegalList LegalSet (readField stands 0 s) _ (field-legal stands 0 s b)
     (λ l t legal c. (with-colour-legal colour _ v (colour-list-legal stands l legal) h, c))
 
-kind-step-legal : (unnamed : CurveInterpolation) (m : ℕ) (v : View) (s : List ℕ) → LegalSet v → AllBytes s → Finds LegalSet (kindStep unnamed m v s)
+kind-step-legal : (unnamed : CurveInterpolation) (m : ℕ) (v : View) (s : List ℕ) → LegalSet v
+    → AllBytes s → Finds LegalSet (kindStep unnamed m v s)
 kind-step-legal unnamed m v s h b =
     finds-then LegalKind LegalSet (readKind unnamed m s) _ (read-kind-legal unnamed m s b)
     (λ k t legal c. (
       record {
-        lists = record { master = h .lists .master; red = h .lists .red; green = h .lists .green; blue = h .lists .blue };
+        lists = record {
+          master = h .lists .master;
+          red = h .lists .red;
+          green = h .lists .green;
+          blue = h .lists .blue;
+        };
         kind = legal;
       },
       c,
@@ -229,7 +270,8 @@ empty-set-legal = record {
   kind = record { tension = lit< tt; start = lit< tt; end = lit< tt };
 }
 
-fields-legal : (unnamed : CurveInterpolation) (m : ℕ) (s : List ℕ) → AllBytes s → Finds LegalSet (readFields unnamed m s)
+fields-legal : (unnamed : CurveInterpolation) (m : ℕ) (s : List ℕ) → AllBytes s
+    → Finds LegalSet (readFields unnamed m s)
 unfolding readFields
 fields-legal unnamed m s b =
     let master = masterStep m emptyView s in
@@ -241,7 +283,8 @@ fields-legal unnamed m s b =
     let h₁ = finds-then LegalSet LegalSet master (colourStep Red m) h₀ (colour-legal Red m) in
     let h₂ = finds-then LegalSet LegalSet red (colourStep Green m) h₁ (colour-legal Green m) in
     let h₃ = finds-then LegalSet LegalSet green (colourStep Blue m) h₂ (colour-legal Blue m) in
-    let h₄ = finds-then LegalSet LegalSet blue (kindStep unnamed m) h₃ (kind-step-legal unnamed m) in
+    let h₄ = finds-then LegalSet LegalSet blue (kindStep unnamed m) h₃
+    (kind-step-legal unnamed m) in
     finds-then LegalSet LegalSet kind endStep h₄ end-legal
 
 -- ---- the record
@@ -254,4 +297,6 @@ unfolding readRecord
 read-legal [] b = empty-set-legal
 read-legal (m ∷ s) b =
     by-test (bit 128 m) (λ reserved. rw reserved empty-set-legal)
-    (λ mapped. rw mapped (result-legal (readFields default m s) (fields-legal default m s (bytes-rest m s b))))
+    (λ mapped.
+    rw mapped
+    (result-legal (readFields default m s) (fields-legal default m s (bytes-rest m s b))))

@@ -1,4 +1,5 @@
--- Reading what the writer wrote gives the same set back, for every set that the writer takes and every buffer with room.
+-- Reading what the writer wrote gives the same set back, for every set that the writer takes
+-- and every buffer with room.
 use Prim.Native.Nat.{ℕ, _+_, _-_, _*_, _/_, _%_, _≤_, _<_}
 use native.Mathlib.Omega.{arith}
 use mathlib.Core.Path.{_≡_, refl, sym, ap, subst}
@@ -71,10 +72,12 @@ unfolding pairs pairBytes
 pairs-back [] t = refl
 pairs-back (p ∷ l) t = ap (λ (m : List Point). p ∷ m) (pairs-back l t)
 
-list-back : (least : ℕ) (l : List Point) (t : List ℕ) → LegalList l → least ≤ length l → readList least (length l ∷ (pairBytes l ++ t)) ≡ good l t
+list-back : (least : ℕ) (l : List Point) (t : List ℕ) → LegalList l → least ≤ length l
+    → readList least (length l ∷ (pairBytes l ++ t)) ≡ good l t
 unfolding readList readPoints
 list-back least l t h enough =
-    let room : length l * pointBytes ≤ length (pairBytes l ++ t) = simp (length-append, pairs-length) (omega arith) in
+    let room : length l * pointBytes ≤ length (pairBytes l ++ t) =
+    simp (length-append, pairs-length) (omega arith) in
     rw (
       le-ltb limit (length l) (h .few),
       le-ltb (length l) least enough,
@@ -147,7 +150,8 @@ agreed-back k m n h e carried =
     subst (λ (i : ℕ). readAgreed m i (carriedBytes k) ≡ good k []) (sym e)
     (rw (eq-eqb (carriedBits m) (kindBits (kindNumber k)) carried) (carried-back k h))
 
-kind-back : (k : CurveInterpolation) (m : ℕ) → LegalKind k → bit 16 m ≡ namesKind k → carriedBits m ≡ kindBits (kindNumber k)
+kind-back : (k : CurveInterpolation) (m : ℕ) → LegalKind k → bit 16 m ≡ namesKind k
+    → carriedBits m ≡ kindBits (kindNumber k)
     → readKind default m (kindBytes k ++ carriedBytes k) ≡ good k []
 unfolding readKind readNumber
 kind-back k m h named carried =
@@ -161,7 +165,8 @@ regroup : (a b c d e f : List ℕ) → a ++ b ++ c ++ d ++ e ++ f ≡ a ++ (b ++
 regroup a b c d e f = simp append-assoc
 
 -- for every set whose lists and kind are legal
-pub round-trip : (v : View) → Legal v → LegalKind (v .kind) → readRecord (encode v) ≡ record { answer = Done; set = v }
+pub round-trip : (v : View) → Legal v → LegalKind (v .kind)
+    → readRecord (encode v) ≡ record { answer = Done; set = v }
 unfolding readRecord encode readFields
 round-trip v h legal =
     let m = masterField (v .master) in
@@ -169,16 +174,20 @@ round-trip v h legal =
     let map = map-back m (v .red) (v .green) (v .blue) (v .kind) in
     rw (
       map .reserved,
-      regroup (fieldBytes m) (fieldBytes (v .red)) (fieldBytes (v .green)) (fieldBytes (v .blue)) (kindBytes (v .kind)) (carriedBytes (v .kind)),
+      regroup (fieldBytes m) (fieldBytes (v .red)) (fieldBytes (v .green)) (fieldBytes (v .blue))
+          (kindBytes (v .kind)) (carriedBytes (v .kind)),
       map .master,
-      field-back 1 m (fieldBytes (v .red) ++ (fieldBytes (v .green) ++ (fieldBytes (v .blue) ++ k))) (master-legal (v .master) (h .master)) (master-points (v .master)),
+      field-back 1 m (fieldBytes (v .red) ++ (fieldBytes (v .green) ++ (fieldBytes (v .blue) ++ k)))
+          (master-legal (v .master) (h .master)) (master-points (v .master)),
       map .red,
-      field-back 0 (v .red) (fieldBytes (v .green) ++ (fieldBytes (v .blue) ++ k)) (h .red) (any-points (v .red)),
+      field-back 0 (v .red) (fieldBytes (v .green) ++ (fieldBytes (v .blue) ++ k)) (h .red)
+          (any-points (v .red)),
       map .green,
       field-back 0 (v .green) (fieldBytes (v .blue) ++ k) (h .green) (any-points (v .green)),
       map .blue,
       field-back 0 (v .blue) k (h .blue) (any-points (v .blue)),
-      kind-back (v .kind) (mapOf m (v .red) (v .green) (v .blue) (v .kind)) legal (map .kind) (map .carried),
+      kind-back (v .kind) (mapOf m (v .red) (v .green) (v .blue) (v .kind)) legal (map .kind)
+          (map .carried),
       master-back (v .master),
       colour-back (v .red),
       colour-back (v .green),
@@ -186,9 +195,12 @@ round-trip v h legal =
     )
 
 -- what the writer leaves in the buffer, read up to the length written
-pub written-back : (s : Curves) (buffer : List ℕ) → LegalKind (s .interpolation) → writeRecord s buffer .answer ≡ Done
-    → readRecord (take (writeRecord s buffer .length) (writeRecord s buffer .buffer)) ≡ record { answer = Done; set = viewOf s }
+pub written-back : (s : Curves) (buffer : List ℕ) → LegalKind (s .interpolation)
+    → writeRecord s buffer .answer ≡ Done
+    → readRecord (take (writeRecord s buffer .length) (writeRecord s buffer .buffer))
+    ≡ record { answer = Done; set = viewOf s }
 written-back s buffer legal done =
     let d = done-case s buffer done in
     let e = encode (viewOf s) in
-    rw (write-done s buffer (d .0) (d .1), take-append-seam e (drop (length e) buffer)) (round-trip (viewOf s) (legal-view s (d .0)) legal)
+    rw (write-done s buffer (d .0) (d .1), take-append-seam e (drop (length e) buffer))
+    (round-trip (viewOf s) (legal-view s (d .0)) legal)

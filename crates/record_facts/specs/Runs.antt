@@ -28,28 +28,40 @@ use Rattle.record_facts.specs.Room.{longest-suffices, never-thirteen}
 use Rattle.record_facts.specs.RoundTrip.{written-back}
 
 module _ {set : Curves} {before after : List ℕ} {w : Written} {r : RecordRead} where
-  -- "reading what the writer wrote gives the same set back": of a run that answers done, the bytes up to its length are read as the same set
-  pub written-then-read : WriteRecordCall set before w after → w .answer ≡ Done → ReadRecordCall (take (w .length) after) r
+  -- "reading what the writer wrote gives the same set back": of a run that answers done, the bytes
+  -- up to its length are read as the same set
+  pub written-then-read : WriteRecordCall set before w after → w .answer ≡ Done
+      → ReadRecordCall (take (w .length) after) r
       → (r .answer ≡ Done) × Same (r .set) set
   written-then-read wrote done handed =
       let written = sym (wrote .answer) ∙ done in
       let back = written-back set before (wrote .held done .kind) written in
-      let h = rw (wrote .length, wrote .buffer, back) at handed in
-      (h .answer, view-same (r .set) set (h .full) (wrote .held done .full) (h .legal) (done-case set before written .0) (h .set))
+      let h = rw (wrote .length, wrote .buffer, back) at handed in (
+        h .answer,
+        view-same (r .set) set (h .full) (wrote .held done .full) (h .legal)
+            (done-case set before written .0) (h .set),
+      )
 
--- a set that was read is never refused for its lists: the answer is done, or 13 where the buffer is shorter than the set's record
-pub accepted-not-refused : (s : List ℕ) {before after : List ℕ} {r : RecordRead} {w : Written} → ReadRecordCall s r → WriteRecordCall (r .set) before w after
-    → w .answer ≡ firstRefusal (roomCheck (length (encode (readRecord s .set))) (length before) ∷ [])
+-- a set that was read is never refused for its lists: the answer is done, or 13 where the buffer is
+-- shorter than the set's record
+pub accepted-not-refused : (s : List ℕ) {before after : List ℕ} {r : RecordRead} {w : Written}
+    → ReadRecordCall s r → WriteRecordCall (r .set) before w after
+    → w .answer
+    ≡ firstRefusal (roomCheck (length (encode (readRecord s .set))) (length before) ∷ [])
 unfolding setAnswer
 accepted-not-refused s {before} {r = r} handed wrote =
-    wrote .answer ∙ write-answer (r .set) before ∙ sym (first-goes-on (setChecks curveChecks (r .set)) _ (handed .legal) refl) ∙ rw (handed .set)
+    wrote .answer ∙ write-answer (r .set) before
+    ∙ sym (first-goes-on (setChecks curveChecks (r .set)) _ (handed .legal) refl)
+    ∙ rw (handed .set)
 
 -- and of a record that was accepted it is done in every buffer that has room for that record
-pub accepted-fits : (s : List ℕ) {before after : List ℕ} {r : RecordRead} {w : Written} → ReadRecordCall s r → r .answer ≡ Done
+pub accepted-fits : (s : List ℕ) {before after : List ℕ} {r : RecordRead} {w : Written}
+    → ReadRecordCall s r → r .answer ≡ Done
     → WriteRecordCall (r .set) before w after → length s ≤ length before → w .answer ≡ Done
 accepted-fits s {before} handed accepted wrote room =
     let short = not-longer s (sym (handed .answer) ∙ accepted) in
-    accepted-not-refused s handed wrote ∙ rw (le-ltb (length before) (length (encode (readRecord s .set))) (omega arith))
+    accepted-not-refused s handed wrote
+    ∙ rw (le-ltb (length before) (length (encode (readRecord s .set))) (omega arith))
 
 -- same sets, written into buffers that held the same, give the same answer, length and bytes
 pub same-runs : {a b : Curves} {before after-a after-b : List ℕ} {w x : Written} → Same a b
@@ -77,7 +89,8 @@ returned s {before} {r = r} {w} bytes handed accepted unnamed wrote done =
 
 -- into a buffer of 522 bytes or more every set is written that passes the check of its lists, and
 -- none is refused with 13
-pub always-fits : {set : Curves} {before after : List ℕ} {w : Written} → WriteRecordCall set before w after
+pub always-fits : {set : Curves} {before after : List ℕ} {w : Written}
+    → WriteRecordCall set before w after
     → longest ≤ length before
     → (w .answer ≡ setAnswer set) × (w .answer ≡ OutputTooSmall → ⊥)
 always-fits {set} {before} wrote room =

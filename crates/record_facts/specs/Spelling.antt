@@ -285,7 +285,8 @@ module _ (named : Bool) (m k : ℕ) (known : ltb lastKind k ≡ false)
       → Spelled (KindOf named m) (cond named (k ∷ []) [] ++ s) (readAgreed m k s)
   agreed-spelled s =
       let c = cond named (k ∷ []) [] in
-      checked-has (Spelled (KindOf named m) (c ++ s)) (λ a refusal. refusal) (bitsCheck m k ∷ []) (readCarried k s)
+      checked-has (Spelled (KindOf named m) (c ++ s)) (λ a refusal. refusal) (bitsCheck m k ∷ [])
+      (readCarried k s)
       (λ agrees. spelled-behind (CarriedOf k) (KindOf named m) c (c ++ s) s (readCarried k s) refl
       (kind-of (eqb-true (carriedBits m) (kindBits k) (not-false _ (agrees .0))))
       (carried-spelled k known s))

@@ -1,4 +1,5 @@
--- One field after another: what a reading after a reading finds, field by field, up to the end of the record.
+-- One field after another: what a reading after a reading finds, field by field, up
+-- to the end of the record.
 use mathlib.Core.Path.{_≡_, refl, sym, ap, _∙_}
 use mathlib.Core.Bool.{Bool, true, false, cond}
 use mathlib.Core.List.{List, [], _∷_}
@@ -32,7 +33,8 @@ use Rattle.records.specs.Views.{parsed, ReadOn, HandedBack}
 use Rattle.records.proofs.Lists.{drop-at}
 
 -- ---- one reading after another
-module _ {A B : Type 0} (d : Bool) (a : Answer) (e : d ≡ isDone a) (v : A) (s : List ℕ) (next : ℕ) (f : A → List ℕ → Parse B) where
+module _ {A B : Type 0} (d : Bool) (a : Answer) (e : d ≡ isDone a) (v : A) (s : List ℕ) (next : ℕ)
+    (f : A → List ℕ → Parse B) where
   pub goes-on : d ≡ true → (parsed a v s next ▷ f) ≡ f v (drop next s)
   goes-on t = rw (sym e, t)
 
@@ -51,8 +53,11 @@ module _ (s : List ℕ) (before : Reading) (d : Bool) (e : d ≡ isDone (before 
   refusal-stays step t = record { field = rw (sym e, t); legal = λ passes. passes }
 
   -- a member v, as p reads it, replaced as g does
-  pub member-read : {B : Type 0} (p : List ℕ → Parse B) (g : B → View → View) (a : Answer) (next : ℕ) (set : Curves) (v : B) → d ≡ true
-      → parsed a v s next ≡ p (drop (before .next) s) → viewOf set ≡ g v (viewOf (before .set)) → (setAnswer (before .set) ≡ Done → setAnswer set ≡ Done)
+  pub member-read :
+      {B : Type 0} (p : List ℕ → Parse B) (g : B → View → View) (a : Answer) (next : ℕ) (set : Curves) (v : B)
+      → d ≡ true
+      → parsed a v s next ≡ p (drop (before .next) s) → viewOf set ≡ g v (viewOf (before .set))
+      → (setAnswer (before .set) ≡ Done → setAnswer set ≡ Done)
       → ReadOn s (λ w t. p t ▷ λ y u. good (g y w) u) before (record { answer = a; next = next; set = set })
   member-read {B = B} p g a next set v t q view passes =
       let w = viewOf (before .set) in
@@ -76,8 +81,10 @@ end-none v at s h = rw (drop-of-length-le s {i = at} h)
 pub handed : {p q : Parse View} {r : RecordRead} → p ≡ q → HandedBack (result q) r → HandedBack (result p) r
 handed e h = rw e h
 
-pub fields-by : (unnamed : CurveInterpolation) (m : ℕ) (s : List ℕ) (p₀ p₁ p₂ p₃ p₄ p₅ : Parse View) → p₀ ≡ good emptyView s
-    → p₁ ≡ (p₀ ▷ masterStep m) → p₂ ≡ (p₁ ▷ colourStep Red m) → p₃ ≡ (p₂ ▷ colourStep Green m) → p₄ ≡ (p₃ ▷ colourStep Blue m)
+pub fields-by : (unnamed : CurveInterpolation) (m : ℕ) (s : List ℕ) (p₀ p₁ p₂ p₃ p₄ p₅ : Parse View)
+    → p₀ ≡ good emptyView s
+    → p₁ ≡ (p₀ ▷ masterStep m) → p₂ ≡ (p₁ ▷ colourStep Red m) → p₃ ≡ (p₂ ▷ colourStep Green m)
+    → p₄ ≡ (p₃ ▷ colourStep Blue m)
     → p₅ ≡ (p₄ ▷ kindStep unnamed m) → readFields unnamed m s ≡ (p₅ ▷ endStep)
 unfolding readFields
 fields-by unnamed m s p₀ p₁ p₂ p₃ p₄ p₅ e₀ e₁ e₂ e₃ e₄ e₅ = sym (rw (e₅, e₄, e₃, e₂, e₁, e₀))
@@ -89,7 +96,8 @@ record-none (m ∷ s) h = absurd (omega arith)
 
 -- b is bit 7 of the map
 module _ (b : Bool) where
-  pub record-reserved : (s : List ℕ) → 0 < length s → b ≡ bit 128 (getD s 0 0) → b ≡ true → readRecord s ≡ result (refused ReservedBit)
+  pub record-reserved : (s : List ℕ) → 0 < length s → b ≡ bit 128 (getD s 0 0) → b ≡ true
+      → readRecord s ≡ result (refused ReservedBit)
   unfolding readRecord
   record-reserved [] h e t = absurd (omega arith)
   record-reserved (m ∷ s) h e t = rw (sym e, t)

@@ -1,4 +1,5 @@
--- A list at a position of the record: its points one by one, and what its reader finds in each case.
+-- A list at a position of the record: its points one by one, and what its
+-- reader finds in each case.
 use mathlib.Core.Path.{_≡_, sym, ap, _∙_}
 use mathlib.Core.Bool.{Bool, true, false, cond}
 use mathlib.Core.List.{List, [], _∷_, _++_, append-nil}
@@ -41,15 +42,19 @@ drop-at s i h = rw (add-one i, drop-cons s i 0 h)
 left-suc : (n i : ℕ) → i < n → n - i ≡ suc (n - (i + 1))
 left-suc n i h = omega arith
 
-pub pairs-more : (s : List ℕ) (n i at : ℕ) (ps : List Point) (p : Point) → i < n → i < length ps → p ≡ pointOf (drop at s)
-    → take (i + 1) (set ps i p) ++ pairs (n - (i + 1)) (drop (at + pointBytes) s) ≡ take i ps ++ pairs (n - i) (drop at s)
+pub pairs-more : (s : List ℕ) (n i at : ℕ) (ps : List Point) (p : Point) → i < n → i < length ps
+    → p ≡ pointOf (drop at s)
+    → take (i + 1) (set ps i p) ++ pairs (n - (i + 1)) (drop (at + pointBytes) s)
+    ≡ take i ps ++ pairs (n - i) (drop at s)
 unfolding pairs
 pairs-more s n i at ps p h room e =
     rw (left-suc n i h, add-one i, take-suc-set ps i p room, e, drop-drop pointBytes at s) (append-snoc (take i ps) _ _)
 
-pub pairs-done : (s : List ℕ) (n i at : ℕ) (ps all : List Point) → i ≡ n → take i ps ++ pairs (n - i) (drop at s) ≡ all → take n ps ≡ all
+pub pairs-done : (s : List ℕ) (n i at : ℕ) (ps all : List Point) → i ≡ n → take i ps ++ pairs (n - i) (drop at s) ≡ all
+    → take n ps ≡ all
 unfolding pairs
-pairs-done s n i at ps all e inv = let none : n - n ≡ 0 = omega arith in sym (append-nil (take n ps)) ∙ (rw (e, none) at inv)
+pairs-done s n i at ps all e inv = let none : n - n ≡ 0 = omega arith in
+    sym (append-nil (take n ps)) ∙ (rw (e, none) at inv)
 
 -- ---- what a reading means that hands back a refusal of its checks
 pub parsed-refused : {A : Type 0} {r a : Answer} (v : A) (s : List ℕ) (next : ℕ) → r ≡ a → isDone a ≡ false

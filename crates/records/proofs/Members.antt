@@ -32,7 +32,8 @@ set-passes : (s : Curves) → Passed s → setAnswer s ≡ Done
 set-passes s p = set-answer s ∙ rw (p .master, p .red, p .green) (p .blue)
 
 -- ---- one member replaced
-pub master-passes : (c : Curve) (s : Curves) → curveAnswer c ≡ Done → setAnswer s ≡ Done → setAnswer (replaceMaster c s) ≡ Done
+pub master-passes : (c : Curve) (s : Curves) → curveAnswer c ≡ Done → setAnswer s ≡ Done
+    → setAnswer (replaceMaster c s) ≡ Done
 master-passes c s new e =
     let p = passed-set s e in
     set-passes (replaceMaster c s) (record { master = new; red = p .red; green = p .green; blue = p .blue })
@@ -41,7 +42,8 @@ pub channel-passes : (c : Channel) → curveAnswer (c .curve) ≡ Done → chann
 unfolding channelAnswer curveAnswer
 channel-passes c e = by-test (c .present) (λ t. rw t e) (λ t. rw t)
 
-colour-passed : (colour : Colour) (c : Channel) (s : Curves) → channelAnswer c ≡ Done → Passed s → Passed (replaceColour colour c s)
+colour-passed : (colour : Colour) (c : Channel) (s : Curves) → channelAnswer c ≡ Done → Passed s
+    → Passed (replaceColour colour c s)
 colour-passed Red c s new p = record { master = p .master; red = new; green = p .green; blue = p .blue }
 colour-passed Green c s new p = record { master = p .master; red = p .red; green = new; blue = p .blue }
 colour-passed Blue c s new p = record { master = p .master; red = p .red; green = p .green; blue = new }
@@ -57,7 +59,8 @@ kind-passes k s e = e
 -- ---- the empty set
 absent-passes : (c : Channel) → channelOf c ≡ none → channelAnswer c ≡ Done
 unfolding channelAnswer
-absent-passes c e = by-test (c .present) (λ t. let z : _≡_ {A = ℕ} 0 1 = cc (rw t at e) in absurd (omega arith)) (λ t. rw t)
+absent-passes c e =
+    by-test (c .present) (λ t. let z : _≡_ {A = ℕ} 0 1 = cc (rw t at e) in absurd (omega arith)) (λ t. rw t)
 
 pub empty-set-passes : (s : Curves) → length (s .master .points) ≡ limit → viewOf s ≡ emptyView → setAnswer s ≡ Done
 empty-set-passes s long e =

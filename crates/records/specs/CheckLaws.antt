@@ -1,4 +1,5 @@
--- The record reader answers the first refusal of the record's checks, and hands back the empty set where one of them fails.
+-- The record reader answers the first refusal of the record's checks, and hands back the empty set
+-- where one of them fails.
 use Prim.Native.Nat.{ℕ, _*_}
 use native.Mathlib.Omega.{arith}
 use mathlib.Core.Path.{_≡_, refl, sym, ap}
@@ -80,16 +81,19 @@ module _ {A : Type 0} (p : Parse A) where
 
   pub checked-stops : (cs ds : List Check) {a : Answer} → a ≡ firstRefusal cs → isDone a ≡ false
       → checked (cs ++ ds) p ≡ refused a
-  checked-stops cs ds e not-done = checked-refused (cs ++ ds) (first-stops cs ds e not-done) not-done
+  checked-stops cs ds e not-done =
+      checked-refused (cs ++ ds) (first-stops cs ds e not-done) not-done
 
-  pub checked-goes-on : (cs ds : List Check) → firstRefusal cs ≡ Done → checked (cs ++ ds) p ≡ checked ds p
+  pub checked-goes-on : (cs ds : List Check) → firstRefusal cs ≡ Done
+      → checked (cs ++ ds) p ≡ checked ds p
   checked-goes-on [] ds done = refl
   checked-goes-on (c ∷ cs) ds done =
       let q = all-passed (c ∷ cs) done in
       rw (q .0) (checked-goes-on cs ds (rw (q .0) at done))
 
 -- what every refusal has, and the reading once its checks have passed
-pub checked-has : {A : Type 0} (P : Parse A → Type 0) → ((a : Answer) → isDone a ≡ false → P (refused a))
+pub checked-has : {A : Type 0} (P : Parse A → Type 0)
+    → ((a : Answer) → isDone a ≡ false → P (refused a))
     → (cs : List Check) (p : Parse A) → (AllPassed cs → P p) → P (checked cs p)
 checked-has P refusals [] p holds = holds tt
 checked-has P refusals (c ∷ cs) p holds =
@@ -114,7 +118,9 @@ reads-on : {A : Type 0} (v : A) (s : List ℕ) → Reads [] s (good v s)
 reads-on v s = record { answer = refl; goes-on = refl }
 
 -- one reading after another
-reads-then : {A B : Type 0} {cs ds : List Check} {t u : List ℕ} {p : Parse A} (next : A → List ℕ → Parse B) → Reads cs t p
+reads-then :
+    {A B : Type 0} {cs ds : List Check} {t u : List ℕ} {p : Parse A} (next : A → List ℕ → Parse B)
+    → Reads cs t p
     → ((v : A) → Reads ds u (next v t)) → Reads (cs ++ ds) u (p ▷ next)
 reads-then {cs = cs} {ds = ds} {p = good v s} next f g =
     let h = rw (← f .goes-on) at (g v) in
@@ -123,14 +129,16 @@ reads-then {cs = cs} {ds = ds} {p = refused a} next f g =
     record { answer = rw (first-append cs ds, ← f .answer, f .goes-on); goes-on = f .goes-on }
 
 -- a reading behind checks
-behind : {A : Type 0} (c : Check) (t : Bool) → refuses c ≡ t → {cs : List Check} {u : List ℕ} {p : Parse A}
+behind : {A : Type 0} (c : Check) (t : Bool) → refuses c ≡ t
+    → {cs : List Check} {u : List ℕ} {p : Parse A}
     → Reads cs u p
     → (answerOf (cond t (refused (c .answer)) p) ≡ cond t (c .answer) (firstRefusal cs))
     × GoesOn u (cond t (refused (c .answer)) p)
 behind c true e f = (refl, refusal c e)
 behind c false e f = (f .answer, f .goes-on)
 
-checked-read : {A : Type 0} (cs : List Check) {ds : List Check} {u : List ℕ} {p : Parse A} → Reads ds u p
+checked-read : {A : Type 0} (cs : List Check) {ds : List Check} {u : List ℕ} {p : Parse A}
+    → Reads ds u p
     → Reads (cs ++ ds) u (checked cs p)
 checked-read [] f = f
 checked-read (c ∷ cs) f =
@@ -139,17 +147,21 @@ checked-read (c ∷ cs) f =
 
 -- a list
 list-read : (least : ℕ) (s : List ℕ)
-    → Reads (storedListChecks least s) (drop (getD s 0 0 * pointBytes) (drop 1 s)) (readList least s)
+    → Reads (storedListChecks least s) (drop (getD s 0 0 * pointBytes) (drop 1 s))
+    (readList least s)
 unfolding readList readPoints
 list-read least [] = record { answer = refl; goes-on = refl }
-list-read least (n ∷ s) = checked-read (storedListChecks least (n ∷ s)) (reads-on (pairs n s) (drop (n * pointBytes) s))
+list-read least (n ∷ s) =
+    checked-read (storedListChecks least (n ∷ s)) (reads-on (pairs n s) (drop (n * pointBytes) s))
 
-field-read : (stands : Bool) (least : ℕ) (s : List ℕ) → Reads (fieldChecks stands least s) (afterField stands s) (readField stands least s)
+field-read : (stands : Bool) (least : ℕ) (s : List ℕ)
+    → Reads (fieldChecks stands least s) (afterField stands s) (readField stands least s)
 field-read true least s = list-read least s
 field-read false least s = reads-on [] s
 
 -- a field read, and a member replaced by it
-step-read : {A B : Type 0} {cs : List Check} {t : List ℕ} {p : Parse A} (f : A → B) → Reads cs t p → Reads cs t (p ▷ λ v s. good (f v) s)
+step-read : {A B : Type 0} {cs : List Check} {t : List ℕ} {p : Parse A} (f : A → B) → Reads cs t p
+    → Reads cs t (p ▷ λ v s. good (f v) s)
 step-read {p = good v s} f h = record { answer = h .answer; goes-on = h .goes-on }
 step-read {p = refused a} f h = record { answer = h .answer; goes-on = h .goes-on }
 
@@ -162,21 +174,27 @@ tension-read k (q ∷ s) =
     rw (le-ltb (length (q ∷ s)) 1 (omega arith))
     (checked-read (RecordTruncated when false ∷ []) (reads-on _ s))
 
-carried-read : (k : ℕ) (s : List ℕ) → Reads (RecordTruncated when ltb (length s) (carriedLength k) ∷ []) (drop (carriedLength k) s) (readCarried k s)
+carried-read : (k : ℕ) (s : List ℕ)
+    → Reads (RecordTruncated when ltb (length s) (carriedLength k) ∷ []) (drop (carriedLength k) s)
+    (readCarried k s)
 unfolding readCarried readSlopes
 carried-read k s =
     by-test (carriesTension k) (λ t. rw t (tension-read k s))
     (λ t.
     by-test (carriesSlopes k)
-    (λ u. rw (t, u) (checked-read (RecordTruncated when ltb (length s) 4 ∷ []) (reads-on _ (drop 4 s))))
-    (λ u. rw (t, u, le-ltb (length s) 0 (omega arith)) (checked-read (RecordTruncated when false ∷ []) (reads-on _ s))))
+    (λ u. rw (t, u)
+    (checked-read (RecordTruncated when ltb (length s) 4 ∷ []) (reads-on _ (drop 4 s))))
+    (λ u. rw (t, u, le-ltb (length s) 0 (omega arith))
+    (checked-read (RecordTruncated when false ∷ []) (reads-on _ s))))
 
 agreed-read : (m k : ℕ) (s : List ℕ)
     → Reads (bitsCheck m k ∷ RecordTruncated when ltb (length s) (carriedLength k) ∷ [])
     (drop (carriedLength k) s) (readAgreed m k s)
 agreed-read m k s = checked-read (bitsCheck m k ∷ []) (carried-read k s)
 
-kind-read : (stands : Bool) (m : ℕ) (s : List ℕ) → Reads (kindChecks stands m s) (afterKind stands s) (readNumber default stands s ▷ readAgreed m)
+kind-read : (stands : Bool) (m : ℕ) (s : List ℕ)
+    → Reads (kindChecks stands m s) (afterKind stands s)
+    (readNumber default stands s ▷ readAgreed m)
 unfolding readNumber
 kind-read false m s =
     checked-read (RecordTruncated when false ∷ kindCheck (kindNumber default) ∷ [])
@@ -185,9 +203,11 @@ kind-read true m [] = record { answer = refl; goes-on = refl }
 kind-read true m (k ∷ s) =
     by-test (ltb lastKind k) (λ t. rw t (record { answer = refl; goes-on = refl }))
     (λ t.
-    rw t (checked-read (RecordTruncated when false ∷ UnknownKind when false ∷ []) (agreed-read m k s)))
+    rw t (checked-read (RecordTruncated when false ∷ UnknownKind when false ∷ [])
+    (agreed-read m k s)))
 
-end-read : (v : View) (s : List ℕ) → Reads (TrailingBytes when not (isEmpty s) ∷ []) [] (endStep v s)
+end-read : (v : View) (s : List ℕ)
+    → Reads (TrailingBytes when not (isEmpty s) ∷ []) [] (endStep v s)
 end-read v [] = checked-read (TrailingBytes when false ∷ []) (reads-on v [])
 end-read v (b ∷ s) = record { answer = refl; goes-on = refl }
 
@@ -210,7 +230,8 @@ fields-read m s =
     (λ v. step-read _ (kind-read (bit 16 m) m kind)))
     (λ v. end-read v (afterKind (bit 16 m) kind))
 
-result-answer : {cs : List Check} {p : Parse View} → Reads cs [] p → result p .answer ≡ firstRefusal cs
+result-answer : {cs : List Check} {p : Parse View} → Reads cs [] p
+    → result p .answer ≡ firstRefusal cs
 result-answer {p = good v s} f = f .answer
 result-answer {p = refused a} f = f .answer
 
@@ -224,7 +245,9 @@ result-empty : (p : Parse View) → isDone (result p .answer) ≡ false → resu
 result-empty (good v s) e = absurd (true≢false e)
 result-empty (refused a) e = refl
 
-pub read-empty : (s : List ℕ) → isDone (readRecord s .answer) ≡ false → readRecord s .set ≡ emptyView
+pub read-empty : (s : List ℕ) → isDone (readRecord s .answer) ≡ false
+    → readRecord s .set ≡ emptyView
 unfolding readRecord
 read-empty [] e = refl
-read-empty (m ∷ s) e = by-test (bit 128 m) (λ t. rw t) (λ t. rw t (result-empty (readFields default m s) (rw t at e)))
+read-empty (m ∷ s) e =
+    by-test (bit 128 m) (λ t. rw t) (λ t. rw t (result-empty (readFields default m s) (rw t at e)))

@@ -1,6 +1,7 @@
--- The checks of a stored record in document 01's order, "When a call says no", as a flat list: the places
--- of the fields are reckoned from their counts, so that the order can be read without the parser of
--- `Format`, whose answer is the first refusal of the list (`CheckLaws`). Definitions only.
+-- The checks of a stored record in document 01's order, "When a call says no", as a flat
+-- list: the places of the fields are reckoned from their counts, so that the order can be
+-- read without the parser of `Format`, whose answer is the first refusal of the list
+-- (`CheckLaws`). Definitions only.
 use Prim.Native.Nat.{ℕ, _*_}
 use mathlib.Core.Bool.{Bool, true, false, cond, not, _&&_}
 use mathlib.Core.List.{List, [], _∷_, _++_}
@@ -52,7 +53,8 @@ kindChecks stands m s =
 abbrev pub afterKind : Bool → List ℕ → List ℕ
 afterKind stands s = drop (carriedLength (kindIs stands s)) (afterByte stands s)
 
--- "Inside a record 2 to 5 run field by field": master, red, green, blue and kind, after the map m, each present where its bit is set; `bit 4 m` is the bit of weight 4;
+-- "Inside a record 2 to 5 run field by field": master, red, green, blue and kind, after the map m,
+-- each present where its bit is set; `bit 4 m` is the bit of weight 4;
 -- then 7
 abbrev pub mapChecks : ℕ → List ℕ → List Check
 mapChecks m master =
@@ -60,8 +62,10 @@ mapChecks m master =
     let green = afterField (bit 2 m) red in
     let blue = afterField (bit 4 m) green in
     let kind = afterField (bit 8 m) blue in
-    fieldChecks (bit 1 m) 1 master ++ fieldChecks (bit 2 m) 0 red ++ fieldChecks (bit 4 m) 0 green ++ fieldChecks (bit 8 m) 0 blue
-    ++ kindChecks (bit 16 m) m kind ++ TrailingBytes when not (isEmpty (afterKind (bit 16 m) kind)) ∷ []
+    fieldChecks (bit 1 m) 1 master ++ fieldChecks (bit 2 m) 0 red ++ fieldChecks (bit 4 m) 0 green
+    ++ fieldChecks (bit 8 m) 0 blue
+    ++ kindChecks (bit 16 m) m kind ++ TrailingBytes when not (isEmpty (afterKind (bit 16 m) kind))
+    ∷ []
 
 -- `read_record`: a record without its map has nothing else to check
 abbrev pub recordChecks : List ℕ → List Check

@@ -1,4 +1,5 @@
--- For the refusals 2 to 6 a record that has it, and their order within a field; 1 and 7 are document 01's P11 and P10.
+-- For the refusals 2 to 6 a record that has it, and their order within a field; 1 and 7 are
+-- document 01's P11 and P10.
 use mathlib.Core.Path.{_≡_, refl}
 use mathlib.Core.List.{[], _∷_}
 use mathlib.Core.Option.{some}
@@ -36,11 +37,13 @@ use Rattle.records.specs.Format.{
 
 -- ---- accepted
 -- "a count of 0 being an empty one"
-pub red-empty : readRecord (2 ∷ 0 ∷ []) ≡ record { answer = Done; set = withColour Red (some []) emptyView }
+pub red-empty : readRecord (2 ∷ 0 ∷ [])
+    ≡ record { answer = Done; set = withColour Red (some []) emptyView }
 unfolding readRecord readFields readList readPoints pairs readKind readNumber readCarried risesFrom
 red-empty = refl
 
-pub cardinal : readRecord (0x30 ∷ 7 ∷ 128 ∷ []) ≡ record { answer = Done; set = withKind (Cardinal 128) emptyView }
+pub cardinal : readRecord (0x30 ∷ 7 ∷ 128 ∷ [])
+    ≡ record { answer = Done; set = withKind (Cardinal 128) emptyView }
 unfolding readRecord readFields readKind readNumber readCarried readTension
 cardinal = refl
 

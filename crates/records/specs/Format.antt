@@ -1,4 +1,5 @@
--- The stored record, edition 1: what a reader makes of a list of bytes, as document 01's sections "Stored record" and "When a call says no" have it.
+-- The stored record, edition 1: what a reader makes of a list of bytes, as document 01's sections
+-- "Stored record" and "When a call says no" have it.
 -- Definitions only.
 use Prim.Native.Nat.{ℕ, zero, suc, _+_, _-_, _*_, _/_, _%_}
 use mathlib.Core.List.{List, [], _∷_, _++_}
@@ -80,8 +81,8 @@ longestField = 1 + limit * pointBytes
 abbrev pub longest : ℕ
 longest = 1 + 4 * longestField + 1 + 4
 
--- 3: "A count of points is above 64, or a record's master count is 0", n being the count of a list of
--- at least so many points
+-- 3: "A count of points is above 64, or a record's master count is 0", n being the count of a list
+-- of at least so many points
 abbrev pub countChecks : ℕ → ℕ → List Check
 countChecks least n = countCheck n ∷ PointCount when ltb n least ∷ []
 
@@ -161,7 +162,9 @@ abbrev pub colourList : Bool → List Point → Option (List Point)
 colourList present l = cond present (some l) none
 
 abbrev pub colourStep : Colour → ℕ → View → List ℕ → Parse View
-colourStep c m v s = readField (bit (colourBit c) m) 0 s ▷ λ l t. good (withColour c (colourList (bit (colourBit c) m) l) v) t
+colourStep c m v s =
+    readField (bit (colourBit c) m) 0 s ▷ λ l t.
+    good (withColour c (colourList (bit (colourBit c) m) l) v) t
 
 abbrev pub kindStep : CurveInterpolation → ℕ → View → List ℕ → Parse View
 kindStep unnamed m v s = readKind unnamed m s ▷ λ k t. good (withKind k v) t
@@ -174,7 +177,8 @@ endStep v (b ∷ s) = refused TrailingBytes
 -- "from bit 0": the fields after the map m
 unfoldable pub readFields : CurveInterpolation → ℕ → List ℕ → Parse View
 readFields unnamed m s =
-    good emptyView s ▷ masterStep m ▷ colourStep Red m ▷ colourStep Green m ▷ colourStep Blue m ▷ kindStep unnamed m ▷ endStep
+    good emptyView s ▷ masterStep m ▷ colourStep Red m ▷ colourStep Green m ▷ colourStep Blue m ▷
+    kindStep unnamed m ▷ endStep
 
 -- ---- the record
 pub record Read : Type 0 where
@@ -189,4 +193,5 @@ result (refused a) = record { answer = a; set = emptyView }
 -- a record without its map is refused with 2, one with bit 7 with 1
 unfoldable pub readRecord : List ℕ → Read
 readRecord [] = result (refused RecordTruncated)
-readRecord (m ∷ s) = cond (bit 128 m) (result (refused ReservedBit)) (result (readFields default m s))
+readRecord (m ∷ s) =
+    cond (bit 128 m) (result (refused ReservedBit)) (result (readFields default m s))

@@ -38,11 +38,13 @@ pub record ListRead (s : List ℕ) (p : Parse (List Point)) (r : CurveRead) : Ty
   pub legal : curveAnswer (r .curve) ≡ Done
 
 -- one field more is read, and a set that passes the check goes on passing it
-pub record ReadOn (s : List ℕ) (step : View → List ℕ → Parse View) (before after : Reading) : Type 0 where
+pub record ReadOn (s : List ℕ) (step : View → List ℕ → Parse View) (before after : Reading) :
+    Type 0 where
   pub field : setParsed s after ≡ (setParsed s before ▷ step)
   pub legal : setAnswer (before .set) ≡ Done → setAnswer (after .set) ≡ Done
 
--- what a reader hands back: answer and set, and, on a refusal too, that the set passes the check and is stored as the types have it
+-- what a reader hands back: answer and set, and, on a refusal too, that the set passes the check
+-- and is stored as the types have it
 pub record HandedBack (r : Read) (handed : RecordRead) : Type 0 where
   pub answer : handed .answer ≡ r .answer
   pub set : viewOf (handed .set) ≡ r .set

@@ -1,5 +1,6 @@
 // The stored record, edition 1: the reader.
-// A field is read from a position on; past the end there is nothing, so no position is asked to lie within the record.
+// A field is read from a position on; past the end there is nothing, so no position is asked
+// to lie within the record.
 ghost use mathlib.Core.Path.{_≡_};
 ghost use Prim.Native.Nat.{_+_, _*_, _≤_, _<_};
 ghost use mathlib.Core.List.{[], _∷_};
@@ -192,7 +193,8 @@ fn read_curve(s: &[u8], at: usize, least: usize) -> CurveRead
 
 // A list whose field is there only where its bit is set.
 fn read_field(s: &[u8], at: usize, present: bool, least: usize) -> CurveRead
-    ensures { λ r. ⌜ ListRead (now (s .entry)) (readField present least (drop at (now (s .entry)))) r ⌝ }
+    ensures { λ r. ⌜
+        ListRead (now (s .entry)) (readField present least (drop at (now (s .entry)))) r ⌝ }
 {
     if present {
         read_curve(s, at, least)
@@ -228,7 +230,8 @@ pub fn check_kind(kind: u8) -> Answer
 
 // The kind byte where it is there; else the number of the unnamed kind.
 fn read_number(s: &[u8], at: usize, present: bool, unnamed: CurveInterpolation) -> NumberRead
-    ensures { λ r. ⌜ numberParsed (now (s .entry)) r ≡ readNumber unnamed present (drop at (now (s .entry))) ⌝ }
+    ensures { λ r. ⌜
+        numberParsed (now (s .entry)) r ≡ readNumber unnamed present (drop at (now (s .entry))) ⌝ }
 {
     if present {
         if s.len() <= at {
@@ -329,7 +332,8 @@ fn read_carried(s: &[u8], at: usize, k: u8) -> KindRead
 
 // The kind: its byte, then whether bits 5 and 6 agree with it, then what it carries.
 fn read_kind(s: &[u8], at: usize, map: u8, unnamed: CurveInterpolation) -> KindRead
-    ensures { λ r. ⌜ kindParsed (now (s .entry)) r ≡ readKind unnamed map (drop at (now (s .entry))) ⌝ }
+    ensures { λ r. ⌜
+        kindParsed (now (s .entry)) r ≡ readKind unnamed map (drop at (now (s .entry))) ⌝ }
 {
     let named = read_number(s, at, has_bit(map, 16), unnamed);
     let answer = named.answer;
@@ -436,7 +440,8 @@ fn no_record(refusal: Answer) -> RecordRead
     }
 }
 
-// The fields from a position on, from bit 0 of the map, and then the end; unnamed is the kind of a record that names none.
+// The fields from a position on, from bit 0 of the map, and then the end; unnamed is the kind of
+// a record that names none.
 fn read_fields(s: &[u8], at: usize, map: u8, unnamed: CurveInterpolation) -> RecordRead
     ensures { λ r. ⌜ HandedBack (result (readFields unnamed map (drop at (now (s .entry))))) r ⌝ }
 {

@@ -1,5 +1,7 @@
-// Replays a stored sample of the Rust original's answers: the questions are in the file stdin, and stdout holds what the original answered.
-// Both were written by the program `store` of bindings/rust from the original alone (cargo run --release --bin store), which says how they read.
+// Replays a stored sample of the Rust original's answers: the questions are in the file stdin, and
+// stdout holds what the original answered.
+// Both were written by the program `store` of bindings/rust from the original alone (cargo run
+// --release --bin store), which says how they read.
 ghost use Prim.Native.Nat.{_<_, _≤_};
 use points::Curve;
 use points::Point;
@@ -61,7 +63,8 @@ fn curve_of(line: &[u8; 271]) -> Curve {
     }
 }
 
-// A step of FNV-1a (Fowler, Noll and Vo): the byte is joined, then the product with 2⁴⁰ + 2⁸ + 2⁷ + 2⁵ + 2⁴ + 2 + 1 taken, modulo 2⁶⁴.
+// A step of FNV-1a (Fowler, Noll and Vo): the byte is joined, then the product with 2⁴⁰ + 2⁸ + 2⁷ +
+// 2⁵ + 2⁴ + 2 + 1 taken, modulo 2⁶⁴.
 fn joined(h: u64, byte: u64) -> u64 {
     let k = h ^ byte;
     let low = std::num::wrapping_add_u64(

@@ -1,5 +1,7 @@
-// Replays stored pictures of the Rust original: the questions are in the file stdin, and stdout holds what the original answered.
-// Both were written by the program `store` of bindings/rust from the original alone (cargo run --release --bin store), which says how they read.
+// Replays stored pictures of the Rust original: the questions are in the file stdin, and stdout
+// holds what the original answered.
+// Both were written by the program `store` of bindings/rust from the original alone (cargo run
+// --release --bin store), which says how they read.
 ghost use Prim.Native.Nat.{_<_, _≤_, _+_};
 ghost use lib.ListN.{length};
 use formats::format_of;

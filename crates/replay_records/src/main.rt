@@ -1,5 +1,7 @@
-// Holds the reader and the writer of records to a second reading of document 01, the model in tools/record_model.py.
-// The model wrote the files stdin, a list of good and damaged records, and stdout, what this program must print. It says how both read.
+// Holds the reader and the writer of records to a second reading of document 01, the model
+// in tools/record_model.py.
+// The model wrote the files stdin, a list of good and damaged records, and stdout, what this
+// program must print. It says how both read.
 use points::Curve;
 use sets::Channel;
 use sets::Curves;
@@ -13,7 +15,8 @@ fn front(bytes: &[u8], n: usize) -> &[u8] {
     bytes
 }
 
-// Puts a byte behind the first `at` bytes of a line and answers how many there are now. What finds no room is left out.
+// Puts a byte behind the first `at` bytes of a line and answers how many there are now. What
+// finds no room is left out.
 fn put(line: &mut [u8], at: usize, byte: u8) -> usize {
     if at < line.len() {
         line[at] = byte;
@@ -215,7 +218,8 @@ fn list() {
     }
 }
 
-// A step of FNV-1a of 32 bits (Fowler, Noll and Vo): the byte is joined, then the product taken modulo 2³².
+// A step of FNV-1a of 32 bits (Fowler, Noll and Vo): the byte is joined, then the
+// product taken modulo 2³².
 fn joined(h: u32, byte: u8) -> u32 {
     product(h ^ byte as u32)
 }
@@ -234,7 +238,8 @@ fn digest(h: u32, bytes: &[u8]) -> u32 {
     h
 }
 
-// How often a text begins with each byte, which is the digit of its answer, and the digest of the texts.
+// How often a text begins with each byte, which is the digit of its answer, and
+// the digest of the texts.
 struct Tally {
     counts: [u64; 256],
     digest: u32,

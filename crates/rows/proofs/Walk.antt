@@ -1,4 +1,5 @@
--- Turns of the loops: a pixel after others, a row of a plane, a row into tight rows, a block into its row; and which pixels a test has found.
+-- Turns of the loops: a pixel after others, a row of a plane, a row into tight rows, a block into
+-- its row; and which pixels a test has found.
 use mathlib.Core.Path.{_≡_, refl, sym, ap, _∙_}
 use mathlib.Core.List.{List, _++_, append-nil}
 use mathlib.Core.Logic.{⊎-elim}
@@ -9,26 +10,48 @@ use lib.ListN.{length, getD, drop}
 use lib.Seq.{drop-length}
 use Rattle.lists.specs.Each.{each, is-each, each-same}
 use Rattle.lists.specs.Tabulate.{filled}
-use Rattle.lists.specs.Replaced.{Replaced, replacing, replaced-none, replaced-then, replaced-as, replaced-kept, replaced-end, replaced-each}
+use Rattle.lists.specs.Replaced.{
+  Replaced,
+  replacing,
+  replaced-none,
+  replaced-then,
+  replaced-as,
+  replaced-kept,
+  replaced-end,
+  replaced-each,
+}
 use Rattle.lists.specs.Stored.{Stored, stored-none, stored-then, stored-end, stored-inside, stored-front}
 use Rattle.lists.specs.Part.{part, back, length-part, getD-part, stored-part-each, replaced-part}
 use Rattle.rows.specs.Bytes.{same, three, through, toned, rowByte, plainByte, pixelByte}
 use Rattle.rows.specs.Rows.{planeByte, tightByte, InPlace, Tight}
 use Rattle.rows.specs.Places.{mul-next, mul-bound, from-start}
-use Rattle.rows.specs.Laws.{toned-through, toned-kept, row-channel, row-plain, plane-row, plane-padding, beside-row, below-rows, no-columns, tight-row}
+use Rattle.rows.specs.Laws.{
+  toned-through,
+  toned-kept,
+  row-channel,
+  row-plain,
+  plane-row,
+  plane-padding,
+  beside-row,
+  below-rows,
+  no-columns,
+  tight-row,
+}
 
 -- channel j of the pixel that starts at i
 pub pixel-channel : (i j : ℕ) (tables : ℕ → List ℕ) (b : ℕ) → pixelByte i tables (i + j) b ≡ through (tables j) b
 unfolding pixelByte
 pixel-channel i j tables b = let channel : i + j - i ≡ j = omega arith in rw channel
 
-pub pixel-byte : {at : ℕ} {l m : List ℕ} (i j : ℕ) (tables : ℕ → List ℕ) → at ≡ i + j → Replaced 0 (plainByte (tables j)) at (at + 1) l m
+pub pixel-byte : {at : ℕ} {l m : List ℕ} (i j : ℕ) (tables : ℕ → List ℕ) → at ≡ i + j
+    → Replaced 0 (plainByte (tables j)) at (at + 1) l m
     → Replaced 0 (pixelByte i tables) at (at + 1) l m
 unfolding plainByte
 pixel-byte {at} i j tables e r =
     replaced-as r (λ w low high b. let place : w ≡ i + j = omega arith in rw place (sym (pixel-channel i j tables b)))
 
--- the first q channels of pixel x, which starts at i, went through their tables; the channel after them, if there is one, is kept
+-- the first q channels of pixel x, which starts at i, went through their tables; the channel after
+-- them, if there is one, is kept
 pub pixel-next : {q i : ℕ} {f : ℕ → ℕ → ℕ} {l m k : List ℕ} (p kept : ℕ) (tables : ℕ → List ℕ) (x : ℕ) → i ≡ x * p
     → Replaced 0 (rowByte p kept tables) 0 i l m → Replaced 0 f i (i + q) m k
     → q ≤ p → q ≤ kept → ((j : ℕ) → q ≤ j → j < p → j ≡ kept)
@@ -47,15 +70,18 @@ pixel-next {q} {i} {f} p kept tables x at r s few before last is =
 
 -- where `tone_pixel` did it: the pixel's three colours, and alpha if it has a fourth channel
 pub colours-next : {i : ℕ} {l m k : List ℕ} (p : ℕ) (tables : ℕ → List ℕ) (x : ℕ) → 3 ≤ p → p ≤ 4 → i ≡ x * p
-    → Replaced 0 (rowByte p 3 tables) 0 i l m → Replaced 0 (pixelByte i tables) i (i + 3) m k → Replaced 0 (rowByte p 3 tables) 0 (i + p) l k
+    → Replaced 0 (rowByte p 3 tables) 0 i l m → Replaced 0 (pixelByte i tables) i (i + 3) m k
+    → Replaced 0 (rowByte p 3 tables) 0 (i + p) l k
 colours-next {i} p tables x most few at r s =
     pixel-next p 3 tables x at r s most (omega arith) (λ j low high. omega arith) (λ j lt. pixel-channel i j tables)
 
 -- where no channel is kept and each has the table, every byte goes through it
-pub plain-row : (p kept : ℕ) (tables : ℕ → List ℕ) (table l : List ℕ) → 1 ≤ p → p ≤ kept → ((c : ℕ) → tables (c % p) ≡ table)
+pub plain-row : (p kept : ℕ) (tables : ℕ → List ℕ) (table l : List ℕ) → 1 ≤ p → p ≤ kept
+    → ((c : ℕ) → tables (c % p) ≡ table)
     → each (plainByte table) l ≡ each (rowByte p kept tables) l
 plain-row p kept tables table l some none e =
-    each-same 0 (plainByte table) (rowByte p kept tables) l (λ c lt. row-plain p kept tables table c (getD l c 0) some none (e c))
+    each-same 0 (plainByte table) (rowByte p kept tables) l
+    (λ c lt. row-plain p kept tables table c (getD l c 0) some none (e c))
 
 -- one table for all three colours
 three-same : (table : List ℕ) (channel : ℕ) → three table table table channel ≡ table
@@ -63,10 +89,12 @@ three-same table zero = refl
 three-same table (suc zero) = refl
 three-same table (suc (suc channel)) = refl
 
-pub one-table : (p kept : ℕ) (table l : List ℕ) → each (rowByte p kept (three table table table)) l ≡ each (rowByte p kept (same table)) l
+pub one-table : (p kept : ℕ) (table l : List ℕ)
+    → each (rowByte p kept (three table table table)) l ≡ each (rowByte p kept (same table)) l
 unfolding rowByte toned
 one-table p kept table l =
-    each-same 0 (rowByte p kept (three table table table)) (rowByte p kept (same table)) l (λ c lt. rw (three-same table (c % p)))
+    each-same 0 (rowByte p kept (three table table table)) (rowByte p kept (same table)) l
+    (λ c lt. rw (three-same table (c % p)))
 
 -- a copy as long as its original, of which each byte was then replaced
 copied : (l m : List ℕ) → length m ≡ length l → l ++ drop (length l) m ≡ l
@@ -100,28 +128,35 @@ module _ (row h step : ℕ) (g : ℕ → ℕ → ℕ) where
       replaced-end
       (replaced-kept (replaced-then r one) (omega arith) (λ k low high b.
       from-start (λ (i : ℕ). planeByte row h step g i b ≡ b) (y * step) k (omega arith)
-      (plane-padding row h step g (y * step + (k - y * step)) b (beside-row row h step y (k - y * step) (omega arith) (omega arith)))))
+      (plane-padding row h step g (y * step + (k - y * step)) b
+      (beside-row row h step y (k - y * step) (omega arith) (omega arith)))))
       (sym (mul-next y step))
 
-  pub plane-done : {l m : List ℕ} → 0 < step → Replaced 0 (planeByte row h step g) 0 (h * step) l m → m ≡ each (planeByte row h step g) l
+  pub plane-done : {l m : List ℕ} → 0 < step → Replaced 0 (planeByte row h step g) 0 (h * step) l m
+      → m ≡ each (planeByte row h step g) l
   plane-done {l} some r =
       let whole : Replaced 0 (planeByte row h step g) 0 (h * step + length l) l _ =
-      replaced-kept r (omega arith) (λ k low high b. plane-padding row h step g k b (below-rows row h step k some low)) in
+      replaced-kept r (omega arith)
+      (λ k low high b. plane-padding row h step g k b (below-rows row h step k some low)) in
       replaced-each whole (omega arith)
 
   pub plane-narrow : (l : List ℕ) → row ≡ 0 → l ≡ each (planeByte row h step g) l
   plane-narrow l none =
       let whole : Replaced 0 (planeByte row h step g) 0 (length l) l l =
-      replaced-kept replaced-none (omega arith) (λ k low high b. plane-padding row h step g k b (no-columns row h step k none)) in
+      replaced-kept replaced-none (omega arith)
+      (λ k low high b. plane-padding row h step g k b (no-columns row h step k none)) in
       replaced-each whole (omega arith)
 
 -- a row into tight rows after others
 pub tight-next : {l m n : List ℕ} (row step : ℕ) (g : ℕ → ℕ → ℕ) (plane : List ℕ) (y : ℕ)
     → y * step + row ≤ length plane → y * row + row ≤ length m → Stored (tightByte row step g plane) 0 (y * row) l m
-    → n ≡ each g (part (y * step) (y * step + row) plane) → Stored (tightByte row step g plane) 0 ((y + 1) * row) l (back (y * row) (y * row + row) m n)
+    → n ≡ each g (part (y * step) (y * step + row) plane)
+    → Stored (tightByte row step g plane) 0 ((y + 1) * row) l (back (y * row) (y * row + row) m n)
 tight-next {m = m} row step g plane y from to r is =
     let size = length-part (y * step) (y * step + row) plane from in
-    let one = stored-part-each (y * row) (y * row + row) m (part (y * step) (y * step + row) plane) 0 (tightByte row step g plane) g
+    let one =
+    stored-part-each (y * row) (y * row + row) m (part (y * step) (y * step + row) plane) 0
+    (tightByte row step g plane) g
     (omega arith) to (omega arith) is
     (λ c lt.
     ap (g c) (getD-part (y * step) (y * step + row) plane c 0 (omega arith))
@@ -130,7 +165,8 @@ tight-next {m = m} row step g plane y from to r is =
 
 -- n pixels into their row after x others
 pub block-next : {l m k : List ℕ} (p kept : ℕ) (tables : ℕ → List ℕ) (src : List ℕ) (x n : ℕ)
-    → x * p + n * p ≤ length src → x * p + n * p ≤ length m → Stored (replacing 0 (rowByte p kept tables) src) 0 (x * p) l m
+    → x * p + n * p ≤ length src → x * p + n * p ≤ length m
+    → Stored (replacing 0 (rowByte p kept tables) src) 0 (x * p) l m
     → k ≡ each (rowByte p kept tables) (part (x * p) (x * p + n * p) src)
     → Stored (replacing 0 (rowByte p kept tables) src) 0 ((x + n) * p) l (back (x * p) (x * p + n * p) m k)
 unfolding replacing rowByte
@@ -144,10 +180,12 @@ block-next {m = m} p kept tables src x n from to r is =
     ∙ rw (mul-add-mod-self-right x p c)) in
     stored-end (stored-then r one) (sym (add-mul x n p))
 
-pub block-done : {l m : List ℕ} {n : ℕ} (g : ℕ → ℕ → ℕ) (src : List ℕ) → Stored (replacing 0 g src) 0 n l m → length src ≤ n
+pub block-done : {l m : List ℕ} {n : ℕ} (g : ℕ → ℕ → ℕ) (src : List ℕ) → Stored (replacing 0 g src) 0 n l m
+    → length src ≤ n
     → length l ≡ length src → m ≡ each g src
 unfolding replacing
-block-done g src r all e = is-each 0 g src (r .same-length ∙ e) (λ k lt. stored-inside r k 0 (omega arith) (omega arith) (omega arith))
+block-done g src r all e =
+    is-each 0 g src (r .same-length ∙ e) (λ k lt. stored-inside r k 0 (omega arith) (omega arith) (omega arith))
 
 -- the rows of a plane that is not empty are at least a byte apart
 pub step-some : {w p step : ℕ} → (w ≡ 0 → ⊥) → 1 ≤ p → w * p ≤ step → 0 < step

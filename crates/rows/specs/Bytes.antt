@@ -1,5 +1,7 @@
--- What becomes of a byte by its place in a row, as document 01's section "Pictures" has it. Definitions only.
--- A row is pixels of p bytes, one after another. The bytes of a pixel are its channels, numbered from 0: red, green, blue, alpha; or grey, alpha.
+-- What becomes of a byte by its place in a row, as document 01's section "Pictures"
+-- has it. Definitions only.
+-- A row is pixels of p bytes, one after another. The bytes of a pixel are its channels, numbered
+-- from 0: red, green, blue, alpha; or grey, alpha.
 use Prim.Native.Nat.{ℕ, zero, suc, _-_, _%_}
 use mathlib.Core.Bool.{cond}
 use mathlib.Core.List.{List}
@@ -19,7 +21,8 @@ three red green blue (suc (suc channel)) = blue
 abbrev pub through : List ℕ → ℕ → ℕ
 through table x = getD table x 0
 
--- a byte x of a channel: in the kept one, alpha, it stays; in any other it goes through the channel's table.
+-- a byte x of a channel: in the kept one, alpha, it stays; in any other it goes
+-- through the channel's table.
 -- Where kept is p or more no channel is kept.
 unfoldable pub toned : ℕ → (ℕ → List ℕ) → ℕ → ℕ → ℕ
 toned kept tables channel x = cond (eqb channel kept) x (through (tables channel) x)

@@ -23,7 +23,8 @@ grey-alpha = refl
 
 -- colours, one pixel a row, into tight rows: the last byte of the destination stays
 pub colours :
-    filled 6 (tightByte 3 5 (rowByte 3 3 (three (more 10) (more 20) (more 30))) (1 ∷ 2 ∷ 3 ∷ 4 ∷ 5 ∷ 6 ∷ 7 ∷ 8 ∷ [])) (0 ∷ 0 ∷ 0 ∷ 0 ∷ 0 ∷ 0 ∷ 99 ∷ [])
+    filled 6 (tightByte 3 5 (rowByte 3 3 (three (more 10) (more 20) (more 30)))
+    (1 ∷ 2 ∷ 3 ∷ 4 ∷ 5 ∷ 6 ∷ 7 ∷ 8 ∷ [])) (0 ∷ 0 ∷ 0 ∷ 0 ∷ 0 ∷ 0 ∷ 99 ∷ [])
     ≡ 11 ∷ 22 ∷ 33 ∷ 16 ∷ 27 ∷ 38 ∷ 99 ∷ []
 unfolding filled tabulate tightByte rowByte toned
 colours = refl

@@ -1,4 +1,5 @@
--- What is at each place of a plane and of tight rows: for any function of a place and a byte, and for tables.
+-- What is at each place of a plane and of tight rows: for any function of a place
+-- and a byte, and for tables.
 -- Byte c of row y is at y × step + c in the plane, and at y × row + c in tight rows.
 use mathlib.Core.Path.{_≡_, sym, _∙_}
 use mathlib.Core.Bool.{false, and-false}
@@ -21,17 +22,20 @@ pub toned-through : (kept channel : ℕ) (tables : ℕ → List ℕ) (x : ℕ) �
 unfolding toned
 toned-through kept channel tables x other = rw (ne-eqb channel kept other)
 
-pub toned-kept : (kept channel : ℕ) (tables : ℕ → List ℕ) (x : ℕ) → channel ≡ kept → toned kept tables channel x ≡ x
+pub toned-kept : (kept channel : ℕ) (tables : ℕ → List ℕ) (x : ℕ) → channel ≡ kept
+    → toned kept tables channel x ≡ x
 unfolding toned
 toned-kept kept channel tables x e = rw (eq-eqb channel kept e)
 
 -- channel j of pixel x of a row
-pub row-channel : (p kept : ℕ) (tables : ℕ → List ℕ) (x j b : ℕ) → j < p → rowByte p kept tables (x * p + j) b ≡ toned kept tables j b
+pub row-channel : (p kept : ℕ) (tables : ℕ → List ℕ) (x j b : ℕ) → j < p
+    → rowByte p kept tables (x * p + j) b ≡ toned kept tables j b
 unfolding rowByte
 row-channel p kept tables x j b h = rw (place-in x p j h)
 
 -- a row of one table of which nothing is kept
-pub row-plain : (p kept : ℕ) (tables : ℕ → List ℕ) (table : List ℕ) (c b : ℕ) → 1 ≤ p → p ≤ kept → tables (c % p) ≡ table
+pub row-plain : (p kept : ℕ) (tables : ℕ → List ℕ) (table : List ℕ) (c b : ℕ) → 1 ≤ p → p ≤ kept
+    → tables (c % p) ≡ table
     → plainByte table c b ≡ rowByte p kept tables c b
 unfolding rowByte plainByte
 row-plain p kept tables table c b some none e =
@@ -39,7 +43,8 @@ row-plain p kept tables table c b some none e =
     rw (← e) (sym (toned-through kept (c % p) tables b (λ q. omega arith)))
 
 -- the rows of a checked plane lie in it
-pub rows-inside : {w h row step len : ℕ} (y : ℕ) → Rows w h row step len → (w ≡ 0 → ⊥) → y < h → y * step + row ≤ len
+pub rows-inside : {w h row step len : ℕ} (y : ℕ) → Rows w h row step len → (w ≡ 0 → ⊥) → y < h
+    → y * step + row ≤ len
 unfolding needed
 rows-inside {w} {h} {row} {step} y rows wide lt =
     let enough = rw (ne-eqb w 0 wide, ne-eqb h 0 (λ e. omega arith)) at (rows .enough) in
@@ -62,10 +67,16 @@ module _ (row h step : ℕ) where
 
 -- a byte of a row of a plane whose rows went through g, and a byte of padding
 module _ (row h step : ℕ) (g : ℕ → ℕ → ℕ) where
-  pub plane-row : (y c b : ℕ) → row ≤ step → y < h → c < row → planeByte row h step g (y * step + c) b ≡ g c b
+  pub plane-row : (y c b : ℕ) → row ≤ step → y < h → c < row
+      → planeByte row h step g (y * step + c) b ≡ g c b
   unfolding planeByte inRow
   plane-row y c b stepped below inside =
-      rw (place-row y step c (omega arith), place-in y step c (omega arith), lt-ltb y h below, lt-ltb c row inside)
+      rw (
+        place-row y step c (omega arith),
+        place-in y step c (omega arith),
+        lt-ltb y h below,
+        lt-ltb c row inside,
+      )
 
   pub plane-padding : (k b : ℕ) → inRow row h step k ≡ false → planeByte row h step g k b ≡ b
   unfolding planeByte
@@ -77,34 +88,45 @@ pub tight-row : (row step : ℕ) (g : ℕ → ℕ → ℕ) (plane : List ℕ) (y
 unfolding tightByte
 tight-row row step g plane y c h = rw (place-row y row c h, place-in y row c h)
 
--- What the toned list holds: channel j of the pixel at row y and column x, in the plane and in tight rows, and all else.
+-- What the toned list holds: channel j of the pixel at row y and column x, in the plane and in
+-- tight rows, and all else.
 module _ (w h step p kept : ℕ) (tables : ℕ → List ℕ) where
-  pub plane-pixel : (plane : List ℕ) (y x j : ℕ) → Rows w h (w * p) step (length plane) → y < h → x < w → j < p
-      → getD (each (planeByte (w * p) h step (rowByte p kept tables)) plane) (y * step + (x * p + j)) 0
+  pub plane-pixel : (plane : List ℕ) (y x j : ℕ) → Rows w h (w * p) step (length plane) → y < h
+      → x < w → j < p
+      → getD (each (planeByte (w * p) h step (rowByte p kept tables)) plane)
+      (y * step + (x * p + j)) 0
       ≡ toned kept tables j (getD plane (y * step + (x * p + j)) 0)
   plane-pixel plane y x j rows below left channel =
       let inside = rows-inside y rows (λ e. omega arith) below in
       let room = mul-room x w p left in
-      getD-each (planeByte (w * p) h step (rowByte p kept tables)) plane (y * step + (x * p + j)) 0 (omega arith)
-      ∙ plane-row (w * p) h step (rowByte p kept tables) y (x * p + j) (getD plane (y * step + (x * p + j)) 0) (rows .stepped) below (omega arith)
+      getD-each (planeByte (w * p) h step (rowByte p kept tables)) plane (y * step + (x * p + j)) 0
+      (omega arith)
+      ∙ plane-row (w * p) h step (rowByte p kept tables) y (x * p + j)
+      (getD plane (y * step + (x * p + j)) 0) (rows .stepped) below (omega arith)
       ∙ row-channel p kept tables x j (getD plane (y * step + (x * p + j)) 0) channel
 
   pub tight-pixel : (plane dst : List ℕ) (y x j : ℕ) → y < h → x < w → j < p
-      → getD (filled (h * (w * p)) (tightByte (w * p) step (rowByte p kept tables) plane) dst) (y * (w * p) + (x * p + j)) 0
+      → getD (filled (h * (w * p)) (tightByte (w * p) step (rowByte p kept tables) plane) dst)
+      (y * (w * p) + (x * p + j)) 0
       ≡ toned kept tables j (getD plane (y * step + (x * p + j)) 0)
   tight-pixel plane dst y x j below left channel =
       let room = mul-room x w p left in
       let rows = mul-room y h (w * p) below in
-      getD-filled (h * (w * p)) (tightByte (w * p) step (rowByte p kept tables) plane) dst (y * (w * p) + (x * p + j)) 0 (omega arith)
+      getD-filled (h * (w * p)) (tightByte (w * p) step (rowByte p kept tables) plane) dst
+      (y * (w * p) + (x * p + j)) 0 (omega arith)
       ∙ tight-row (w * p) step (rowByte p kept tables) plane y (x * p + j) (omega arith)
       ∙ row-channel p kept tables x j (getD plane (y * step + (x * p + j)) 0) channel
 
 -- padding is as it was; so are bytes after tight rows, by `getD-filled-rest`
-pub padding-stays : (row h step : ℕ) (g : ℕ → ℕ → ℕ) (plane : List ℕ) (k : ℕ) → inRow row h step k ≡ false
+pub padding-stays : (row h step : ℕ) (g : ℕ → ℕ → ℕ) (plane : List ℕ) (k : ℕ)
+    → inRow row h step k ≡ false
     → getD (each (planeByte row h step g) plane) k 0 ≡ getD plane k 0
 padding-stays row h step g plane k out = elim (decLt k (length plane)) [
-  | yes lt ↦ getD-each (planeByte row h step g) plane k 0 lt ∙ plane-padding row h step g k (getD plane k 0) out
+  | yes lt ↦
+      getD-each (planeByte row h step g) plane k 0 lt
+      ∙ plane-padding row h step g k (getD plane k 0) out
   | no past ↦
-      List·getD-eq-default (each (planeByte row h step g) plane) 0 (omega (arith, length-each (planeByte row h step g) plane))
+      List·getD-eq-default (each (planeByte row h step g) plane) 0
+      (omega (arith, length-each (planeByte row h step g) plane))
       ∙ sym (List·getD-eq-default plane 0 (omega arith))
 ]

@@ -1,7 +1,16 @@
--- Where a byte lies: index y × step + c is byte c of row y, and c = x × p + j is channel j of pixel x. Laws of whole numbers.
+-- Where a byte lies: index y × step + c is byte c of row y, and c = x × p + j is channel j of pixel
+-- x. Laws of whole numbers.
 use mathlib.Core.Path.{_≡_, ap, _∙_, subst}
 use Prim.Native.Nat.{ℕ, _+_, _-_, _*_, _/_, _%_, _≤_, _<_}
-use native.Mathlib.Nat.{add-zero, add-mul, suc-mul, le-antisymm, le-trans, mul-le-mul-right, mul-le-mul-left}
+use native.Mathlib.Nat.{
+  add-zero,
+  add-mul,
+  suc-mul,
+  le-antisymm,
+  le-trans,
+  mul-le-mul-right,
+  mul-le-mul-left,
+}
 use native.Mathlib.Nat.{mod-eq-of-lt, div-eq-of-lt, mul-add-div-right, mul-add-mod-self-right}
 use native.Mathlib.Numerals.{add-one, add-one-le}
 use native.Mathlib.Omega.{arith}

@@ -1,5 +1,7 @@
--- The rows of a plane and tight rows, as document 01's section "Pictures" has them. Definitions only.
--- "A plane is its bytes together with its row step. The row at y is the plane's part from y × step, of row bytes". In tight rows the step is row.
+-- The rows of a plane and tight rows, as document 01's section "Pictures"
+-- has them. Definitions only.
+-- "A plane is its bytes together with its row step. The row at y is the plane's part from y × step,
+-- of row bytes". In tight rows the step is row.
 -- g is any function of a byte's place in its row and of the byte.
 use Prim.Native.Nat.{ℕ, _+_, _-_, _*_, _/_, _%_, _≤_}
 use mathlib.Core.Path.{_≡_}
@@ -23,14 +25,16 @@ tightByte row step g plane k = g (k % row) (getD plane (k / row * step + k % row
 
 -- "Bytes needed: 0 if width or height is 0, else (height − 1) × step + row"
 unfoldable pub needed : ℕ → ℕ → ℕ → ℕ → ℕ
-needed width height row step = cond (eqb width 0) 0 (cond (eqb height 0) 0 ((height - 1) * step + row))
+needed width height row step =
+    cond (eqb width 0) 0 (cond (eqb height 0) 0 ((height - 1) * step + row))
 
 -- a plane of len bytes has its rows
 pub record Rows (width height row step len : ℕ) : Type 0 where
   pub stepped : row ≤ step
   pub enough : needed width height row step ≤ len
 
--- pixels that are toned in place: of any number of bytes where no channel is kept, or of 2 or 4 of which the last is kept
+-- pixels that are toned in place: of any number of bytes where no channel is kept, or of 2 or 4
+-- of which the last is kept
 abbrev pub InPlace : ℕ → ℕ → Type 0
 InPlace p kept = ((1 ≤ p) × (p ≤ kept)) ⊎ (((p ≡ 2) × (kept ≡ 1)) ⊎ ((p ≡ 4) × (kept ≡ 3)))
 

@@ -1,7 +1,8 @@
-// Rows of bytes through tables: within a plane, and out of a plane into tight rows. Nothing here knows a format: a row is w pixels of p bytes, of
-// which one channel may be kept. Only proved code calls this: what it requires, its callers have checked.
-// Loops that are to be fast name the place by one counter and what is left by another. LLVM then steps a pointer alone, and a store that
-// needs no index register takes two thirds of the time.
+// Rows of bytes through tables: within a plane, and out of a plane into tight rows. Nothing here
+// knows a format: a row is w pixels of p bytes, of which one channel may be kept. Only proved code
+// calls this: what it requires, its callers have checked.
+// Loops that are to be fast name the place by one counter and what is left by another. LLVM then
+// steps a pointer alone, and a store that needs no index register takes two thirds of the time.
 ghost use mathlib.Core.Path.{_≡_};
 ghost use Prim.Native.Nat.{_+_, _-_, _*_, _%_, _≤_, _<_, min};
 ghost use mathlib.Core.List.{_++_};
@@ -22,7 +23,8 @@ fn look(table: &[u8; 256], x: u8) -> u8
 // Tones the byte at i.
 fn tone_one(s: &mut [u8], i: usize, table: &[u8; 256])
     requires { ⌜ i < length (now s) ⌝ }
-    ensures { λ _. ⌜ Replaced 0 (plainByte (now (table .entry))) i (i + 1) (now (s .entry)) (now (s .exit)) ⌝ }
+    ensures { λ _. ⌜
+        Replaced 0 (plainByte (now (table .entry))) i (i + 1) (now (s .entry)) (now (s .exit)) ⌝ }
 {
     s[i] = look(table, s[i]);
 }
@@ -30,7 +32,8 @@ fn tone_one(s: &mut [u8], i: usize, table: &[u8; 256])
 // Tones the two bytes from i on.
 fn tone_two(s: &mut [u8], i: usize, table: &[u8; 256])
     requires { ⌜ i + 2 ≤ length (now s) ⌝ }
-    ensures { λ _. ⌜ Replaced 0 (plainByte (now (table .entry))) i (i + 2) (now (s .entry)) (now (s .exit)) ⌝ }
+    ensures { λ _. ⌜
+        Replaced 0 (plainByte (now (table .entry))) i (i + 2) (now (s .entry)) (now (s .exit)) ⌝ }
 {
     tone_one(s, i, table);
     tone_one(s, i + 1, table);
@@ -39,7 +42,8 @@ fn tone_two(s: &mut [u8], i: usize, table: &[u8; 256])
 // Tones the four bytes from i on.
 fn tone_four(s: &mut [u8], i: usize, table: &[u8; 256])
     requires { ⌜ i + 4 ≤ length (now s) ⌝ }
-    ensures { λ _. ⌜ Replaced 0 (plainByte (now (table .entry))) i (i + 4) (now (s .entry)) (now (s .exit)) ⌝ }
+    ensures { λ _. ⌜
+        Replaced 0 (plainByte (now (table .entry))) i (i + 4) (now (s .entry)) (now (s .exit)) ⌝ }
 {
     tone_two(s, i, table);
     tone_two(s, i + 2, table);
@@ -48,7 +52,8 @@ fn tone_four(s: &mut [u8], i: usize, table: &[u8; 256])
 // Tones the eight bytes from i on.
 fn tone_eight(s: &mut [u8], i: usize, table: &[u8; 256])
     requires { ⌜ i + 8 ≤ length (now s) ⌝ }
-    ensures { λ _. ⌜ Replaced 0 (plainByte (now (table .entry))) i (i + 8) (now (s .entry)) (now (s .exit)) ⌝ }
+    ensures { λ _. ⌜
+        Replaced 0 (plainByte (now (table .entry))) i (i + 8) (now (s .entry)) (now (s .exit)) ⌝ }
 {
     tone_four(s, i, table);
     tone_four(s, i + 4, table);
@@ -56,7 +61,10 @@ fn tone_eight(s: &mut [u8], i: usize, table: &[u8; 256])
 
 // Tones as many whole eights as there are.
 fn tone_eights(s: &mut [u8], table: &[u8; 256])
-    ensures { λ _. ⌜ Replaced 0 (plainByte (now (table .entry))) 0 (length (now (s .entry)) - length (now (s .entry)) % 8) (now (s .entry)) (now (s .exit)) ⌝ }
+    ensures { λ _. ⌜
+        Replaced 0 (plainByte (now (table .entry))) 0
+        (length (now (s .entry)) - length (now (s .entry)) % 8) (now (s .entry)) (now (s .exit))
+        ⌝ }
 {
     let mut i = 0;
     let mut left = s.len();
@@ -83,7 +91,8 @@ fn tone_bytes(s: &mut [u8], table: &[u8; 256])
 // Tones the first of every two bytes; the second, alpha, stays.
 fn tone_grey_alpha(s: &mut [u8], w: usize, table: &[u8; 256])
     requires { ⌜ length (now s) ≡ w * 2 ⌝ }
-    ensures { λ _. ⌜ now (s .exit) ≡ each (rowByte 2 1 (same (now (table .entry)))) (now (s .entry)) ⌝ }
+    ensures { λ _. ⌜
+        now (s .exit) ≡ each (rowByte 2 1 (same (now (table .entry)))) (now (s .entry)) ⌝ }
 {
     let mut x = 0;
     while x < w {
@@ -95,7 +104,9 @@ fn tone_grey_alpha(s: &mut [u8], w: usize, table: &[u8; 256])
 // Tones the three colours of the pixel that starts at i.
 fn tone_pixel(s: &mut [u8], i: usize, red: &[u8; 256], green: &[u8; 256], blue: &[u8; 256])
     requires { ⌜ i + 3 ≤ length (now s) ⌝ }
-    ensures { λ _. ⌜ Replaced 0 (pixelByte i (three (now (red .entry)) (now (green .entry)) (now (blue .entry)))) i (i + 3) (now (s .entry)) (now (s .exit)) ⌝ }
+    ensures { λ _. ⌜
+        Replaced 0 (pixelByte i (three (now (red .entry)) (now (green .entry)) (now (blue .entry))))
+        i (i + 3) (now (s .entry)) (now (s .exit)) ⌝ }
 {
     tone_one(s, i, red);
     tone_one(s, i + 1, green);
@@ -105,7 +116,10 @@ fn tone_pixel(s: &mut [u8], i: usize, red: &[u8; 256], green: &[u8; 256], blue: 
 // Tones pixels of three colours.
 fn tone_colours(s: &mut [u8], w: usize, red: &[u8; 256], green: &[u8; 256], blue: &[u8; 256])
     requires { ⌜ length (now s) ≡ w * 3 ⌝ }
-    ensures { λ _. ⌜ now (s .exit) ≡ each (rowByte 3 3 (three (now (red .entry)) (now (green .entry)) (now (blue .entry)))) (now (s .entry)) ⌝ }
+    ensures { λ _. ⌜
+        now (s .exit)
+        ≡ each (rowByte 3 3 (three (now (red .entry)) (now (green .entry)) (now (blue .entry))))
+        (now (s .entry)) ⌝ }
 {
     let mut x = 0;
     while x < w {
@@ -117,7 +131,9 @@ fn tone_colours(s: &mut [u8], w: usize, red: &[u8; 256], green: &[u8; 256], blue
 // Tones as many pairs of pixels as there are, of three colours and alpha.
 fn tone_pairs(s: &mut [u8], w: usize, red: &[u8; 256], green: &[u8; 256], blue: &[u8; 256])
     requires { ⌜ length (now s) ≡ w * 4 ⌝ }
-    ensures { λ _. ⌜ Replaced 0 (rowByte 4 3 (three (now (red .entry)) (now (green .entry)) (now (blue .entry)))) 0 ((w - w % 2) * 4) (now (s .entry)) (now (s .exit)) ⌝ }
+    ensures { λ _. ⌜
+        Replaced 0 (rowByte 4 3 (three (now (red .entry)) (now (green .entry)) (now (blue .entry))))
+        0 ((w - w % 2) * 4) (now (s .entry)) (now (s .exit)) ⌝ }
 {
     let mut i = 0;
     let mut left = w;
@@ -132,7 +148,10 @@ fn tone_pairs(s: &mut [u8], w: usize, red: &[u8; 256], green: &[u8; 256], blue: 
 // Tones pixels of three colours and alpha, which stays.
 fn tone_colours_alpha(s: &mut [u8], w: usize, red: &[u8; 256], green: &[u8; 256], blue: &[u8; 256])
     requires { ⌜ length (now s) ≡ w * 4 ⌝ }
-    ensures { λ _. ⌜ now (s .exit) ≡ each (rowByte 4 3 (three (now (red .entry)) (now (green .entry)) (now (blue .entry)))) (now (s .entry)) ⌝ }
+    ensures { λ _. ⌜
+        now (s .exit)
+        ≡ each (rowByte 4 3 (three (now (red .entry)) (now (green .entry)) (now (blue .entry))))
+        (now (s .entry)) ⌝ }
 {
     tone_pairs(s, w, red, green, blue);
     if w % 2 == 1 {
@@ -143,7 +162,8 @@ fn tone_colours_alpha(s: &mut [u8], w: usize, red: &[u8; 256], green: &[u8; 256]
 // Tones a row in place by one table, but for its kept channel.
 fn tone_row(s: &mut [u8], w: usize, p: usize, kept: usize, table: &[u8; 256])
     requires { ⌜ InPlace p kept × (length (now s) ≡ w * p) ⌝ }
-    ensures { λ _. ⌜ now (s .exit) ≡ each (rowByte p kept (same (now (table .entry)))) (now (s .entry)) ⌝ }
+    ensures { λ _. ⌜
+        now (s .exit) ≡ each (rowByte p kept (same (now (table .entry)))) (now (s .entry)) ⌝ }
 {
     if p <= kept {
         tone_bytes(s, table);
@@ -167,7 +187,10 @@ pub fn tone_rows(
     table: &[u8; 256],
 )
     requires { ⌜ InPlace p kept × Rows w h (w * p) step (length (now plane)) ⌝ }
-    ensures { λ _. ⌜ now (plane .exit) ≡ each (planeByte (w * p) h step (rowByte p kept (same (now (table .entry))))) (now (plane .entry)) ⌝ }
+    ensures { λ _. ⌜
+        now (plane .exit)
+        ≡ each (planeByte (w * p) h step (rowByte p kept (same (now (table .entry)))))
+        (now (plane .entry)) ⌝ }
 {
     if w == 0 {
         return;
@@ -185,7 +208,9 @@ pub fn tone_rows(
 // Copies src to the front of dst.
 pub fn copy_bytes(src: &[u8], dst: &mut [u8])
     requires { ⌜ length (now src) ≤ length (now dst) ⌝ }
-    ensures { λ _. ⌜ now (dst .exit) ≡ now (src .entry) ++ drop (length (now (src .entry))) (now (dst .entry)) ⌝ }
+    ensures { λ _. ⌜
+        now (dst .exit) ≡ now (src .entry) ++ drop (length (now (src .entry))) (now (dst .entry))
+        ⌝ }
 {
     let n = src.len();
     let mut i = 0;
@@ -223,7 +248,8 @@ fn tone_block_into(
     }
 }
 
-// How many of the n pixels left make the next block: few enough that a copied block is still at hand when it is toned.
+// How many of the n pixels left make the next block: few enough that a copied block is still
+// at hand when it is toned.
 fn block_size(n: usize) -> usize
     ensures { λ r. ⌜ r ≡ min n 128 ⌝ }
 {
@@ -256,7 +282,8 @@ fn tone_row_into(
     }
 }
 
-// Tones each row of a plane into tight rows at the front of dst, by colour, or by the red table where a pixel is one byte.
+// Tones each row of a plane into tight rows at the front of dst, by colour, or by the red table
+// where a pixel is one byte.
 pub fn tone_rows_into(
     plane: &[u8],
     step: usize,
@@ -268,11 +295,13 @@ pub fn tone_rows_into(
     blue: &[u8; 256],
     dst: &mut [u8],
 )
-    requires { ⌜ Tight p × Rows w h (w * p) step (length (now plane)) × (h * (w * p) ≤ length (now dst)) ⌝ }
+    requires { ⌜
+        Tight p × Rows w h (w * p) step (length (now plane)) × (h * (w * p) ≤ length (now dst)) ⌝ }
     ensures { λ _. ⌜ now (dst .exit)
         ≡ filled (h * (w * p))
         (tightByte (w * p) step
-        (rowByte p (tightAlpha p) (three (now (red .entry)) (now (green .entry)) (now (blue .entry))))
+        (rowByte p (tightAlpha p)
+        (three (now (red .entry)) (now (green .entry)) (now (blue .entry))))
         (now (plane .entry)))
         (now (dst .entry)) ⌝ }
 {

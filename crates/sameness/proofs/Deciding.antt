@@ -1,4 +1,5 @@
--- Answers that go with a proposition: of numbers, of two propositions together, and of one that another comes to.
+-- Answers that go with a proposition: of numbers, of two propositions together, and of
+-- one that another comes to.
 use Prim.Native.Nat.{ℕ}
 use mathlib.Core.Path.{_≡_, refl, sym, ap, _∙_}
 use mathlib.Core.Bool.{Bool, true, false, _&&_, not, false≢true}

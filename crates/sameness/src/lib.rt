@@ -1,4 +1,5 @@
-// Whether two sets of curves are the same. `same` answers for any two sets, whatever their lists claim.
+// Whether two sets of curves are the same. `same` answers for any two sets,
+// whatever their lists claim.
 ghost use mathlib.Core.Path.{_≡_};
 ghost use Prim.Native.Nat.{_≤_};
 ghost use lib.ListN.{take};

@@ -1,4 +1,5 @@
--- The way of `fill` through the samples: the search for a segment from another one on, the state from block to block, and sample by sample.
+-- The way of `fill` through the samples: the search for a segment from another one on, the state
+-- from block to block, and sample by sample.
 use mathlib.Core.Path.{_≡_, sym, _∙_}
 use mathlib.Core.Bool.{true, false, true≢false}
 use mathlib.Core.List.{List}
@@ -70,7 +71,13 @@ module _ (form : Form) (xs ys ms : List Float) (n S : ℕ) where
 
   pub start : {l : List Float} → length l ≡ S → 2 ≤ n → State form xs ys ms n S (record { v = 0; i = 0 }) l
   unfolding segment
-  start long h = record { long = long; room = omega arith; done = λ w low high. absurd (omega arith); ahead = λ w low high. simp sub-zero }
+  start long h =
+      record {
+        long = long;
+        room = omega arith;
+        done = λ w low high. absurd (omega arith);
+        ahead = λ w low high. simp sub-zero;
+      }
 
   -- a sample that lies in the segment i is that of its piece
   here : {i : ℕ} (w : ℕ) → segment xs n (position w) ≡ i
@@ -86,7 +93,8 @@ module _ (form : Form) (xs ys ms : List Float) (n S : ℕ) where
     done-to r far inside w low high = elim (decLt w (p .v)) [
       | yes before ↦ stored-below block w nan before ∙ state .done w before high
       | no after ↦
-          stored-inside block w nan (omega arith) (omega arith) (omega (arith, state .long)) ∙ here w (inside w (omega arith) low high)
+          stored-inside block w nan (omega arith) (omega arith) (omega (arith, state .long))
+          ∙ here w (inside w (omega arith) low high)
     ]
 
     -- four samples on, where the piece has them
@@ -100,19 +108,23 @@ module _ (form : Form) (xs ys ms : List Float) (n S : ℕ) where
     }
 
     -- to the end e of the piece and on to the next, where the block reaches so far
-    next-on : (e : ℕ) → e ≤ p .v + 4 → p .i + 2 < n → ((w : ℕ) → p .v ≤ w → w < e → w < S → segment xs n (position w) ≡ p .i)
+    next-on : (e : ℕ) → e ≤ p .v + 4 → p .i + 2 < n
+        → ((w : ℕ) → p .v ≤ w → w < e → w < S → segment xs n (position w) ≡ p .i)
         → ((w : ℕ) → e ≤ w → w < S → lt (at xs (p .i + 1)) (position w) ≡ true)
         → State form xs ys ms n S (record { v = max (p .v) e; i = p .i + 1 }) m
     next-on e far inner inside past = record {
       long = block .same-length ∙ state .long;
       room = omega arith;
       done = done-to (max (p .v) e) (omega arith) (λ w low high lt. inside w low (omega arith) lt);
-      ahead = λ w low high. state .ahead w (omega arith) high ∙ seek-on xs n (p .i) (position w) (past w (omega arith) high) inner;
+      ahead = λ w low high. state .ahead w (omega arith) high
+          ∙ seek-on xs n (p .i) (position w) (past w (omega arith) high) inner;
     }
 
   -- after a block
-  after : {p : Cursor} {ends : List ℕ} {l m : List Float} → Ends xs n ends (step S) S → p .v + 4 ≤ S → State form xs ys ms n S p l
-      → Stored (pieceSample form (pieceAt xs ys ms (p .i)) (step S)) (p .v) (p .v + 4) l m → State form xs ys ms n S (nextCursor ends p) m
+  after : {p : Cursor} {ends : List ℕ} {l m : List Float} → Ends xs n ends (step S) S → p .v + 4 ≤ S
+      → State form xs ys ms n S p l
+      → Stored (pieceSample form (pieceAt xs ys ms (p .i)) (step S)) (p .v) (p .v + 4) l m
+      → State form xs ys ms n S (nextCursor ends p) m
   unfolding nextCursor
   after {p} given room state block = elim (decLt (p .i + 2) n) [
     | yes inner ↦
@@ -122,12 +134,16 @@ module _ (form : Form) (xs ys ms : List Float) (n S : ℕ) where
         let inside : (w : ℕ) → p .v ≤ w → w < e → w < S → segment xs n (position w) ≡ p .i =
         λ w low high lt. state .ahead w low lt
         ∙ seek-stays xs n (p .i) (position w)
-        (inside-earlier S (given .some) (given .held) x w (e - 1) (omega arith) (omega (arith, end-most xs (step S) (p .i))) (end-inside x (step S) e is-end))
+        (inside-earlier S (given .some) (given .held) x w (e - 1) (omega arith)
+        (omega (arith, end-most xs (step S) (p .i))) (end-inside x (step S) e is-end))
         inner in
         let past : (w : ℕ) → e ≤ w → w < S → lt x (position w) ≡ true =
-        λ w low high. past-later S (given .some) (given .held) x e w low (omega (arith, given .held)) (end-past x (step S) e is-end) in
+        λ w low high.
+        past-later S (given .some) (given .held) x e w low (omega (arith, given .held))
+        (end-past x (step S) e is-end) in
         rw (end-inner given (p .i) inner) (elim (decLt (p .v + 4) e) [
-          | yes more ↦ rw (lt-ltb (p .v + 4) e more) (four-on state block (λ w low high lt. inside w low (omega arith) lt))
+          | yes more ↦
+              rw (lt-ltb (p .v + 4) e more) (four-on state block (λ w low high lt. inside w low (omega arith) lt))
           | no enough ↦ rw (le-ltb (p .v + 4) e (omega arith)) (next-on state block e (omega arith) inner inside past)
         ])
     | no last ↦
@@ -135,12 +151,16 @@ module _ (form : Form) (xs ys ms : List Float) (n S : ℕ) where
           end-last given (p .i) (omega arith) (omega (arith, given .most, state .room)),
           lt-ltb (p .v + 4) 8192 (omega (arith, given .held)),
         )
-        (four-on state block (λ w low high lt. state .ahead w low lt ∙ seek-last xs n (p .i) (position w) (omega arith)))
+        (four-on state block
+        (λ w low high lt. state .ahead w low lt ∙ seek-last xs n (p .i) (position w) (omega arith)))
   ]
 
-  pub after-block : {p q : Cursor} {ends : List ℕ} {s : Float} {l m : List Float} → Ends xs n ends s S → p .v + 4 ≤ S → q ≡ nextCursor ends p
-      → State form xs ys ms n S p l → Stored (pieceSample form (pieceAt xs ys ms (p .i)) s) (p .v) (p .v + 4) l m → State form xs ys ms n S q m
-  after-block given room q-is state block = rw q-is (after (rw (given .step-is) at given) room state (rw (given .step-is) at block))
+  pub after-block : {p q : Cursor} {ends : List ℕ} {s : Float} {l m : List Float} → Ends xs n ends s S → p .v + 4 ≤ S
+      → q ≡ nextCursor ends p
+      → State form xs ys ms n S p l → Stored (pieceSample form (pieceAt xs ys ms (p .i)) s) (p .v) (p .v + 4) l m
+      → State form xs ys ms n S q m
+  after-block given room q-is state block =
+      rw q-is (after (rw (given .step-is) at given) room state (rw (given .step-is) at block))
 
   -- ---- one by one: the samples before v are the curve's
   pub record Done (v : ℕ) (samples : List Float) : Type 0 where
@@ -150,7 +170,8 @@ module _ (form : Form) (xs ys ms : List Float) (n S : ℕ) where
   pub done-start : {p : Cursor} {l : List Float} → State form xs ys ms n S p l → Done (p .v) l
   done-start state = record { long = state .long; done = state .done }
 
-  pub done-next : {v : ℕ} {l : List Float} {y : Float} → Done v l → v < S → y ≡ sampled (heightAt form xs ys ms n) S v → Done (v + 1) (set l v y)
+  pub done-next : {v : ℕ} {l : List Float} {y : Float} → Done v l → v < S → y ≡ sampled (heightAt form xs ys ms n) S v
+      → Done (v + 1) (set l v y)
   done-next {v} {l} {y} d h e = record {
     long = length-set l v y ∙ d .long;
     done = λ w low high. elim (decLt w v) [
@@ -163,8 +184,10 @@ module _ (form : Form) (xs ys ms : List Float) (n S : ℕ) where
   done-all d h = is-tabulate nan (d .long) (λ w lt. d .done w (omega arith) lt)
 
   -- sample v by its segment, sought from that of the cursor
-  pub one-sample : {p : Cursor} {l : List Float} {v i : ℕ} {s x h y : Float} {piece : Piece} → State form xs ys ms n S p l → p .v ≤ v → v < S → s ≡ step S
-      → x ≡ sampleAt s v → i ≡ seek xs x (n - 2 - p .i) (p .i) → piece ≡ pieceAt xs ys ms i → h ≡ pieceHeight form piece x → y ≡ clamped h
+  pub one-sample : {p : Cursor} {l : List Float} {v i : ℕ} {s x h y : Float} {piece : Piece}
+      → State form xs ys ms n S p l → p .v ≤ v → v < S → s ≡ step S
+      → x ≡ sampleAt s v → i ≡ seek xs x (n - 2 - p .i) (p .i) → piece ≡ pieceAt xs ys ms i
+      → h ≡ pieceHeight form piece x → y ≡ clamped h
       → y ≡ sampled (heightAt form xs ys ms n) S v
   unfolding sampled heightAt
   one-sample {v = v} state low high step-is x-is i-is piece-is h-is y-is =

@@ -1,4 +1,5 @@
--- The pieces of a curve whose knots are in rows, and its samples, as document 01's section "Kinds and tables" has them. Definitions only.
+-- The pieces of a curve whose knots are in rows, and its samples, as document 01's section "Kinds
+-- and tables" has them. Definitions only.
 use Prim.Native.Nat.{ℕ, _+_}
 use mathlib.Core.List.{List}
 use lib.Ieee.{Float}
@@ -15,12 +16,14 @@ use Rattle.sampling.specs.declared.Piece.{Piece}
 -- the piece i of the curve with the knots in xs and ys and the values at them, tangents or second
 -- derivatives, in ms
 abbrev pub pieceAt : List Float → List Float → List Float → ℕ → Piece
-pieceAt xs ys ms i = record { a = knotAt xs ys i; b = knotAt xs ys (i + 1); p = at ms i; q = at ms (i + 1) }
+pieceAt xs ys ms i =
+    record { a = knotAt xs ys i; b = knotAt xs ys (i + 1); p = at ms i; q = at ms (i + 1) }
 
 -- the height of a piece at x, unclamped
 unfoldable pub pieceHeight : Form → Piece → Float → Float
 pieceHeight Straight piece x = straight (piece .a) (piece .b) (part (piece .a) (piece .b) x)
-pieceHeight Cubic piece x = hermite (piece .a) (piece .b) (piece .p) (piece .q) (part (piece .a) (piece .b) x)
+pieceHeight Cubic piece x =
+    hermite (piece .a) (piece .b) (piece .p) (piece .q) (part (piece .a) (piece .b) x)
 pieceHeight Spline piece x = splinePiece (piece .a) (piece .b) (piece .p) (piece .q) x
 
 -- the height of the curve with n knots at x, unclamped: that of the piece in whose segment x lies

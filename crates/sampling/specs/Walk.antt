@@ -1,4 +1,5 @@
--- How the code goes through the samples of a curve: where the pieces end, blocks of four samples, and what holds on the way. Definitions only.
+-- How the code goes through the samples of a curve: where the pieces end, blocks of four samples,
+-- and what holds on the way. Definitions only.
 use Prim.Native.Nat.{ℕ, _+_, _-_, _≤_, _<_, max}
 use mathlib.Core.Path.{_≡_}
 use mathlib.Core.Bool.{Bool, true, false, cond, not, _&&_}
@@ -35,8 +36,10 @@ pub record Right (xs : List Float) (n : ℕ) (s : Float) : Type 0 where
   pub wide : (i : ℕ) → i + 1 < n → tooThin (at xs i) (at xs (i + 1)) ≡ false
   pub end : (i : ℕ) → i + 2 < n → isEnd (at xs (i + 1)) s (endAt xs s i) ≡ true
 
--- what a guess at the ends of the pieces between n knots leaves in a row, and what its answer r tells
-pub record Guessed (xs : List Float) (n : ℕ) (s : Float) (r : Bool) (old new : List ℕ) : Type 0 where
+-- what a guess at the ends of the pieces between n knots leaves in a row,
+-- and what its answer r tells
+pub record Guessed (xs : List Float) (n : ℕ) (s : Float) (r : Bool) (old new : List ℕ) :
+    Type 0 where
   pub row : Stored (endAt xs s) 0 (n - 2) old new
   pub right : r ≡ true → Right xs n s
 
@@ -55,7 +58,8 @@ pub record Ends (xs : List Float) (n : ℕ) (ends : List ℕ) (s : Float) (S : �
 unfoldable pub nextCursor : List ℕ → Cursor → Cursor
 nextCursor ends p =
     let e = getD ends (p .i) 0 in
-    cond (ltb (p .v + 4) e) (record { v = p .v + 4; i = p .i }) (record { v = max (p .v) e; i = p .i + 1 })
+    cond (ltb (p .v + 4) e) (record { v = p .v + 4; i = p .i })
+    (record { v = max (p .v) e; i = p .i + 1 })
 
 -- the parts of a piece left of the four samples from v on
 unfoldable pub partFrom : Piece → Float → ℕ → ℕ → Float
@@ -77,10 +81,12 @@ cubicSample piece t = clamped (hermite (piece .a) (piece .b) (piece .p) (piece .
 
 -- the coefficients of the spline's piece i
 unfoldable pub firstCoefficientAt : List Float → List Float → List Float → ℕ → Float
-firstCoefficientAt xs ys ms i = firstCoefficient (knotAt xs ys i) (knotAt xs ys (i + 1)) (at ms i) (at ms (i + 1))
+firstCoefficientAt xs ys ms i =
+    firstCoefficient (knotAt xs ys i) (knotAt xs ys (i + 1)) (at ms i) (at ms (i + 1))
 
 unfoldable pub thirdCoefficientAt : List Float → List Float → List Float → ℕ → Float
-thirdCoefficientAt xs ys ms i = thirdCoefficient (knotAt xs ys i) (knotAt xs ys (i + 1)) (at ms i) (at ms (i + 1))
+thirdCoefficientAt xs ys ms i =
+    thirdCoefficient (knotAt xs ys i) (knotAt xs ys (i + 1)) (at ms i) (at ms (i + 1))
 
 -- sample v, s being the step, of the piece from the knot a on with these coefficients
 unfoldable pub splineSample : Knot → Float → Float → Float → Float → ℕ → Float
@@ -91,9 +97,13 @@ splineSample a c1 c2 c3 s v = clamped (polynomialFrom a c1 c2 c3 (sampleAt s v))
 unfoldable pub pieceSample : Form → Piece → Float → ℕ → Float
 pieceSample form piece s v = clamped (pieceHeight form piece (sampleAt s v))
 
--- with the cursor p among S samples: those before it are the curve's, and no later one lies left of its piece
-pub record State (form : Form) (xs ys ms : List Float) (n S : ℕ) (p : Cursor) (samples : List Float) : Type 0 where
+-- with the cursor p among S samples: those before it are the curve's, and no later
+-- one lies left of its piece
+pub record State (form : Form) (xs ys ms : List Float) (n S : ℕ) (p : Cursor)
+    (samples : List Float) : Type 0 where
   pub long : length samples ≡ S
   pub room : p .i + 1 < n
-  pub done : (w : ℕ) → w < p .v → w < S → getD samples w nan ≡ sampled (heightAt form xs ys ms n) S w
-  pub ahead : (w : ℕ) → p .v ≤ w → w < S → segment xs n (sampleAt (step S) w) ≡ seek xs (sampleAt (step S) w) (n - 2 - p .i) (p .i)
+  pub done : (w : ℕ) → w < p .v → w < S
+      → getD samples w nan ≡ sampled (heightAt form xs ys ms n) S w
+  pub ahead : (w : ℕ) → p .v ≤ w → w < S
+      → segment xs n (sampleAt (step S) w) ≡ seek xs (sampleAt (step S) w) (n - 2 - p .i) (p .i)

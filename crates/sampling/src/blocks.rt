@@ -31,7 +31,8 @@ fn later(v: usize, w: usize) -> usize
     if v < w { w } else { v }
 }
 
-// The cursor after a block: four samples on, or where the piece ends before that, its end and the next piece.
+// The cursor after a block: four samples on, or where the piece ends before that,
+// its end and the next piece.
 pub fn next(ends: &[u32; 66], p: Cursor) -> Cursor
     requires { ⌜ (p .v ≤ 4096) × (p .i < 65) ⌝ }
     ensures { λ r. ⌜ r ≡ nextCursor (now (ends .entry)) p ⌝ }
@@ -58,8 +59,12 @@ fn part(piece: Piece, x: f32) -> f32
 
 // The parts of the piece at p left of the four samples there.
 pub fn parts(xs: &[f32; 66], ys: &[f32; 66], ms: &[f32; 66], step: f32, p: Cursor) -> [f32; 4]
-    requires { ⌜ (tooThin (at (now xs) (p .i)) (at (now xs) (p .i + 1)) ≡ false) × (p .v ≤ 4096) × (p .i < 65) ⌝ }
-    ensures { λ r. ⌜ r ≡ partsOf (pieceAt (now (xs .entry)) (now (ys .entry)) (now (ms .entry)) (p .i)) step (p .v) ⌝ }
+    requires { ⌜
+        (tooThin (at (now xs) (p .i)) (at (now xs) (p .i + 1)) ≡ false) × (p .v ≤ 4096)
+        × (p .i < 65) ⌝ }
+    ensures { λ r. ⌜
+        r ≡ partsOf (pieceAt (now (xs .entry)) (now (ys .entry)) (now (ms .entry)) (p .i)) step
+        (p .v) ⌝ }
 {
     let piece = piece_at(xs, ys, ms, p.i);
     let v = p.v;

@@ -13,8 +13,9 @@ fn is_end(x: f32, step: f32, e: usize) -> bool
     (x < position(step, e)) & !(x < position(step, e - 1))
 }
 
-// The ends of the pieces between n knots but the last, to the front of a row: whether all are right and no segment is too thin. Each end is guessed by a
-// quotient and then looked at, so that nothing need be known of quotients.
+// The ends of the pieces between n knots but the last, to the front of a row: whether all are right
+// and no segment is too thin. Each end is guessed by a quotient and then looked at, so that nothing
+// need be known of quotients.
 pub fn guess(xs: &[f32; 66], n: usize, step: f32, ends: &mut [u32; 66]) -> bool
     requires { ⌜ (2 ≤ n) × (n ≤ 66) ⌝ }
     ensures { λ r. ⌜ W.Guessed (now (xs .entry)) n step r (now (ends .entry)) (now (ends .exit)) ⌝ }

@@ -1,6 +1,8 @@
-// The samples of a curve whose knots are in rows, in blocks of four. A block lies on one piece, and where the piece ends within it, the next piece's first
-// block goes over what is too much: so a short piece takes one block, and the loop has no branch for the processor to guess wrong. Where each piece ends is
-// found beforehand. Each form has a module with a loop of its own: of one loop over all forms LLVM makes code that takes twice the time.
+// The samples of a curve whose knots are in rows, in blocks of four. A block lies on one piece, and
+// where the piece ends within it, the next piece's first block goes over what is too much: so a
+// short piece takes one block, and the loop has no branch for the processor to guess wrong. Where
+// each piece ends is found beforehand. Each form has a module with a loop of its own: of one loop
+// over all forms LLVM makes code that takes twice the time.
 ghost use mathlib.Core.Path.{_≡_};
 ghost use Prim.Native.Nat.{_+_, _-_, _<_, _≤_};
 ghost use lib.ListN.{length};
@@ -106,10 +108,13 @@ fn rest(
     from: Cursor,
     samples: &mut [f32],
 )
-    requires { ⌜ (n ≤ 66) × (length (now samples) ≤ 4096) × (step ≡ S.step (length (now samples))) ⌝ }
-    requires { ⌜ State form (now xs) (now ys) (now ms) n (length (now samples)) from (now samples) ⌝ }
+    requires { ⌜
+        (n ≤ 66) × (length (now samples) ≤ 4096) × (step ≡ S.step (length (now samples))) ⌝ }
+    requires { ⌜
+        State form (now xs) (now ys) (now ms) n (length (now samples)) from (now samples) ⌝ }
     ensures { λ _. ⌜ now (samples .exit) ≡ tabulate (length (now (samples .entry)))
-        (sampled (heightAt form (now (xs .entry)) (now (ys .entry)) (now (ms .entry)) n) (length (now (samples .entry)))) ⌝ }
+        (sampled (heightAt form (now (xs .entry)) (now (ys .entry)) (now (ms .entry)) n)
+        (length (now (samples .entry)))) ⌝ }
 {
     let first = from.i;
     let mut v = from.v;
@@ -133,7 +138,9 @@ fn draw(
     samples: &mut [f32],
 ) -> Cursor
     requires { ⌜ Ends (now xs) n (now ends) step (length (now samples)) ⌝ }
-    ensures { λ r. ⌜ State form (now (xs .entry)) (now (ys .entry)) (now (ms .entry)) n (length (now (samples .entry))) r (now (samples .exit)) ⌝ }
+    ensures { λ r. ⌜
+        State form (now (xs .entry)) (now (ys .entry)) (now (ms .entry)) n
+        (length (now (samples .entry))) r (now (samples .exit)) ⌝ }
 {
     match form {
         Form::Straight => straights::draw(xs, ys, ms, n, ends, step, samples),
@@ -142,7 +149,8 @@ fn draw(
     }
 }
 
-// The same where the ends of the pieces are found, else no sample. Whole knots and 256 or 4,096 samples: every end is found, as trial of each x has shown.
+// The same where the ends of the pieces are found, else no sample. Whole knots and 256 or 4,096
+// samples: every end is found, as trial of each x has shown.
 fn begin(
     form: Form,
     xs: &[f32; 66],
@@ -153,8 +161,12 @@ fn begin(
     samples: &mut [f32],
 ) -> Cursor
     requires { ⌜ (2 ≤ n) × (n ≤ 66) ⌝ }
-    requires { ⌜ (2 ≤ length (now samples)) × (length (now samples) ≤ 4096) × (step ≡ S.step (length (now samples))) ⌝ }
-    ensures { λ r. ⌜ State form (now (xs .entry)) (now (ys .entry)) (now (ms .entry)) n (length (now (samples .entry))) r (now (samples .exit)) ⌝ }
+    requires { ⌜
+        (2 ≤ length (now samples)) × (length (now samples) ≤ 4096)
+        × (step ≡ S.step (length (now samples))) ⌝ }
+    ensures { λ r. ⌜
+        State form (now (xs .entry)) (now (ys .entry)) (now (ms .entry)) n
+        (length (now (samples .entry))) r (now (samples .exit)) ⌝ }
 {
     // the last piece has no end: 8192 is past every sample
     let mut ends = [8192; 66];
@@ -176,7 +188,8 @@ pub fn fill(
     requires { ⌜ (2 ≤ n) × (n ≤ 66) ⌝ }
     requires { ⌜ (2 ≤ length (now samples)) × (length (now samples) ≤ 4096) ⌝ }
     ensures { λ _. ⌜ now (samples .exit) ≡ tabulate (length (now (samples .entry)))
-        (sampled (heightAt form (now (xs .entry)) (now (ys .entry)) (now (ms .entry)) n) (length (now (samples .entry)))) ⌝ }
+        (sampled (heightAt form (now (xs .entry)) (now (ys .entry)) (now (ms .entry)) n)
+        (length (now (samples .entry)))) ⌝ }
 {
     let step = step_of(samples.len());
     let from = begin(form, xs, ys, ms, n, step, samples);

@@ -1,10 +1,17 @@
-// Samples along the piece of a spline with a second derivative at each knot, by the coefficients of its polynomial in x - x0.
+// Samples along the piece of a spline with a second derivative at each knot, by the coefficients of
+// its polynomial in x - x0.
 ghost use mathlib.Core.Path.{_≡_};
 ghost use Prim.Native.Nat.{_+_, _-_, _≤_};
 ghost use lib.ListN.{length};
 ghost use Rattle.lists.specs.Stored.{Stored};
 ghost use Rattle.sampling.specs.declared.Form.the-variants.{Spline};
-ghost use Rattle.sampling.specs.Walk.{firstCoefficientAt, thirdCoefficientAt, splineSample, Ends, State};
+ghost use Rattle.sampling.specs.Walk.{
+  firstCoefficientAt,
+  thirdCoefficientAt,
+  splineSample,
+  Ends,
+  State,
+};
 use crate::blocks::Cursor;
 use crate::blocks::next;
 use crate::piece_at;
@@ -12,7 +19,8 @@ use crate::position;
 use points::Knot;
 use points::knot_at;
 
-// The coefficients of the pieces between n knots, those of x - x0 and those of its cube, to the fronts of two rows.
+// The coefficients of the pieces between n knots, those of x - x0 and those of its cube,
+// to the fronts of two rows.
 fn coefficients(
     xs: &[f32; 66],
     ys: &[f32; 66],
@@ -22,8 +30,12 @@ fn coefficients(
     c3s: &mut [f32; 66],
 )
     requires { ⌜ (2 ≤ n) × (n ≤ 66) ⌝ }
-    ensures { λ _. ⌜ Stored (firstCoefficientAt (now (xs .entry)) (now (ys .entry)) (now (ms .entry))) 0 (n - 1) (now (c1s .entry)) (now (c1s .exit)) ⌝ }
-    ensures { λ _. ⌜ Stored (thirdCoefficientAt (now (xs .entry)) (now (ys .entry)) (now (ms .entry))) 0 (n - 1) (now (c3s .entry)) (now (c3s .exit)) ⌝ }
+    ensures { λ _. ⌜
+        Stored (firstCoefficientAt (now (xs .entry)) (now (ys .entry)) (now (ms .entry))) 0 (n - 1)
+        (now (c1s .entry)) (now (c1s .exit)) ⌝ }
+    ensures { λ _. ⌜
+        Stored (thirdCoefficientAt (now (xs .entry)) (now (ys .entry)) (now (ms .entry))) 0 (n - 1)
+        (now (c3s .entry)) (now (c3s .exit)) ⌝ }
 {
     let mut i: usize = 0;
     while i + 1 < n {
@@ -46,7 +58,9 @@ fn sample(a: Knot, c1: f32, c2: f32, c3: f32, step: f32, v: usize) -> f32
 // Four samples.
 fn four(a: Knot, c1: f32, c2: f32, c3: f32, step: f32, v: usize, samples: &mut [f32])
     requires { ⌜ (v + 4 ≤ length (now samples)) × (length (now samples) ≤ 4096) ⌝ }
-    ensures { λ _. ⌜ Stored (splineSample a c1 c2 c3 step) v (v + 4) (now (samples .entry)) (now (samples .exit)) ⌝ }
+    ensures { λ _. ⌜
+        Stored (splineSample a c1 c2 c3 step) v (v + 4) (now (samples .entry)) (now (samples .exit))
+        ⌝ }
 {
     let mut j: usize = 0;
     while j < 4 {
@@ -66,7 +80,9 @@ pub fn draw(
     samples: &mut [f32],
 ) -> Cursor
     requires { ⌜ Ends (now xs) n (now ends) step (length (now samples)) ⌝ }
-    ensures { λ r. ⌜ State Spline (now (xs .entry)) (now (ys .entry)) (now (ms .entry)) n (length (now (samples .entry))) r (now (samples .exit)) ⌝ }
+    ensures { λ r. ⌜
+        State Spline (now (xs .entry)) (now (ys .entry)) (now (ms .entry)) n
+        (length (now (samples .entry))) r (now (samples .exit)) ⌝ }
 {
     let mut c1s = [0.0; 66];
     let mut c3s = [0.0; 66];

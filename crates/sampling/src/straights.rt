@@ -22,7 +22,9 @@ fn sample(piece: Piece, t: f32) -> f32
 // Four samples, at their parts.
 fn four(piece: Piece, t: [f32; 4], v: usize, samples: &mut [f32])
     requires { ⌜ (v + 4 ≤ length (now samples)) × (length (now samples) ≤ 4096) ⌝ }
-    ensures { λ _. ⌜ Stored (fromParts (straightSample piece) t v) v (v + 4) (now (samples .entry)) (now (samples .exit)) ⌝ }
+    ensures { λ _. ⌜
+        Stored (fromParts (straightSample piece) t v) v (v + 4) (now (samples .entry))
+        (now (samples .exit)) ⌝ }
 {
     let mut j: usize = 0;
     while j < 4 {
@@ -31,8 +33,8 @@ fn four(piece: Piece, t: [f32; 4], v: usize, samples: &mut [f32])
     }
 }
 
-// Samples in blocks of four, as far as a block has room: the cursor that is reached. The parts of the next block are found before this one is drawn,
-// since a quotient takes long.
+// Samples in blocks of four, as far as a block has room: the cursor that is reached. The parts of
+// the next block are found before this one is drawn, since a quotient takes long.
 pub fn draw(
     xs: &[f32; 66],
     ys: &[f32; 66],
@@ -43,7 +45,9 @@ pub fn draw(
     samples: &mut [f32],
 ) -> Cursor
     requires { ⌜ Ends (now xs) n (now ends) step (length (now samples)) ⌝ }
-    ensures { λ r. ⌜ State Straight (now (xs .entry)) (now (ys .entry)) (now (ms .entry)) n (length (now (samples .entry))) r (now (samples .exit)) ⌝ }
+    ensures { λ r. ⌜
+        State Straight (now (xs .entry)) (now (ys .entry)) (now (ms .entry)) n
+        (length (now (samples .entry))) r (now (samples .exit)) ⌝ }
 {
     let count = samples.len();
     let mut p = Cursor { v: 0, i: 0 };

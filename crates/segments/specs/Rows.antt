@@ -1,4 +1,5 @@
--- What it means that two rows of floats hold n knots, and what that says of the order of the knots' x. The rows of a kept list are such rows.
+-- What it means that two rows of floats hold n knots, and what that says of the order of the knots'
+-- x. The rows of a kept list are such rows.
 use mathlib.Core.Path.{_≡_, ap, _∙_}
 use mathlib.Core.List.{List}
 use Prim.Native.Nat.{ℕ, _+_, _-_, _*_, _≤_, _<_}
@@ -18,7 +19,8 @@ use Rattle.points.specs.Order.{Bytes, all-at, rising-to}
 use Rattle.points.specs.Shape.{Shape}
 use Rattle.points.specs.Rows.{x-is, y-is, y-at, height-fits}
 
--- The first n places of xs and ys hold knots: knot i is at the whole number a i and has the height h i / 256. The x rise strictly from 0 to 255.
+-- The first n places of xs and ys hold knots: knot i is at the whole number a i and has the height
+-- h i / 256. The x rise strictly from 0 to 255.
 pub record Rows (xs ys : List Float) (n : ℕ) (a h : ℕ → ℕ) : Type 0 where
   pub two : 2 ≤ n
   pub start : a 0 ≡ 0
@@ -33,7 +35,8 @@ pub record Rows (xs ys : List Float) (n : ℕ) (a h : ℕ → ℕ) : Type 0 wher
 abbrev pub fineHeight : List Point → ℕ → ℕ
 fineHeight ks i = 256 * yOf ks i
 
-pub rows-of : (ks : List Point) → Shape ks → Rows (xRow ks) (yRow ks) (length ks) (xOf ks) (fineHeight ks)
+pub rows-of : (ks : List Point) → Shape ks
+    → Rows (xRow ks) (yRow ks) (length ks) (xOf ks) (fineHeight ks)
 rows-of ks s = record {
   two = s .two;
   start = s .start;
@@ -55,7 +58,8 @@ module _ {xs ys : List Float} {n : ℕ} {a h : ℕ → ℕ} (r : Rows xs ys n a 
 
   pub x-le : (i j : ℕ) → i ≤ j → j < n → T (le (at xs i) (at xs j))
   x-le i j l u =
-      le-of-is (at xs i) (at xs j) (a i) 0 1 (a j) 0 1 (lit< tt) (lit< tt) (r .x-is i (omega arith)) (r .x-is j u)
+      le-of-is (at xs i) (at xs j) (a i) 0 1 (a j) 0 1 (lit< tt) (lit< tt) (r .x-is i (omega arith))
+      (r .x-is j u)
       (elim (ℕ-discrete i j) [
         | yes same ↦ omega (arith, ap a same)
         | no other ↦ omega (arith, r .rising i j (omega arith) u)
@@ -63,28 +67,37 @@ module _ {xs ys : List Float} {n : ℕ} {a h : ℕ → ℕ} (r : Rows xs ys n a 
 
   -- from the first knot to the last
   pub from-first : (x : Float) → T (le 𝟎 x) → T (le (at xs 0) x)
-  from-first x l = above-equal (at xs 0) 𝟎 x 0 0 1 (lit< tt) (rw (r .start) at (r .x-is 0 (omega (arith, r .two)))) 𝟎-is l
+  from-first x l =
+      above-equal (at xs 0) 𝟎 x 0 0 1 (lit< tt)
+      (rw (r .start) at (r .x-is 0 (omega (arith, r .two)))) 𝟎-is l
 
   pub to-last : (x : Float) → T (le x 𝟐𝟓𝟓) → T (le x (at xs (n - 1)))
-  to-last x u = below-equal (at xs (n - 1)) 𝟐𝟓𝟓 x 255 0 1 (lit< tt) (rw (r .end) at (r .x-is (n - 1) (omega (arith, r .two)))) 𝟐𝟓𝟓-is u
+  to-last x u =
+      below-equal (at xs (n - 1)) 𝟐𝟓𝟓 x 255 0 1 (lit< tt)
+      (rw (r .end) at (r .x-is (n - 1) (omega (arith, r .two)))) 𝟐𝟓𝟓-is u
 
   -- what is at a knot's x
   pub knot-low : (x : Float) (i : ℕ) → Is x (a i) 0 1 → T (le 𝟎 x)
   knot-low x i e = le-of-is 𝟎 x 0 0 1 (a i) 0 1 (lit< tt) (lit< tt) 𝟎-is e (omega arith)
 
   pub knot-high : (x : Float) (i : ℕ) → i < n → Is x (a i) 0 1 → T (le x 𝟐𝟓𝟓)
-  knot-high x i l e = le-of-is x 𝟐𝟓𝟓 (a i) 0 1 255 0 1 (lit< tt) (lit< tt) e 𝟐𝟓𝟓-is (omega (arith, x-most i l))
+  knot-high x i l e =
+      le-of-is x 𝟐𝟓𝟓 (a i) 0 1 255 0 1 (lit< tt) (lit< tt) e 𝟐𝟓𝟓-is (omega (arith, x-most i l))
 
   -- ---- the heights are from 0 to 255
   pub y-low : (i : ℕ) → i < n → T (le 𝟎 (at ys i))
-  y-low i l = le-of-is 𝟎 (at ys i) 0 0 1 (h i) 0 256 (lit< tt) (lit< tt) 𝟎-is (r .y-is i l) (omega arith)
+  y-low i l =
+      le-of-is 𝟎 (at ys i) 0 0 1 (h i) 0 256 (lit< tt) (lit< tt) 𝟎-is (r .y-is i l) (omega arith)
 
   pub y-high : (i : ℕ) → i < n → T (le (at ys i) 𝟐𝟓𝟓)
-  y-high i l = le-of-is (at ys i) 𝟐𝟓𝟓 (h i) 0 256 255 0 1 (lit< tt) (lit< tt) (r .y-is i l) 𝟐𝟓𝟓-is (omega (arith, r .high i l))
+  y-high i l =
+      le-of-is (at ys i) 𝟐𝟓𝟓 (h i) 0 256 255 0 1 (lit< tt) (lit< tt) (r .y-is i l) 𝟐𝟓𝟓-is
+      (omega (arith, r .high i l))
 
   -- ---- the segment s as the laws of floats have it
   pub piece : (s : ℕ) → s + 1 < n
-      → Segment (at xs s) (at ys s) (at xs (s + 1)) (at ys (s + 1)) (a s) (h s) (a (s + 1)) (h (s + 1))
+      → Segment (at xs s) (at ys s) (at xs (s + 1)) (at ys (s + 1)) (a s) (h s) (a (s + 1))
+      (h (s + 1))
   piece s l = record {
     apart = r .rising s (s + 1) (omega arith) l;
     last = x-most (s + 1) l;

@@ -29,7 +29,8 @@ use Rattle.segments.specs.SegmentLaws.{InRange, nonnegative-is}
 pub sample-byte : (v : ℕ) → v ≤ 255 → sampleAt (step 256) v ≡ float v
 unfolding sampleAt step
 sample-byte v h =
-    times-one binary32 (float v) (𝟐𝟓𝟓 ⊘ float 255) (float-is v (omega arith) .0) (ofInt-fits binary32 (pos v))
+    times-one binary32 (float v) (𝟐𝟓𝟓 ⊘ float 255) (float-is v (omega arith) .0)
+    (ofInt-fits binary32 (pos v))
     (div-self 𝟐𝟓𝟓 (float 255) 255 1 (lit< tt) (lit< tt) 𝟐𝟓𝟓-is (float-is 255 (lit≤ tt)))
 
 -- ---- of 4,096 samples, sample 273 * j is at 17 * j, from 0 up to 4,095 at 255
@@ -47,46 +48,57 @@ module _ (S : ℕ) (two : 2 ≤ S) (most : S ≤ 2 ^ 24) where
   step-between : T (finite (step S)) × T (le 𝟎 (step S)) × T (le (step S) 𝟐𝟓𝟓)
   unfolding step ofBits fits
   step-between =
-      rounds-between binary32 𝟎 (step S) 𝟐𝟓𝟓 (255 * 1) (0 * 1) (1 * (S - 1)) (omega arith) tt tt tt tt
-      (div-rounds binary32 𝟐𝟓𝟓 (float (S - 1)) 255 0 1 (S - 1) 1 (lit< tt) (lit< tt) (omega arith) 𝟐𝟓𝟓-is (float-is (S - 1) (omega arith)))
+      rounds-between binary32 𝟎 (step S) 𝟐𝟓𝟓 (255 * 1) (0 * 1) (1 * (S - 1)) (omega arith) tt tt tt
+      tt
+      (div-rounds binary32 𝟐𝟓𝟓 (float (S - 1)) 255 0 1 (S - 1) 1 (lit< tt) (lit< tt) (omega arith)
+      𝟐𝟓𝟓-is (float-is (S - 1) (omega arith)))
       (omega arith) (omega arith)
 
   step-is : Is (step S) (top (step S)) 0 (den (step S))
   step-is = nonnegative-is (step S) (step-between .0) (step-between .1)
 
   -- in order
-  pub sample-le : (v w : ℕ) → v ≤ w → w ≤ 2 ^ 24 → T (le (sampleAt (step S) v) (sampleAt (step S) w))
+  pub sample-le : (v w : ℕ) → v ≤ w → w ≤ 2 ^ 24
+      → T (le (sampleAt (step S) v) (sampleAt (step S) w))
   unfolding sampleAt
   sample-le v w l u =
       rw (mul-commutes binary32 (float v) (step S), mul-commutes binary32 (float w) (step S))
-      (mul-mono-left binary32 (step S) (float v) (float w) (top (step S)) (den (step S)) (den-pos (step S)) step-is
+      (mul-mono-left binary32 (step S) (float v) (float w) (top (step S)) (den (step S))
+      (den-pos (step S)) step-is
       (float-is v (omega arith) .0) (float-is w (omega arith) .0) (float-le v w l (omega arith)))
 
   -- none below 0
   sample-between : (v : ℕ) → v < S
-      → T (finite (sampleAt (step S) v)) × T (le 𝟎 (sampleAt (step S) v)) × T (le (sampleAt (step S) v) (fin false 1 (pos 32)))
+      → T (finite (sampleAt (step S) v)) × T (le 𝟎 (sampleAt (step S) v))
+      × T (le (sampleAt (step S) v) (fin false 1 (pos 32)))
   unfolding sampleAt ofBits fits
   sample-between v u =
       let s = step S in
       let high = is-of-le s 𝟐𝟓𝟓 (top s) 0 (den s) 255 0 1 step-is 𝟐𝟓𝟓-is (step-between .2) in
-      let product : v * top s ≤ 2 ^ 24 * (255 * den s) = mul-le-mul (omega arith) (omega (arith, high)) in
-      rounds-between binary32 𝟎 (sampleAt s v) (fin false 1 (pos 32)) (v * top s + 0 * 0) (v * 0 + 0 * top s) (1 * den s)
+      let product : v * top s ≤ 2 ^ 24 * (255 * den s) =
+      mul-le-mul (omega arith) (omega (arith, high)) in
+      rounds-between binary32 𝟎 (sampleAt s v) (fin false 1 (pos 32)) (v * top s + 0 * 0)
+      (v * 0 + 0 * top s) (1 * den s)
       (omega (arith, den-pos s)) tt tt tt tt
-      (mul-rounds binary32 (float v) s v 0 1 (top s) 0 (den s) (lit< tt) (den-pos s) (float-is v (omega arith)) step-is)
+      (mul-rounds binary32 (float v) s v 0 1 (top s) 0 (den s) (lit< tt) (den-pos s)
+      (float-is v (omega arith)) step-is)
       (omega arith) (omega arith)
 
   pub sample-low : (v : ℕ) → v < S → T (le 𝟎 (sampleAt (step S) v))
   sample-low v u = sample-between v u .1
 
   -- where the last is not past 255, none is
-  pub sample-in-range : T (le (sampleAt (step S) (S - 1)) 𝟐𝟓𝟓) → (v : ℕ) → v < S → InRange (sampleAt (step S) v)
+  pub sample-in-range : T (le (sampleAt (step S) (S - 1)) 𝟐𝟓𝟓) → (v : ℕ) → v < S
+      → InRange (sampleAt (step S) v)
   sample-in-range last v u = record {
     in-format = unfold sampleAt in mul-fits binary32 (float v) (step S);
     low = sample-low v u;
-    high = le-trans (sampleAt (step S) v) (sampleAt (step S) (S - 1)) 𝟐𝟓𝟓 (sample-le v (S - 1) (omega arith) (omega arith)) last;
+    high = le-trans (sampleAt (step S) v) (sampleAt (step S) (S - 1)) 𝟐𝟓𝟓
+        (sample-le v (S - 1) (omega arith) (omega arith)) last;
   }
 
--- the last sample of document 01's two tables is not past 255; that of other tables may be, of 22 samples for one
+-- the last sample of document 01's two tables is not past 255; that of other tables may
+-- be, of 22 samples for one
 last-256 : T (le (sampleAt (step 256) 255) 𝟐𝟓𝟓)
 unfolding sampleAt step le lt eq mul div ofInt ofBits
 last-256 = tt

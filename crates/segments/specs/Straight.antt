@@ -6,7 +6,8 @@ use Rattle.single.specs.Constants.{micro}
 use Rattle.single.specs.Rules.{guardedQuotient}
 use Rattle.points.specs.declared.Knot.{Knot}
 
--- "t = (x − x0) / h", the part of the segment from a to b that lies left of x; 0 in a segment of no width
+-- "t = (x − x0) / h", the part of the segment from a to b that lies left of x; 0
+-- in a segment of no width
 unfoldable pub part : Knot → Knot → Float → Float
 part a b x = guardedQuotient (x ⊖ a .x) (b .x ⊖ a .x) micro
 

@@ -1,4 +1,5 @@
--- Sets where a slip in the order of the checks would show: each line mends the first fault of the line before it, and has later ones still.
+-- Sets where a slip in the order of the checks would show: each line mends the first fault of the
+-- line before it, and has later ones still.
 use Prim.Native.Nat.{ℕ, _-_}
 use mathlib.Core.Path.{_≡_, refl}
 use mathlib.Core.List.{List, [], _∷_, _++_}

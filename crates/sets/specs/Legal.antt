@@ -1,4 +1,5 @@
--- What a set is that passes the check: each present list has at most 64 points, and strictly rises in x.
+-- What a set is that passes the check: each present list has at most 64 points,
+-- and strictly rises in x.
 use Prim.Native.Nat.{_≤_}
 use native.Mathlib.Omega.{arith}
 use mathlib.Core.Path.{_≡_, sym, ap, _∙_}
@@ -63,7 +64,9 @@ module _ (checks : Curve → List Check) (s : Curves) where
 
 pub set-answer : (s : Curves)
     → setAnswer s
-    ≡ firstOf (firstOf (firstOf (curveAnswer (s .master)) (channelAnswer (s .red))) (channelAnswer (s .green)))
+    ≡ firstOf
+    (firstOf (firstOf (curveAnswer (s .master)) (channelAnswer (s .red)))
+    (channelAnswer (s .green)))
     (channelAnswer (s .blue))
 unfolding setAnswer curveAnswer channelAnswer
 set-answer s = lists-answer curveChecks s
@@ -85,7 +88,8 @@ passed-set s e =
 -- a list that passes claims no more points than it may have, and rises
 passed-list : (c : Curve) → curveAnswer c ≡ Done → (c .count ≤ 64) × (rises (listOf c) ≡ true)
 unfolding curveAnswer
-passed-list c e = let p = all-passed (curveChecks c) e in (ltb-false 64 (c .count) (p .0), not-false _ (p .1 .0))
+passed-list c e = let p = all-passed (curveChecks c) e in
+    (ltb-false 64 (c .count) (p .0), not-false _ (p .1 .0))
 
 pub passed-count : (c : Curve) → curveAnswer c ≡ Done → c .count ≤ 64
 passed-count c e = passed-list c e .0
@@ -97,7 +101,8 @@ legal-list c e =
 
 legal-colour : (c : Channel) → channelAnswer c ≡ Done → LegalColour (channelOf c)
 unfolding channelAnswer curveAnswer
-legal-colour c e = by-test (c .present) (λ t. rw t (legal-list (c .curve) (rw t at e))) (λ t. rw t tt)
+legal-colour c e =
+    by-test (c .present) (λ t. rw t (legal-list (c .curve) (rw t at e))) (λ t. rw t tt)
 
 pub legal-view : (s : Curves) → setAnswer s ≡ Done → Legal (viewOf s)
 legal-view s e =

@@ -1,4 +1,5 @@
--- A set is the same as itself; same sets hold the same and are checked alike; and sets that pass the check and hold the same are the same.
+-- A set is the same as itself; same sets hold the same and are checked alike; and sets that pass
+-- the check and hold the same are the same.
 use Prim.Native.Nat.{ℕ}
 use native.Mathlib.Omega.{arith}
 use mathlib.Core.Path.{_≡_, refl, sym, ap, _∙_}
@@ -35,7 +36,8 @@ same-refl s = record {
 -- ---- same sets hold the same
 channel-view : (a b : Channel) → SameChannel a b → channelOf a ≡ channelOf b
 channel-view a b e =
-    by-test (a .present) (λ t. rw (← e .present, t) (ap some (e .curve t .points))) (λ t. rw (← e .present, t))
+    by-test (a .present) (λ t. rw (← e .present, t) (ap some (e .curve t .points)))
+    (λ t. rw (← e .present, t))
 
 pub same-view : (a b : Curves) → Same a b → viewOf a ≡ viewOf b
 same-view a b e =
@@ -55,7 +57,9 @@ checked-curve a b e = rw (e .points, e .count)
 checked-channel : (a b : Channel) → SameChannel a b → channelAnswer a ≡ channelAnswer b
 unfolding channelAnswer curveAnswer
 checked-channel a b e =
-    by-test (a .present) (λ t. rw (← e .present, t) (checked-curve (a .curve) (b .curve) (e .curve t))) (λ t. rw (← e .present, t))
+    by-test (a .present)
+    (λ t. rw (← e .present, t) (checked-curve (a .curve) (b .curve) (e .curve t)))
+    (λ t. rw (← e .present, t))
 
 pub checked-same : (a b : Curves) → Same a b → setAnswer a ≡ setAnswer b
 checked-same a b e =
@@ -69,24 +73,37 @@ checked-same a b e =
     )
 
 -- ---- sets that pass the check and hold the same are the same
--- each list is stored in 64 places: so it is of every set that code holds, although the type of the points is that of all lists.
--- A function's need c tells it of a parameter `set`, with `own = c .good .0 .1 .1` and `length-told` of points:
---     record { master = search (own .0, length-told); red = search (own .1 .0 .1 .1 .1 .0, length-told);
---              green = search (own .1 .1 .0 .1 .1 .1 .0, length-told); blue = search (own .1 .1 .1 .0 .1 .1 .1 .0, length-told) }
+-- each list is stored in 64 places: so it is of every set that code holds, although the type of the
+-- points is that of all lists.
+-- A function's need c tells it of a parameter `set`, with `own = c .good .0 .1 .1` and
+-- `length-told` of points:
+-- record { master = search (own .0, length-told); red = search (own .1 .0
+-- .1 .1 .1 .0, length-told);
+-- green = search (own .1 .1 .0 .1 .1 .1 .0, length-told); blue = search (own .1 .1 .1 .0 .1
+-- .1 .1 .0, length-told) }
 pub record Full (s : Curves) : Type 0 where
   pub master : length (s .master .points) ≡ 64
   pub red : length (s .red .curve .points) ≡ 64
   pub green : length (s .green .curve .points) ≡ 64
   pub blue : length (s .blue .curve .points) ≡ 64
 
-curve-same : (a b : Curve) → length (a .points) ≡ 64 → length (b .points) ≡ 64 → curveAnswer a ≡ Done → curveAnswer b ≡ Done
+curve-same : (a b : Curve) → length (a .points) ≡ 64 → length (b .points) ≡ 64
+    → curveAnswer a ≡ Done → curveAnswer b ≡ Done
     → listOf a ≡ listOf b → SameCurve a b
 curve-same a b a-long b-long a-done b-done e = record {
-  count = omega (arith, passed-count a a-done, passed-count b b-done, list-length a a-long, list-length b b-long, ap length e);
+  count = omega (
+    arith,
+    passed-count a a-done,
+    passed-count b b-done,
+    list-length a a-long,
+    list-length b b-long,
+    ap length e,
+  );
   points = e;
 }
 
-channel-same : (a b : Channel) → length (a .curve .points) ≡ 64 → length (b .curve .points) ≡ 64 → channelAnswer a ≡ Done → channelAnswer b ≡ Done
+channel-same : (a b : Channel) → length (a .curve .points) ≡ 64 → length (b .curve .points) ≡ 64
+    → channelAnswer a ≡ Done → channelAnswer b ≡ Done
     → channelOf a ≡ channelOf b → SameChannel a b
 unfolding channelAnswer curveAnswer
 channel-same a b a-long b-long a-done b-done e =
@@ -95,20 +112,30 @@ channel-same a b a-long b-long a-done b-done e =
     by-test (b .present)
     (λ u.
     let both : some (listOf (a .curve)) ≡ some (listOf (b .curve)) = rw (t, u) at e in
-    record { present = t ∙ sym u; curve = λ v. curve-same (a .curve) (b .curve) a-long b-long (rw t at a-done) (rw u at b-done) (cc) })
+    record {
+      present = t ∙ sym u;
+      curve = λ v.
+          curve-same (a .curve) (b .curve) a-long b-long (rw t at a-done) (rw u at b-done) (cc);
+    })
     (λ u. let z : _≡_ {A = ℕ} 0 1 = cc (rw (t, u) at e) in absurd (omega arith)))
     (λ t.
-    by-test (b .present) (λ u. let z : _≡_ {A = ℕ} 0 1 = cc (rw (t, u) at e) in absurd (omega arith))
+    by-test (b .present)
+    (λ u. let z : _≡_ {A = ℕ} 0 1 = cc (rw (t, u) at e) in absurd (omega arith))
     (λ u. record { present = t ∙ sym u; curve = λ v. absurd (false≢true (sym t ∙ v)) }))
 
-pub view-same : (a b : Curves) → Full a → Full b → setAnswer a ≡ Done → setAnswer b ≡ Done → viewOf a ≡ viewOf b → Same a b
+pub view-same : (a b : Curves) → Full a → Full b → setAnswer a ≡ Done → setAnswer b ≡ Done
+    → viewOf a ≡ viewOf b → Same a b
 view-same a b a-full b-full a-done b-done e =
     let a-passed = passed-set a a-done in
     let b-passed = passed-set b b-done in
     record {
-      master = curve-same (a .master) (b .master) (a-full .master) (b-full .master) (a-passed .master) (b-passed .master) (ap (λ (v : View). v .master) e);
-      red = channel-same (a .red) (b .red) (a-full .red) (b-full .red) (a-passed .red) (b-passed .red) (ap (λ (v : View). v .red) e);
-      green = channel-same (a .green) (b .green) (a-full .green) (b-full .green) (a-passed .green) (b-passed .green) (ap (λ (v : View). v .green) e);
-      blue = channel-same (a .blue) (b .blue) (a-full .blue) (b-full .blue) (a-passed .blue) (b-passed .blue) (ap (λ (v : View). v .blue) e);
+      master = curve-same (a .master) (b .master) (a-full .master) (b-full .master)
+          (a-passed .master) (b-passed .master) (ap (λ (v : View). v .master) e);
+      red = channel-same (a .red) (b .red) (a-full .red) (b-full .red) (a-passed .red)
+          (b-passed .red) (ap (λ (v : View). v .red) e);
+      green = channel-same (a .green) (b .green) (a-full .green) (b-full .green) (a-passed .green)
+          (b-passed .green) (ap (λ (v : View). v .green) e);
+      blue = channel-same (a .blue) (b .blue) (a-full .blue) (b-full .blue) (a-passed .blue)
+          (b-passed .blue) (ap (λ (v : View). v .blue) e);
       kind = ap (λ (v : View). v .kind) e;
     }

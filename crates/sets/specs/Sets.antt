@@ -1,5 +1,5 @@
--- A set of curves apart from how it is stored, its members replaced, and the check of its lists, as document 01's sections "The set" and
--- "When a call says no" have them. Definitions only.
+-- A set of curves apart from how it is stored, its members replaced, and the check of its lists, as
+-- document 01's sections "The set" and "When a call says no" have them. Definitions only.
 use Prim.Native.Nat.{ℕ}
 use mathlib.Core.Path.{_≡_}
 use mathlib.Core.Bool.{Bool, cond, not, true, false}
@@ -69,26 +69,60 @@ abbrev pub presentChannel : Curve → Channel
 presentChannel c = record { present = true; curve = c }
 
 abbrev pub replaceMaster : Curve → Curves → Curves
-replaceMaster c s = record { master = c; red = s .red; green = s .green; blue = s .blue; interpolation = s .interpolation }
+replaceMaster c s =
+    record {
+      master = c;
+      red = s .red;
+      green = s .green;
+      blue = s .blue;
+      interpolation = s .interpolation;
+    }
 
 abbrev pub replaceColour : Colour → Channel → Curves → Curves
-replaceColour Red c s = record { master = s .master; red = c; green = s .green; blue = s .blue; interpolation = s .interpolation }
-replaceColour Green c s = record { master = s .master; red = s .red; green = c; blue = s .blue; interpolation = s .interpolation }
-replaceColour Blue c s = record { master = s .master; red = s .red; green = s .green; blue = c; interpolation = s .interpolation }
+replaceColour Red c s =
+    record {
+      master = s .master;
+      red = c;
+      green = s .green;
+      blue = s .blue;
+      interpolation = s .interpolation;
+    }
+replaceColour Green c s =
+    record {
+      master = s .master;
+      red = s .red;
+      green = c;
+      blue = s .blue;
+      interpolation = s .interpolation;
+    }
+replaceColour Blue c s =
+    record {
+      master = s .master;
+      red = s .red;
+      green = s .green;
+      blue = c;
+      interpolation = s .interpolation;
+    }
 
 abbrev pub replaceKind : CurveInterpolation → Curves → Curves
-replaceKind k s = record { master = s .master; red = s .red; green = s .green; blue = s .blue; interpolation = k }
+replaceKind k s =
+    record { master = s .master; red = s .red; green = s .green; blue = s .blue; interpolation = k }
 
 abbrev pub withMaster : List Point → View → View
-withMaster l v = record { master = l; red = v .red; green = v .green; blue = v .blue; kind = v .kind }
+withMaster l v =
+    record { master = l; red = v .red; green = v .green; blue = v .blue; kind = v .kind }
 
 abbrev pub withColour : Colour → Option (List Point) → View → View
-withColour Red o v = record { master = v .master; red = o; green = v .green; blue = v .blue; kind = v .kind }
-withColour Green o v = record { master = v .master; red = v .red; green = o; blue = v .blue; kind = v .kind }
-withColour Blue o v = record { master = v .master; red = v .red; green = v .green; blue = o; kind = v .kind }
+withColour Red o v =
+    record { master = v .master; red = o; green = v .green; blue = v .blue; kind = v .kind }
+withColour Green o v =
+    record { master = v .master; red = v .red; green = o; blue = v .blue; kind = v .kind }
+withColour Blue o v =
+    record { master = v .master; red = v .red; green = v .green; blue = o; kind = v .kind }
 
 abbrev pub withKind : CurveInterpolation → View → View
-withKind k v = record { master = v .master; red = v .red; green = v .green; blue = v .blue; kind = k }
+withKind k v =
+    record { master = v .master; red = v .red; green = v .green; blue = v .blue; kind = k }
 
 -- ---- the checks of a set's lists
 -- "don't strictly rise in x"

@@ -1,5 +1,5 @@
--- What `to_byte` and `floor` go by: x kept to 0..n is a fraction a / d, two sums leave the whole number w nearest to it,
--- and one test says on which side of w, or of w + ½, it lies.
+-- What `to_byte` and `floor` go by: x kept to 0..n is a fraction a / d, two sums leave the whole
+-- number w nearest to it, and one test says on which side of w, or of w + ½, it lies.
 use mathlib.Core.Path.{_≡_, refl, sym, ap, _∙_, subst}
 use mathlib.Core.Bool.{true, false}
 use Prim.Native.Nat.{ℕ, zero, suc, _+_, _*_, _/_, _^_, _<_, _≤_, zero-le}
@@ -121,10 +121,12 @@ module _ (n : ℕ) (s : n ≤ 2 ^ 22) where
 
   split-float : (k : ℕ) → k ≤ n → Split n (float k)
   unfolding ofInt
-  split-float k h = split n s (float k) (round-unsigned binary32 k 1) (float-is k (le-trans h exact) .0) (float-le k n h exact)
+  split-float k h =
+      split n s (float k) (round-unsigned binary32 k 1) (float-is k (le-trans h exact) .0) (float-le k n h exact)
 
   split-between : (x : Float) → T (lt 𝟎 x) → T (lt x (float n)) → Split n x
-  split-between x e g = let (u, f) = between x (float n) (float-is n exact .0) e g in split n s x u f (le-of-lt x (float n) g)
+  split-between x e g = let (u, f) = between x (float n) (float-is n exact .0) e g in
+      split n s x u f (le-of-lt x (float n) g)
 
   pub held-split : (x : Float) → Split n (held (float n) x)
   held-split x =
@@ -161,7 +163,8 @@ module _ {b : Float} (s : Split 255 b) where
   pub byte-above : lt b (near b ⊕ ½) ≡ false → byteOf b ≡ w + 1
   byte-above t =
       let l = lt-false b (near b ⊕ ½) a 0 d (2 * w + 1) 0 2 positive (lit< tt) is at-half .0 t in
-      byte-nearest b a d positive most is ∙ div-eq-of-lt-le (2 * d) (omega (arith, l)) (omega (arith, s .high, positive))
+      byte-nearest b a d positive most is
+      ∙ div-eq-of-lt-le (2 * d) (omega (arith, l)) (omega (arith, s .high, positive))
 
 -- ---- the whole part: w where b is not below w, and one less where it is
 one-less : (a d w : ℕ) → 2 * w * d ≤ 2 * a + d → a < w * d → a / d + 1 ≡ w

@@ -1,9 +1,19 @@
 -- Laws of the whole numbers that floats are turned into: to a byte, and the whole part.
--- Both are `wholeBy` a rule for fractions, and the laws hold for any rule that grows with the fraction.
+-- Both are `wholeBy` a rule for fractions, and the laws hold for any rule that
+-- grows with the fraction.
 use mathlib.Core.Path.{_≡_, refl, sym, ap, _∙_}
 use mathlib.Core.Bool.{true, false}
 use Prim.Native.Nat.{ℕ, _+_, _-_, _*_, _/_, _^_, _≤_, _<_, min, zero-le}
-use native.Mathlib.Nat.{le-refl, le-trans, le-antisymm, le-of-eq, sub-zero, div-one, div-mul-le-self, lt-div-mul-add}
+use native.Mathlib.Nat.{
+  le-refl,
+  le-trans,
+  le-antisymm,
+  le-of-eq,
+  sub-zero,
+  div-one,
+  div-mul-le-self,
+  lt-div-mul-add,
+}
 use native.Mathlib.Omega.{arith}
 use lib.Dec.{T, lit<, lit≤}
 use lib.Ieee.{Float, nan, inf, fin, up, down, le, ofBits}
@@ -22,7 +32,8 @@ pub record Rule (rule : ℕ → ℕ → ℕ) : Type 0 where
 
 pub nearest-rule : Rule nearestWhole
 nearest-rule = record {
-  grows = λ a d b c D C h. div-mono (2 * a + d) (2 * d) (2 * b + c) (2 * c) (omega arith) (omega arith) (omega arith);
+  grows = λ a d b c D C h. div-mono (2 * a + d) (2 * d) (2 * b + c) (2 * c) (omega arith)
+      (omega arith) (omega arith);
   whole = λ k. omega arith;
 }
 
@@ -40,18 +51,21 @@ module _ (rule : ℕ → ℕ → ℕ) (most : ℕ) where
 
   module _ (R : Rule rule) where
     same : (a d b c : ℕ) → 0 < d → 0 < c → a * c ≡ b * d → rule a d ≡ rule b c
-    same a d b c D C e = le-antisymm (R .grows a d b c D C (le-of-eq e)) (R .grows b c a d C D (le-of-eq (sym e)))
+    same a d b c D C e =
+        le-antisymm (R .grows a d b c D C (le-of-eq e)) (R .grows b c a d C D (le-of-eq (sym e)))
 
     rule-zero : (d : ℕ) → 0 < d → rule 0 d ≡ 0
     rule-zero d D = same 0 d 0 1 D (lit< tt) (omega arith) ∙ R .whole 0
 
     -- the float's whole number is that of any fraction it equals, a negative one cut off at 0
-    pub whole-value : (x : Float) (p n d : ℕ) → 0 < d → Is x p n d → wholeBy rule most x ≡ min (rule (p - n) d) most
+    pub whole-value : (x : Float) (p n d : ℕ) → 0 < d → Is x p n d
+        → wholeBy rule most x ≡ min (rule (p - n) d) most
     unfolding wholeBy
     whole-value nan p n d D i = absurd (i .0)
     whole-value (inf s) p n d D i = absurd (i .0)
     whole-value (fin false m e) p n d D i =
-        let cross : m * up e * d ≡ (p - n) * down e = excess (m * up e) d p n (down e) (down-pos e) (omega (arith, i .1)) .1 in
+        let cross : m * up e * d ≡ (p - n) * down e =
+        excess (m * up e) d p n (down e) (down-pos e) (omega (arith, i .1)) .1 in
         ap (λ (k : ℕ). min k most) (same (m * up e) (down e) (p - n) d (down-pos e) D cross)
     whole-value (fin true m e) p n d D i =
         let l : p ≤ n = excess (m * up e) d n p (down e) (down-pos e) (omega (arith, i .1)) .0 in
@@ -59,7 +73,8 @@ module _ (rule : ℕ → ℕ → ℕ) (most : ℕ) where
         rw (z, rule-zero d D) (omega arith)
 
     -- from 0 to most nothing is cut off
-    pub whole-uncut : (x : Float) (s d : ℕ) → 0 < d → s ≤ most * d → Is x s 0 d → wholeBy rule most x ≡ rule s d
+    pub whole-uncut : (x : Float) (s d : ℕ) → 0 < d → s ≤ most * d → Is x s 0 d
+        → wholeBy rule most x ≡ rule s d
     whole-uncut x s d D h i =
         let l = R .grows s d most 1 D (lit< tt) (omega arith) in
         whole-value x s 0 d D i ∙ rw (sub-zero s) (omega (arith, l, R .whole most))
@@ -79,15 +94,18 @@ module _ (rule : ℕ → ℕ → ℕ) (most : ℕ) where
     whole-le (fin true m e) (fin t n d) h = zero-le
     whole-le (fin false m e) (fin true n d) h =
         let l = of-le (fin false m e) (fin true n d) tt tt h in
-        let g = R .grows (m * up e) (down e) 0 (down d) (down-pos e) (down-pos d) (omega (arith, l)) in
+        let g = R .grows (m * up e) (down e) 0 (down d) (down-pos e) (down-pos d)
+        (omega (arith, l)) in
         omega (arith, g, rule-zero (down d) (down-pos d))
     whole-le (fin false m e) (fin false n d) h =
         let l = of-le (fin false m e) (fin false n d) tt tt h in
-        let g = R .grows (m * up e) (down e) (n * up d) (down d) (down-pos e) (down-pos d) (omega (arith, l)) in
+        let g = R .grows (m * up e) (down e) (n * up d) (down d) (down-pos e) (down-pos d)
+        (omega (arith, l)) in
         omega (arith, g)
 
     pub whole-float : (k : ℕ) → k ≤ most → k ≤ 2 ^ 24 → wholeBy rule most (float k) ≡ k
-    whole-float k h l = whole-value (float k) k 0 1 (lit< tt) (float-is k l) ∙ rw (R .whole (k - 0)) (omega arith)
+    whole-float k h l =
+        whole-value (float k) k 0 1 (lit< tt) (float-is k l) ∙ rw (R .whole (k - 0)) (omega arith)
 
     -- at and past the ends
     pub whole-low : (x : Float) → T (le x 𝟎) → wholeBy rule most x ≡ 0
@@ -95,7 +113,8 @@ module _ (rule : ℕ → ℕ → ℕ) (most : ℕ) where
         let z : wholeBy rule most 𝟎 ≡ 0 = rw 𝟎-float (whole-float 0 zero-le zero-le) in
         le-antisymm (le-trans (whole-le x 𝟎 h) (le-of-eq z)) zero-le
 
-    pub whole-high : most ≤ 2 ^ 24 → (x : Float) → T (le (float most) x) → wholeBy rule most x ≡ most
+    pub whole-high : most ≤ 2 ^ 24 → (x : Float) → T (le (float most) x)
+        → wholeBy rule most x ≡ most
     whole-high l x h =
         let z : wholeBy rule most (float most) ≡ most = whole-float most (le-refl most) l in
         le-antisymm (whole-small x) (le-trans (le-of-eq (sym z)) (whole-le (float most) x h))
@@ -106,14 +125,17 @@ unfolding byteOf
 byte-small x = whole-small nearestWhole 255 x
 
 -- from 0 to 255 nothing is cut off
-pub byte-nearest : (x : Float) (s d : ℕ) → 0 < d → s ≤ 255 * d → Is x s 0 d → byteOf x ≡ nearestWhole s d
+pub byte-nearest : (x : Float) (s d : ℕ) → 0 < d → s ≤ 255 * d → Is x s 0 d
+    → byteOf x ≡ nearestWhole s d
 unfolding byteOf
 byte-nearest x s d D h i = whole-uncut nearestWhole 255 nearest-rule x s d D h i
 
 -- the byte R of s / d is within a half of it, 2 * |R * d - s| ≤ d, and a half goes up
 pub byte-near : (x : Float) (s d : ℕ) → 0 < d → s ≤ 255 * d → Is x s 0 d
     → (byteOf x * (2 * d) ≤ 2 * s + d) × (2 * s + d < byteOf x * (2 * d) + 2 * d)
-byte-near x s d D h i = rw (byte-nearest x s d D h i) (div-mul-le-self (2 * s + d) (2 * d), lt-div-mul-add (omega arith))
+byte-near x s d D h i =
+    rw (byte-nearest x s d D h i)
+    (div-mul-le-self (2 * s + d) (2 * d), lt-div-mul-add (omega arith))
 
 -- of a height in 256ths
 pub byte-256ths : (x : Float) (p : ℕ) → p ≤ 65280 → Is x p 0 256 → byteOf x ≡ (p + 128) / 256

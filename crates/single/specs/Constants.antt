@@ -1,5 +1,5 @@
--- The constants of the engine, each under one name, and that each is the number meant: `NAME-is` gives the value, whole or in
--- fractions of a power of two.
+-- The constants of the engine, each under one name, and that each is the number meant: `NAME-is`
+-- gives the value, whole or in fractions of a power of two.
 use mathlib.Core.Path.{_≡_, refl}
 use mathlib.Core.Bool.{false}
 use Prim.Native.Nat.{_^_}

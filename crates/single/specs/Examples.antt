@@ -1,4 +1,5 @@
--- The small rules on single floats where a slip would show, computed: halves, the float just below one, both zeros, and NaN.
+-- The small rules on single floats where a slip would show, computed: halves, the float just below
+-- one, both zeros, and NaN.
 use mathlib.Core.Path.{_≡_, refl}
 use lib.Ieee.{Float, nan, binary32, lt, add, ofBits}
 use Rattle.floats.specs.Notation.{_⊕_}

@@ -1,11 +1,49 @@
--- The rounded root by squares alone. `NearestRoot n k p` says that p * 2 ^ k is nearest to the root of n, p being even at a tie:
+-- The rounded root by squares alone. `NearestRoot n k p` says that p * 2 ^ k is nearest to the root
+-- of n, p being even at a tie:
 -- there is one such p, and `nearestRoot n k` is it.
 use mathlib.Core.Path.{_≡_, refl, sym, ap, _∙_, subst}
 use mathlib.Core.Logic.{_⊎_, inl, inr}
 use mathlib.Core.Bool.{Bool, true, false, not, cond}
-use Prim.Native.Nat.{ℕ, zero, suc, _+_, _-_, _*_, _/_, _%_, _^_, _≤_, _<_, compare, Ordering, Ordering·lt, Ordering·eq, Ordering·gt, zero-le}
-use native.Mathlib.Nat.{le-trans, le-of-lt, le-of-eq, le-antisymm, lt-of-le-of-lt, lt-of-lt-of-le, lt-of-not-le, not-le-of-lt, le-of-suc-le-suc}
-use native.Mathlib.Nat.{mul-le-mul, mul-assoc, mul-pos, mul-le-mul-left, mul-le-mul-right, mul-lt-mul-of-pos-right, mul-mul-mul-comm, add-assoc}
+use Prim.Native.Nat.{
+  ℕ,
+  zero,
+  suc,
+  _+_,
+  _-_,
+  _*_,
+  _/_,
+  _%_,
+  _^_,
+  _≤_,
+  _<_,
+  compare,
+  Ordering,
+  Ordering·lt,
+  Ordering·eq,
+  Ordering·gt,
+  zero-le,
+}
+use native.Mathlib.Nat.{
+  le-trans,
+  le-of-lt,
+  le-of-eq,
+  le-antisymm,
+  lt-of-le-of-lt,
+  lt-of-lt-of-le,
+  lt-of-not-le,
+  not-le-of-lt,
+  le-of-suc-le-suc,
+}
+use native.Mathlib.Nat.{
+  mul-le-mul,
+  mul-assoc,
+  mul-pos,
+  mul-le-mul-left,
+  mul-le-mul-right,
+  mul-lt-mul-of-pos-right,
+  mul-mul-mul-comm,
+  add-assoc,
+}
 use native.Mathlib.Nat.{two-pow-succ, div-lt-iff-lt-mul, div-mul-le-self}
 use native.Mathlib.Omega.{arith}
 use lib.Dec.{T, leb, leb→le, nleb→lt, isLe, isEq, eqb→eq}
@@ -18,7 +56,8 @@ use Rattle.single.specs.Root.{rootDigits, nearestRoot}
 abbrev pub square : ℕ → ℕ → ℕ
 square k a = a * 2 ^ k * (a * 2 ^ k)
 
--- Twice the root of n lies between (2 * p - 1) * 2 ^ k and (2 * p + 1) * 2 ^ k, and where it is one of the two, p is even.
+-- Twice the root of n lies between (2 * p - 1) * 2 ^ k and (2 * p + 1) * 2 ^ k, and where it is
+-- one of the two, p is even.
 pub record NearestRoot (n k p : ℕ) : Type 0 where
   pub low : square k (2 * p - 1) ≤ 4 * n
   pub high : 4 * n ≤ square k (2 * p + 1)
@@ -30,46 +69,57 @@ square-of k a = mul-mul-mul-comm a (2 ^ k) a (2 ^ k)
 
 square-double : (k a : ℕ) → square k (2 * a) ≡ 4 * (a * a * (2 ^ k * 2 ^ k))
 square-double k a =
-    square-of k (2 * a) ∙ ap (λ (x : ℕ). x * (2 ^ k * 2 ^ k)) (mul-mul-mul-comm 2 a 2 a) ∙ mul-assoc 4 (a * a) (2 ^ k * 2 ^ k)
+    square-of k (2 * a) ∙ ap (λ (x : ℕ). x * (2 ^ k * 2 ^ k)) (mul-mul-mul-comm 2 a 2 a)
+    ∙ mul-assoc 4 (a * a) (2 ^ k * 2 ^ k)
 
 pub square-mono : (k : ℕ) {a b : ℕ} → a ≤ b → square k a ≤ square k b
 square-mono k h = mul-le-mul (mul-le-mul-right (2 ^ k) h) (mul-le-mul-right (2 ^ k) h)
 
 squares-lt : {a b : ℕ} → a < b → a * a < b * b
-squares-lt {a} {b} h = lt-of-le-of-lt (mul-le-mul-left a (le-of-lt h)) (mul-lt-mul-of-pos-right h (lt-of-le-of-lt zero-le h))
+squares-lt {a} {b} h =
+    lt-of-le-of-lt (mul-le-mul-left a (le-of-lt h))
+    (mul-lt-mul-of-pos-right h (lt-of-le-of-lt zero-le h))
 
 square-le : (k a b : ℕ) → square k a ≤ square k b → a ≤ b
 square-le k a b h =
-    le-of-suc-le-suc (lt-of-not-le (λ (g : suc b ≤ a). not-le-of-lt (squares-lt (mul-lt-mul-of-pos-right g (pow-pos k))) h))
+    le-of-suc-le-suc
+    (lt-of-not-le
+    (λ (g : suc b ≤ a). not-le-of-lt (squares-lt (mul-lt-mul-of-pos-right g (pow-pos k))) h))
 
 -- ---- the digits' root is the largest number whose square is at most n
 abbrev WholeRoot : ℕ → ℕ → Type 0
 WholeRoot n q = (q * q ≤ n) × (n < (q + 1) * (q + 1))
 
-digits-are : (d r n : ℕ) → r * r ≤ n → n < (r + 2 ^ d) * (r + 2 ^ d) → WholeRoot n (rootDigits d r n)
+digits-are : (d r n : ℕ) → r * r ≤ n → n < (r + 2 ^ d) * (r + 2 ^ d)
+    → WholeRoot n (rootDigits d r n)
 unfolding rootDigits
 digits-are zero r n a b = (a, b)
 digits-are (suc d) r n a b =
     go (leb ((r + 2 ^ d) * (r + 2 ^ d)) n)
     (λ h. digits-are d (r + 2 ^ d) n (leb→le _ _ h)
-    (subst (λ (x : ℕ). n < x * x) (ap (λ (y : ℕ). r + y) (two-pow-succ d) ∙ sym (add-assoc r (2 ^ d) (2 ^ d))) b))
+    (subst (λ (x : ℕ). n < x * x)
+    (ap (λ (y : ℕ). r + y) (two-pow-succ d) ∙ sym (add-assoc r (2 ^ d) (2 ^ d))) b))
     (λ h. digits-are d r n a (nleb→lt _ _ h))
   where
-    go : (t : Bool) → (T t → WholeRoot n (rootDigits d (r + 2 ^ d) n)) → (T (not t) → WholeRoot n (rootDigits d r n))
+    go : (t : Bool) → (T t → WholeRoot n (rootDigits d (r + 2 ^ d) n))
+        → (T (not t) → WholeRoot n (rootDigits d r n))
         → WholeRoot n (rootDigits d (cond t (r + 2 ^ d) r) n)
     go true h k = h tt
     go false h k = k tt
 
 -- ---- of q and q + 1, between which the root lies, the nearer one
 module _ (n k q : ℕ) (low : square k (2 * q) ≤ 4 * n) (high : 4 * n < square k (2 * q + 2)) where
-  stays : 4 * n ≤ square k (2 * q + 1) → (4 * n ≡ square k (2 * q + 1) → q % 2 ≡ 0) → NearestRoot n k q
+  stays : 4 * n ≤ square k (2 * q + 1) → (4 * n ≡ square k (2 * q + 1) → q % 2 ≡ 0)
+      → NearestRoot n k q
   stays h tie = record { low = le-trans (square-mono k (omega arith)) low; high = h; even = go }
     where
       go : (4 * n ≡ square k (2 * q - 1)) ⊎ (4 * n ≡ square k (2 * q + 1)) → q % 2 ≡ 0
-      go (inl e) = let g : 2 * q ≤ 2 * q - 1 = square-le k (2 * q) (2 * q - 1) (le-trans low (le-of-eq e)) in omega arith
+      go (inl e) = let g : 2 * q ≤ 2 * q - 1 =
+          square-le k (2 * q) (2 * q - 1) (le-trans low (le-of-eq e)) in omega arith
       go (inr e) = tie e
 
-  rises : square k (2 * q + 1) ≤ 4 * n → (4 * n ≡ square k (2 * q + 1) → suc q % 2 ≡ 0) → NearestRoot n k (suc q)
+  rises : square k (2 * q + 1) ≤ 4 * n → (4 * n ≡ square k (2 * q + 1) → suc q % 2 ≡ 0)
+      → NearestRoot n k (suc q)
   rises h tie = record {
     low = subst (λ (a : ℕ). square k a ≤ 4 * n) (sym (odd q)) h;
     high = le-trans (le-of-lt high) (square-mono k (omega arith));
@@ -81,15 +131,18 @@ module _ (n k q : ℕ) (low : square k (2 * q) ≤ 4 * n) (high : 4 * n < square
 
       go : (4 * n ≡ square k (2 * suc q - 1)) ⊎ (4 * n ≡ square k (2 * suc q + 1)) → suc q % 2 ≡ 0
       go (inl e) = tie (e ∙ ap (square k) (odd q))
-      go (inr e) = absurd (not-le-of-lt high (le-trans (square-mono k (omega arith)) (le-of-eq (sym e))))
+      go (inr e) =
+          absurd (not-le-of-lt high (le-trans (square-mono k (omega arith)) (le-of-eq (sym e))))
 
   at-tie : (r : ℕ) → q % 2 ≡ r → 4 * n ≡ square k (2 * q + 1) → NearestRoot n k (q + r)
   at-tie zero e t = subst (NearestRoot n k) (omega arith) (stays (le-of-eq t) (λ _. e))
-  at-tie (suc zero) e t = subst (NearestRoot n k) (omega arith) (rises (le-of-eq (sym t)) (λ _. omega arith))
+  at-tie (suc zero) e t =
+      subst (NearestRoot n k) (omega arith) (rises (le-of-eq (sym t)) (λ _. omega arith))
   at-tie (suc (suc r)) e t = absurd (omega arith)
 
   nearer : NearestRoot n k (nearest q (compare (4 * n) (square k (2 * q + 1))))
-  nearer = go (compare (4 * n) half) (leb→le (4 * n) half) (nleb→lt (4 * n) half) (eqb→eq (4 * n) half) eq→eqb
+  nearer = go (compare (4 * n) half) (leb→le (4 * n) half) (nleb→lt (4 * n) half)
+      (eqb→eq (4 * n) half) eq→eqb
     where
       half : ℕ
       half = square k (2 * q + 1)
@@ -104,12 +157,14 @@ module _ (n k q : ℕ) (low : square k (2 * q) ≤ 4 * n) (high : 4 * n < square
       go Ordering·eq le gt same tie = at-tie (q % 2) refl (same tt)
       go Ordering·gt le gt same tie = rises (le-of-lt (gt tt)) (λ e. absurd (tie e))
 
-nearest-root-at : (n k q : ℕ) → q ≡ rootDigits 24 0 (n / (2 ^ k * 2 ^ k)) → nearestRoot n k ≡ nearest q (compare (4 * n) (square k (2 * q + 1)))
+nearest-root-at : (n k q : ℕ) → q ≡ rootDigits 24 0 (n / (2 ^ k * 2 ^ k))
+    → nearestRoot n k ≡ nearest q (compare (4 * n) (square k (2 * q + 1)))
 unfolding nearestRoot
 nearest-root-at n k q e = ap (λ (q : ℕ). nearest q (compare (4 * n) (square k (2 * q + 1)))) (sym e)
 
 pub nearest-root-is : (n k : ℕ) → n < 2 ^ 48 * (2 ^ k * 2 ^ k) → NearestRoot n k (nearestRoot n k)
-nearest-root-is n k h = subst (NearestRoot n k) (sym (nearest-root-at n k q refl)) (nearer n k q low high)
+nearest-root-is n k h =
+    subst (NearestRoot n k) (sym (nearest-root-at n k q refl)) (nearer n k q low high)
   where
     unit : ℕ
     unit = 2 ^ k * 2 ^ k
@@ -124,10 +179,12 @@ nearest-root-is n k h = subst (NearestRoot n k) (sym (nearest-root-at n k q refl
     root = digits-are 24 0 (n / unit) zero-le (div-lt-iff-lt-mul positive .1 h)
 
     low : square k (2 * q) ≤ 4 * n
-    low = le-trans (le-of-eq (square-double k q)) (mul-le-mul-left 4 (le-trans (mul-le-mul-right unit (root .0)) (div-mul-le-self n unit)))
+    low = le-trans (le-of-eq (square-double k q))
+        (mul-le-mul-left 4 (le-trans (mul-le-mul-right unit (root .0)) (div-mul-le-self n unit)))
 
     high : 4 * n < square k (2 * q + 2)
-    high = lt-of-lt-of-le (four (div-lt-iff-lt-mul positive .0 (root .1))) (le-of-eq (sym (square-double k (q + 1)) ∙ ap (square k) (next q)))
+    high = lt-of-lt-of-le (four (div-lt-iff-lt-mul positive .0 (root .1)))
+        (le-of-eq (sym (square-double k (q + 1)) ∙ ap (square k) (next q)))
       where
         four : {a b : ℕ} → a < b → 4 * a < 4 * b
         four h = omega arith
@@ -142,22 +199,30 @@ module _ (n k : ℕ) where
     where
       go : suc q ≤ p → ⊥
       go h =
-          let l : 2 * p - 1 ≤ 2 * q + 1 = square-le k (2 * p - 1) (2 * q + 1) (le-trans (a .low) (b .high)) in
+          let l : 2 * p - 1 ≤ 2 * q + 1 =
+          square-le k (2 * p - 1) (2 * q + 1) (le-trans (a .low) (b .high)) in
           let e : square k (2 * p - 1) ≡ square k (2 * q + 1) = ap (square k) (omega arith) in
-          let x : p % 2 ≡ 0 = a .even (inl (le-antisymm (le-trans (b .high) (le-of-eq (sym e))) (a .low))) in
-          let y : q % 2 ≡ 0 = b .even (inr (le-antisymm (b .high) (le-trans (le-of-eq (sym e)) (a .low)))) in
+          let x : p % 2 ≡ 0 =
+          a .even (inl (le-antisymm (le-trans (b .high) (le-of-eq (sym e))) (a .low))) in
+          let y : q % 2 ≡ 0 =
+          b .even (inr (le-antisymm (b .high) (le-trans (le-of-eq (sym e)) (a .low)))) in
           omega arith
 
   pub nearest-root-unique : (p q : ℕ) → NearestRoot n k p → NearestRoot n k q → p ≡ q
   nearest-root-unique p q a b = le-antisymm (not-above p q a b) (not-above q p b a)
 
--- ---- it keeps the order: a whole multiple of 2 ^ k that is not above the root is not above its nearest, and the same below
-pub nearest-root-least : {n k p : ℕ} → NearestRoot n k p → (a : ℕ) → a * a * (2 ^ k * 2 ^ k) ≤ n → a ≤ p
+-- ---- it keeps the order: a whole multiple of 2 ^ k that is not above the root is not above its
+-- nearest, and the same below
+pub nearest-root-least : {n k p : ℕ} → NearestRoot n k p → (a : ℕ) → a * a * (2 ^ k * 2 ^ k) ≤ n
+    → a ≤ p
 nearest-root-least {n} {k} {p} r a h =
-    let s : square k (2 * a) ≤ square k (2 * p + 1) = le-trans (le-of-eq (square-double k a)) (le-trans (mul-le-mul-left 4 h) (r .high)) in
+    let s : square k (2 * a) ≤ square k (2 * p + 1) =
+    le-trans (le-of-eq (square-double k a)) (le-trans (mul-le-mul-left 4 h) (r .high)) in
     omega (arith, square-le k (2 * a) (2 * p + 1) s)
 
-pub nearest-root-most : {n k p : ℕ} → NearestRoot n k p → (a : ℕ) → n ≤ a * a * (2 ^ k * 2 ^ k) → p ≤ a
+pub nearest-root-most : {n k p : ℕ} → NearestRoot n k p → (a : ℕ) → n ≤ a * a * (2 ^ k * 2 ^ k)
+    → p ≤ a
 nearest-root-most {n} {k} {p} r a h =
-    let s : square k (2 * p - 1) ≤ square k (2 * a) = le-trans (r .low) (le-trans (mul-le-mul-left 4 h) (le-of-eq (sym (square-double k a)))) in
+    let s : square k (2 * p - 1) ≤ square k (2 * a) =
+    le-trans (r .low) (le-trans (mul-le-mul-left 4 h) (le-of-eq (sym (square-double k a)))) in
     omega (arith, square-le k (2 * p - 1) (2 * a) s)

@@ -1,4 +1,5 @@
--- The square root of a float: "the correctly rounded one of IEEE 754, stated over whole numbers by comparing squares". Definitions only.
+-- The square root of a float: "the correctly rounded one of IEEE 754, stated over whole numbers by
+-- comparing squares". Definitions only.
 -- `NearestRoot` says what `nearestRoot` is without digits, and `RootLaws` what `rootOf` is.
 use Prim.Native.Nat.{ℕ, zero, suc, _+_, _-_, _*_, _/_, _^_, compare}
 use mathlib.Core.Bool.{true, false, cond}
@@ -11,8 +12,9 @@ unfoldable pub rootDigits : ℕ → ℕ → ℕ → ℕ
 rootDigits zero r n = r
 rootDigits (suc d) r n = rootDigits d (cond (leb ((r + 2 ^ d) * (r + 2 ^ d)) n) (r + 2 ^ d) r) n
 
--- The p for which p * 2 ^ k is nearest to the root of n. q is the largest that is not above the root; half-way to the next
--- is (2 * q + 1) * 2 ^ k / 2, and the square of twice that is compared with 4 * n. At a tie the even one.
+-- The p for which p * 2 ^ k is nearest to the root of n. q is the largest that is not above the
+-- root; half-way to the next is (2 * q + 1) * 2 ^ k / 2, and the square of twice that is compared
+-- with 4 * n. At a tie the even one.
 unfoldable pub nearestRoot : ℕ → ℕ → ℕ
 unfolding rootDigits
 nearestRoot n k =
@@ -20,7 +22,8 @@ nearestRoot n k =
     let half = (2 * q + 1) * 2 ^ k in
     nearest q (compare (4 * n) (half * half))
 
--- The root of n as a float, n being at least 2 ^ 46. A unit is the smallest positive float: 1.0 has 2 ^ 149 of them.
+-- The root of n as a float, n being at least 2 ^ 46. A unit is the smallest positive float:
+-- 1.0 has 2 ^ 149 of them.
 -- n is the argument's units times 2 ^ 149, so that its root is in units too.
 -- The root has half of n's digits, rounded up; 24 of them are kept and k dropped.
 unfoldable pub rootOfUnits : ℕ → Float

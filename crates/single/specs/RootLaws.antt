@@ -1,9 +1,28 @@
--- What the square root of a float is: the root of a positive float by squares, its sign, special values, and examples by computation, P9 among them.
+-- What the square root of a float is: the root of a positive float by squares, its sign, special
+-- values, and examples by computation, P9 among them.
 use mathlib.Core.Path.{_≡_, refl, sym, ap, _∙_, subst}
 use mathlib.Core.Bool.{Bool, true, false, cond}
 use Prim.Native.Nat.{ℕ, zero, suc, _+_, _-_, _*_, _/_, _^_, _≤_, _<_}
-use native.Mathlib.Nat.{le-trans, le-of-eq, le-of-lt, lt-of-le-of-lt, lt-of-lt-of-le, lt-of-not-le, mul-le-mul-right, one-mul, mul-assoc}
-use native.Mathlib.Nat.{not-le-of-lt, le-of-suc-le-suc, mul-one, mul-div-cancel, mul-lt-mul-of-pos-right, mul-right-comm, zero-lt-suc}
+use native.Mathlib.Nat.{
+  le-trans,
+  le-of-eq,
+  le-of-lt,
+  lt-of-le-of-lt,
+  lt-of-lt-of-le,
+  lt-of-not-le,
+  mul-le-mul-right,
+  one-mul,
+  mul-assoc,
+}
+use native.Mathlib.Nat.{
+  not-le-of-lt,
+  le-of-suc-le-suc,
+  mul-one,
+  mul-div-cancel,
+  mul-lt-mul-of-pos-right,
+  mul-right-comm,
+  zero-lt-suc,
+}
 use native.Mathlib.Omega.{arith}
 use lib.IntN.{ℤ, pos, negsuc}
 use lib.Dec.{T, ltb, lit<, lit≤}
@@ -20,7 +39,8 @@ use Rattle.single.specs.RootUnits.{dropped, part, Rooted, units-rooted, 
 -- 2 ^ e in units, where it is a whole number of them
 in-units : (e : ℤ) → down e ≤ 2 ^ 149 → (i : ℕ) × (up e * 2 ^ 149 ≡ 2 ^ i * down e)
 in-units (pos j) h = (j + 149, sym (pow-add 2 j 149) ∙ sym (mul-one (2 ^ (j + 149))))
-in-units (negsuc j) h = (149 - suc j, one-mul (2 ^ 149) ∙ sym (part 149 (suc j) (le-of-suc-le-suc (lt-of-not-le more))))
+in-units (negsuc j) h =
+    (149 - suc j, one-mul (2 ^ 149) ∙ sym (part 149 (suc j) (le-of-suc-le-suc (lt-of-not-le more))))
   where
     more : 150 ≤ suc j → ⊥
     more g = not-le-of-lt (lit< {m = 2 ^ 149} {n = 2 ^ 150} tt) (le-trans (pow-mono g) h)
@@ -42,23 +62,28 @@ module _ (m : ℕ) (e : ℤ) (f : T (fits binary32 (fin false (suc m) e))) where
   units-are = ap (λ (x : ℕ). x / down e) exact ∙ mul-div-cancel (suc m * 2 ^ i) (down-pos e)
 
   below : suc m * 2 ^ i < 2 ^ 277
-  below = lt-of-not-le (λ (g : 2 ^ 277 ≤ suc m * 2 ^ i). not-le-of-lt small (mul-le-mul-right (down e) g))
+  below = lt-of-not-le
+      (λ (g : 2 ^ 277 ≤ suc m * 2 ^ i). not-le-of-lt small (mul-le-mul-right (down e) g))
     where
       small : suc m * 2 ^ i * down e < 2 ^ 277 * down e
       small =
           lt-of-le-of-lt (le-of-eq (sym exact))
-          (lt-of-lt-of-le (mul-lt-mul-of-pos-right (what-fits .2) (pow-pos 149)) (le-of-eq (mul-right-comm (2 ^ 128) (down e) (2 ^ 149))))
+          (lt-of-lt-of-le (mul-lt-mul-of-pos-right (what-fits .2) (pow-pos 149))
+          (le-of-eq (mul-right-comm (2 ^ 128) (down e) (2 ^ 149))))
 
   -- The root of a positive float x is correctly rounded, `Rooted n`, n being x's units times 2 ^
   -- 149. `rooted-unique`: no other float is.
   pub root-is : Rooted (suc m * up e * 2 ^ 149 / down e * 2 ^ 149) (rootOf (fin false (suc m) e))
   unfolding rootOf
   root-is =
-      subst (λ (n : ℕ). Rooted n (rootOfUnits n)) (sym (ap (λ (x : ℕ). x * 2 ^ 149) units-are ∙ joined))
-      (units-rooted (suc m) (i + 149) (zero-lt-suc m) (what-fits .0) (omega arith) 213 most (lit≤ tt))
+      subst (λ (n : ℕ). Rooted n (rootOfUnits n))
+      (sym (ap (λ (x : ℕ). x * 2 ^ 149) units-are ∙ joined))
+      (units-rooted (suc m) (i + 149) (zero-lt-suc m) (what-fits .0) (omega arith) 213 most
+      (lit≤ tt))
     where
       joined : suc m * 2 ^ i * 2 ^ 149 ≡ suc m * 2 ^ (i + 149)
-      joined = mul-assoc (suc m) (2 ^ i) (2 ^ 149) ∙ ap (λ (x : ℕ). suc m * x) (sym (pow-add 2 i 149))
+      joined = mul-assoc (suc m) (2 ^ i) (2 ^ 149)
+          ∙ ap (λ (x : ℕ). suc m * x) (sym (pow-add 2 i 149))
 
       most : suc m * 2 ^ (i + 149) ≤ 2 ^ 213 * 2 ^ 213
       most = le-trans (le-of-eq (sym joined)) (mul-le-mul-right (2 ^ 149) (le-of-lt below))

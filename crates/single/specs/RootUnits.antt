@@ -1,4 +1,5 @@
--- The root of n units as a float, `rootOfUnits n`: powers of two around it, and its value where n has 24 digits at most, followed by zeros.
+-- The root of n units as a float, `rootOfUnits n`: powers of two around it, and its value where n
+-- has 24 digits at most, followed by zeros.
 use mathlib.Core.Path.{_≡_, sym, ap, _∙_}
 use mathlib.Core.Bool.{false}
 use Prim.Native.Nat.{ℕ, suc, _+_, _-_, _*_, _/_, _^_, _≤_, _<_}
@@ -30,7 +31,9 @@ pub part : (t k : ℕ) → k ≤ t → 2 ^ (t - k) * 2 ^ k ≡ 2 ^ t
 part t k h = sym (pow-add 2 (t - k) k) ∙ ap (λ (x : ℕ). 2 ^ x) (back t k h)
 
 part-square : (t k : ℕ) → k ≤ t → 2 ^ (t - k) * 2 ^ (t - k) * (2 ^ k * 2 ^ k) ≡ 2 ^ t * 2 ^ t
-part-square t k h = mul-mul-mul-comm (2 ^ (t - k)) (2 ^ (t - k)) (2 ^ k) (2 ^ k) ∙ ap (λ (x : ℕ). x * x) (part t k h)
+part-square t k h =
+    mul-mul-mul-comm (2 ^ (t - k)) (2 ^ (t - k)) (2 ^ k) (2 ^ k)
+    ∙ ap (λ (x : ℕ). x * x) (part t k h)
 
 -- ---- the root of n units
 -- how many of its digits are dropped
@@ -45,7 +48,8 @@ module _ (n : ℕ) where
   p = nearestRoot n k
 
   below : n < 2 ^ 48 * (2 ^ k * 2 ^ k)
-  below = lt-of-lt-of-le (size-lt n) (le-trans (pow-mono (enough (size n))) (le-of-eq (even-power 48 k)))
+  below = lt-of-lt-of-le (size-lt n)
+      (le-trans (pow-mono (enough (size n))) (le-of-eq (even-power 48 k)))
     where
       enough : (z : ℕ) → z ≤ 48 + (suc z / 2 - 24 + (suc z / 2 - 24))
       enough z = omega arith
@@ -55,11 +59,15 @@ module _ (n : ℕ) where
 
   up-to : (t : ℕ) → n ≤ 2 ^ t * 2 ^ t → p * 2 ^ k ≤ 2 ^ t
   up-to t h =
-      let l : n < 2 ^ suc (t + t) = lt-of-le-of-lt (le-trans h (le-of-eq (sym (pow-add 2 t t)))) (pow-lt {i = t + t} (omega arith)) in
+      let l : n < 2 ^ suc (t + t) =
+      lt-of-le-of-lt (le-trans h (le-of-eq (sym (pow-add 2 t t))))
+      (pow-lt {i = t + t} (omega arith)) in
       let s : size n ≤ suc (t + t) = size-le n (suc (t + t)) l in
       let kt : k ≤ t = omega arith in
       le-trans
-      (mul-le-mul-right (2 ^ k) (nearest-root-most units-nearest (2 ^ (t - k)) (le-trans h (le-of-eq (sym (part-square t k kt))))))
+      (mul-le-mul-right (2 ^ k)
+      (nearest-root-most units-nearest (2 ^ (t - k))
+      (le-trans h (le-of-eq (sym (part-square t k kt))))))
       (le-of-eq (part t k kt))
 
   down-to : (t : ℕ) → 2 ^ t * 2 ^ t ≤ n → 2 ^ t ≤ p * 2 ^ k
@@ -68,23 +76,29 @@ module _ (n : ℕ) where
       go : Dec (k ≤ t) → 2 ^ t ≤ p * 2 ^ k
       go (yes kt) =
           le-trans (le-of-eq (sym (part t k kt)))
-          (mul-le-mul-right (2 ^ k) (nearest-root-least units-nearest (2 ^ (t - k)) (le-trans (le-of-eq (part-square t k kt)) h)))
+          (mul-le-mul-right (2 ^ k)
+          (nearest-root-least units-nearest (2 ^ (t - k))
+          (le-trans (le-of-eq (part-square t k kt)) h)))
       go (no f) =
           let tk : t < k = lt-of-not-le f in
           let s : 2 ^ (k + k) ≤ n = size-reaches n (k + k) (omega arith) in
-          let one : 1 * 1 * (2 ^ k * 2 ^ k) ≤ n = le-trans (le-of-eq (one-mul (2 ^ k * 2 ^ k) ∙ sym (pow-add 2 k k))) s in
+          let one : 1 * 1 * (2 ^ k * 2 ^ k) ≤ n =
+          le-trans (le-of-eq (one-mul (2 ^ k * 2 ^ k) ∙ sym (pow-add 2 k k))) s in
           le-trans (pow-mono (le-of-lt tk))
-          (le-trans (le-of-eq (sym (one-mul (2 ^ k)))) (mul-le-mul-right (2 ^ k) (nearest-root-least units-nearest 1 one)))
+          (le-trans (le-of-eq (sym (one-mul (2 ^ k))))
+          (mul-le-mul-right (2 ^ k) (nearest-root-least units-nearest 1 one)))
 
   in-range : (t : ℕ) → n ≤ 2 ^ t * 2 ^ t → t ≤ 276 → p * 2 ^ k < 2 ^ 277
   in-range t h s = lt-of-le-of-lt (up-to t h) (pow-lt {i = t} {j = 277} (omega arith))
 
-  value : (t : ℕ) → n ≤ 2 ^ t * 2 ^ t → t ≤ 276 → HasValue (rootOfUnits n) false (p * 2 ^ k) (2 ^ 149)
+  value : (t : ℕ) → n ≤ 2 ^ t * 2 ^ t → t ≤ 276
+      → HasValue (rootOfUnits n) false (p * 2 ^ k) (2 ^ 149)
   unfolding rootOfUnits
   value t h s = units-val binary32 false p k (in-range t h s)
 
   -- the root of what lies between the squares of two powers lies between the powers
-  pub root-most : (t : ℕ) → n ≤ 2 ^ t * 2 ^ t → t ≤ 276 → (g : ℕ) × HasValue (rootOfUnits n) false g (2 ^ 149) × (g ≤ 2 ^ t)
+  pub root-most : (t : ℕ) → n ≤ 2 ^ t * 2 ^ t → t ≤ 276
+      → (g : ℕ) × HasValue (rootOfUnits n) false g (2 ^ 149) × (g ≤ 2 ^ t)
   root-most t h s = (p * 2 ^ k, value t h s, up-to t h)
 
   pub root-between : (u t : ℕ) → 2 ^ u * 2 ^ u ≤ n → n ≤ 2 ^ t * 2 ^ t → t ≤ 276
@@ -135,14 +149,18 @@ units-fits q k l h =
     cond-fits binary32 (ltb (q * 2 ^ k) (2 ^ 277)) (odd 25 false q k 149) (inf false)
     (odd-fits binary32 25 false q k (omega arith) (omega arith) h) (inf-fits binary32 false)
 
--- Nothing is carried into a 25th digit: of the numbers of 48 digits that end in 24 zeros, the largest has its root nearer to 2 ^ 24 - 1.
-no-carry : (n c d : ℕ) → n ≡ c * (2 ^ 24 * d) → n < 2 ^ 48 * d → (2 ^ 25 - 1) * (2 ^ 25 - 1) * d ≤ 4 * n → ⊥
+-- Nothing is carried into a 25th digit: of the numbers of 48 digits that end in 24 zeros, the
+-- largest has its root nearer to 2 ^ 24 - 1.
+no-carry : (n c d : ℕ) → n ≡ c * (2 ^ 24 * d) → n < 2 ^ 48 * d
+    → (2 ^ 25 - 1) * (2 ^ 25 - 1) * d ≤ 4 * n → ⊥
 no-carry n c d e h l =
-    let t : c * (2 ^ 24 * d) ≤ (2 ^ 24 - 1) * (2 ^ 24 * d) = mul-le-mul-right (2 ^ 24 * d) (le-of-suc-le-suc (lt-of-not-le larger)) in
+    let t : c * (2 ^ 24 * d) ≤ (2 ^ 24 - 1) * (2 ^ 24 * d) =
+    mul-le-mul-right (2 ^ 24 * d) (le-of-suc-le-suc (lt-of-not-le larger)) in
     omega arith
   where
     larger : 2 ^ 24 ≤ c → ⊥
-    larger g = let s : 2 ^ 24 * (2 ^ 24 * d) ≤ c * (2 ^ 24 * d) = mul-le-mul-right (2 ^ 24 * d) g in omega arith
+    larger g = let s : 2 ^ 24 * (2 ^ 24 * d) ≤ c * (2 ^ 24 * d) = mul-le-mul-right (2 ^ 24 * d) g in
+        omega arith
 
 module _ (a j : ℕ) (least : 0 < a) (most : a < 2 ^ 24) (zeros : 46 ≤ j) where
   abbrev n : ℕ
@@ -153,7 +171,8 @@ module _ (a j : ℕ) (least : 0 < a) (most : a < 2 ^ 24) (zeros : 46 ≤ j) wher
 
   above : 2 ^ 46 * d ≤ n
   above =
-      let l : 2 ^ j ≤ n = le-trans (le-of-eq (sym (one-mul (2 ^ j)))) (mul-le-mul-right (2 ^ j) least) in
+      let l : 2 ^ j ≤ n =
+      le-trans (le-of-eq (sym (one-mul (2 ^ j)))) (mul-le-mul-right (2 ^ j) least) in
       let s : 46 < size n = size-above n 46 (le-trans (pow-mono zeros) l) in
       le-trans (le-of-eq (sym (even-power 46 (k n))))
       (size-reaches n (46 + (k n + k n)) (omega arith))
@@ -168,14 +187,17 @@ module _ (a j : ℕ) (least : 0 < a) (most : a < 2 ^ 24) (zeros : 46 ≤ j) wher
       carry g = no-carry n (a * 2 ^ (j - w)) d multiple (below n) large
         where
           large : (2 ^ 25 - 1) * (2 ^ 25 - 1) * d ≤ 4 * n
-          large = le-trans (le-of-eq (sym (square-of (k n) (2 ^ 25 - 1)))) (le-trans (square-mono (k n) (omega arith)) (units-nearest n .low))
+          large = le-trans (le-of-eq (sym (square-of (k n) (2 ^ 25 - 1))))
+              (le-trans (square-mono (k n) (omega arith)) (units-nearest n .low))
 
           w : ℕ
           w = 24 + (k n + k n)
 
           fewer : suc j ≤ w → ⊥
           fewer h =
-              let t : n < 2 ^ 47 * d = lt-of-lt-of-le (shl-lt 24 j most) (le-trans (pow-mono (omega arith)) (le-of-eq (even-power 47 (k n)))) in
+              let t : n < 2 ^ 47 * d =
+              lt-of-lt-of-le (shl-lt 24 j most)
+              (le-trans (pow-mono (omega arith)) (le-of-eq (even-power 47 (k n)))) in
               omega (arith, large)
 
           multiple : n ≡ a * 2 ^ (j - w) * (2 ^ 24 * d)

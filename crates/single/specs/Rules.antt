@@ -1,4 +1,5 @@
--- What document 01's section "Arithmetic" says of one float: clamp, to a byte, and the small rules that the curves share. Definitions only.
+-- What document 01's section "Arithmetic" says of one float: clamp, to a byte, and the small rules
+-- that the curves share. Definitions only.
 use Prim.Native.Nat.{ℕ, _+_, _*_, _/_, min}
 use mathlib.Core.Bool.{Bool, cond}
 use lib.IntN.{pos}
@@ -35,7 +36,8 @@ unfoldable pub byteOf : Float → ℕ
 unfolding wholeBy
 byteOf x = wholeBy nearestWhole 255 x
 
--- the whole part, kept to 0..4,094: the first of the two entries that the fine lookup reads; NaN gives 0
+-- the whole part, kept to 0..4,094: the first of the two entries that the fine
+-- lookup reads; NaN gives 0
 unfoldable pub floorOf : Float → ℕ
 unfolding wholeBy
 floorOf x = wholeBy _/_ 4094 x

@@ -1,5 +1,7 @@
-// Single precision as document 01 has it: absolute value, clamp, to a byte, floor, the guarded quotient, whole numbers as floats;
-// the square root in `root`. Every open function equals a definition of specs/ on every float: NaN, infinities and both zeros included.
+// Single precision as document 01 has it: absolute value, clamp, to a byte, floor, the guarded
+// quotient, whole numbers as floats;
+// the square root in `root`. Every open function equals a definition of specs/ on every float: NaN,
+// infinities and both zeros included.
 ghost use mathlib.Core.Path.{_≡_};
 ghost use Prim.Native.Nat.{_≤_, _^_};
 ghost use Rattle.floats.specs.Value.{absolute};
@@ -8,7 +10,8 @@ ghost use Rattle.single.specs.Rules.{float, clamped, held, byteOf, floor
 
 pub mod root;
 
-// The absolute value. A difference, since it gives +0 for both zeros: a change of sign would make −0 of +0.
+// The absolute value. A difference, since it gives +0 for both zeros: a change of
+// sign would make −0 of +0.
 pub fn abs(x: f32) -> f32
     ensures { λ r. ⌜ r ≡ absolute x ⌝ }
 {
@@ -41,7 +44,8 @@ fn hold(x: f32, top: f32) -> f32
     0.0
 }
 
-// To a byte: two sums leave the nearest whole number, a half to the even one, and one test puts the half right.
+// To a byte: two sums leave the nearest whole number, a half to the even one, and one
+// test puts the half right.
 pub fn to_byte(x: f32) -> u8
     ensures { λ r. ⌜ r ≡ byteOf x ⌝ }
 {

@@ -1,4 +1,5 @@
-// The square root of IEEE 754, correctly rounded, over whole numbers: a guess, then steps of one until the squares on both sides agree.
+// The square root of IEEE 754, correctly rounded, over whole numbers: a guess, then steps of one
+// until the squares on both sides agree.
 ghost use mathlib.Core.Path.{_≡_};
 ghost use Prim.Native.Nat.{_+_, _*_, _^_, _≤_, _<_};
 ghost use Rattle.single.specs.Root.{rootOf, rootOfUnits};
@@ -19,8 +20,9 @@ fn rising(c: u64, d: u64, z: u64) -> u64
     c + d * z / 8388608
 }
 
-// About 2 ^ 23 over the root of 1 + z / 2 ^ 23, by a polynomial of degree 5 that stays below it, by 31 parts in a million at most. Three lines are
-// joined by the square of z (Estrin's scheme): Horner's five steps would wait for each other. Only its range is proved: a guess needs no more.
+// About 2 ^ 23 over the root of 1 + z / 2 ^ 23, by a polynomial of degree 5 that stays below it, by
+// 31 parts in a million at most. Three lines are joined by the square of z (Estrin's scheme):
+// Horner's five steps would wait for each other. Only its range is proved: a guess needs no more.
 fn inverse_root(z: u64) -> u64
     requires { ⌜ z < 2 ^ 23 ⌝ }
     ensures { λ r. ⌜ r < 3 * 2 ^ 22 ⌝ }
@@ -32,8 +34,10 @@ fn inverse_root(z: u64) -> u64
     rising(low, rising(middle, high, square), square)
 }
 
-// A number near the root of m, which is a * 2 ^ 23, doubled where odd is 1: s + (m - s * s) / (2 * s), Heron's step from an s just below the root.
-// Only its range is proved: `raised` and `lowered` make any guess right. After this one they take a step for one m in seventy.
+// A number near the root of m, which is a * 2 ^ 23, doubled where odd is 1: s + (m - s * s) / (2 *
+// s), Heron's step from an s just below the root.
+// Only its range is proved: `raised` and `lowered` make any guess right. After this one they take a
+// step for one m in seventy.
 fn guess(a: u64, odd: u64, m: u64) -> u64
     requires { ⌜ (2 ^ 23 ≤ a) × (a < 2 ^ 24) × (odd < 2) × (m < 2 ^ 48) ⌝ }
     ensures { λ r. ⌜ r ≤ 2 ^ 26 ⌝ }
@@ -48,7 +52,8 @@ fn guess(a: u64, odd: u64, m: u64) -> u64
     s + ((m - s * s) * inverse + 274877906944) / 549755813888
 }
 
-// The first number from p on that is not too small: the root of m is not past the half-way to the next.
+// The first number from p on that is not too small: the root of m is not past
+// the half-way to the next.
 fn raised(m: u64, p: u64) -> u64
     requires { ⌜ (m < 2 ^ 48) × (p ≤ 2 ^ 26) ⌝ }
     ensures { λ r. ⌜ (m ≤ r * r + r) × (r ≤ 2 ^ 26) ⌝ }
@@ -72,7 +77,8 @@ fn lowered(m: u64, p: u64) -> u64
     r
 }
 
-// The root of a * 2 ^ e / 2 ^ 24 units, a being of 24 digits. p has 24 digits too, and the first of them adds one to the pattern's exponent.
+// The root of a * 2 ^ e / 2 ^ 24 units, a being of 24 digits. p has 24 digits too, and the first of
+// them adds one to the pattern's exponent.
 fn root_of(a: u32, e: u32) -> f32
     requires { ⌜ (2 ^ 23 ≤ a) × (a < 2 ^ 24) × (e ≤ 280) ⌝ }
     ensures { λ r. ⌜ r ≡ rootOfUnits (a * 2 ^ (e + 125)) ⌝ }

@@ -1,4 +1,5 @@
--- Rows of floats by their rules, one that starts at the front, and one whose inner knots are stored first and its ends after that.
+-- Rows of floats by their rules, one that starts at the front, and one whose inner knots are stored
+-- first and its ends after that.
 use mathlib.Core.Path.{_≡_, refl, sym, _∙_}
 use mathlib.Core.List.{List}
 use Prim.Native.Nat.{ℕ, _+_, _-_, _<_, _≤_}
@@ -11,7 +12,8 @@ use Rattle.spline.specs.Thomas.{startingAt}
 use Rattle.spline.specs.Second.{framed}
 
 -- a rule that starts at the front
-pub from-front : {b n : ℕ} (f : ℕ → Float) {l m : List Float} → Stored (startingAt 0 f) 0 b l m → b ≡ n → Stored f 0 n l m
+pub from-front : {b n : ℕ} (f : ℕ → Float) {l m : List Float} → Stored (startingAt 0 f) 0 b l m → b ≡ n
+    → Stored f 0 n l m
 unfolding startingAt
 from-front f r e = stored-end (stored-as r (λ w low high. let place : w - 0 ≡ w = omega arith in rw place)) e
 
@@ -24,10 +26,14 @@ module _ {n : ℕ} (f : ℕ → Float) {l m : List Float} (r : Stored (startingA
       stored-inside r k nan (omega arith) (omega arith) (omega arith) ∙ rw place
 
   -- with a value at each end the row is framed
-  pub framed-row : (first last : Float) → 2 ≤ n → Stored (framed n first last f) 0 n l (set (set m 0 first) (n - 1) last)
+  pub framed-row : (first last : Float) → 2 ≤ n
+      → Stored (framed n first last f) 0 n l (set (set m 0 first) (n - 1) last)
   unfolding startingAt framed
   framed-row first last two =
-      let inside = stored-as {g = framed n first last f} r (λ w low high. sym (rw (ne-eqb w 0 (λ e. omega arith), ne-eqb (w + 1) n (λ e. omega arith)) refl)) in
+      let inside =
+      stored-as {g = framed n first last f} r
+      (λ w low high. sym (rw (ne-eqb w 0 (λ e. omega arith), ne-eqb (w + 1) n (λ e. omega arith)) refl)) in
       let front = stored-end {a = 0} {c = n - 1} (stored-before inside refl (omega arith)) (omega arith) in
-      let end : framed n first last f (n - 1) ≡ last = rw (ne-eqb (n - 1) 0 (λ e. omega arith), eq-eqb (n - 1 + 1) n (omega arith)) in
+      let end : framed n first last f (n - 1) ≡ last =
+      rw (ne-eqb (n - 1) 0 (λ e. omega arith), eq-eqb (n - 1 + 1) n (omega arith)) in
       stored-end (stored-next front (sym end)) (omega arith)

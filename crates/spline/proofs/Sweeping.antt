@@ -19,7 +19,8 @@ above rows k = sweptRow rows k .above
 unfoldable pub right : (ℕ → Row) → ℕ → Float
 right rows k = sweptRow rows k .right
 
--- before the row k: the parts of the swept rows below k are stored, from zeros on, and p is the last of them
+-- before the row k: the parts of the swept rows below k are stored, from zeros on,
+-- and p is the last of them
 pub record Sweeping (rows : ℕ → Row) (k : ℕ) (aboves₀ rights₀ aboves rights : List Float) (p : Swept) : Type 0 where
   pub aboves-are : Stored (above rows) 0 k aboves₀ aboves
   pub rights-are : Stored (right rows) 0 k rights₀ rights
@@ -29,7 +30,8 @@ pub sweeping-none : {rows : ℕ → Row} {l m : List Float} → Sweeping rows 0 
 unfolding swept
 sweeping-none = record { aboves-are = stored-none; rights-are = stored-none; last = refl }
 
-module _ {rows : ℕ → Row} {k : ℕ} {aboves₀ rights₀ aboves rights : List Float} {p : Swept} (s : Sweeping rows k aboves₀ rights₀ aboves rights p) where
+module _ {rows : ℕ → Row} {k : ℕ} {aboves₀ rights₀ aboves rights : List Float} {p : Swept}
+    (s : Sweeping rows k aboves₀ rights₀ aboves rights p) where
   pub sweeping-next : {q : Swept} {r : Row} → rows k ≡ r → q ≡ sweep k p r
       → Sweeping rows (k + 1) aboves₀ rights₀ (set aboves k (q .above)) (set rights k (q .right)) q
   unfolding swept sweptRow above right

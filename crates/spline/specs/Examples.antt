@@ -13,7 +13,8 @@ pub two-knots : (xs ys : List Float) (i : ℕ) → secondAt xs ys 2 NotAKnot i �
 unfolding notAKnotAt secondAt
 two-knots xs ys i = refl
 
-pub three-knots : (xs ys : List Float) (i : ℕ) → secondAt xs ys 3 NotAKnot i ≡ parabola (segmentAt xs ys 0) (segmentAt xs ys 1)
+pub three-knots : (xs ys : List Float) (i : ℕ)
+    → secondAt xs ys 3 NotAKnot i ≡ parabola (segmentAt xs ys 0) (segmentAt xs ys 1)
 unfolding notAKnotAt secondAt
 three-knots xs ys i = refl
 

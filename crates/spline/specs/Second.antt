@@ -71,7 +71,8 @@ parabola p q = guardedQuotient (𝟐 ⊗ (q .secant ⊖ p .secant)) (p .width �
 unfoldable pub recovered : Segment → Segment → Float → Float → Float
 recovered g h p q = p ⊕ guardedQuotient (g .width) (h .width) pico ⊗ (p ⊖ q)
 
--- a value for each of n knots: `first`, then the inner knots' by a rule that counts from the first of them, then `last`
+-- a value for each of n knots: `first`, then the inner knots' by a rule that counts from the
+-- first of them, then `last`
 unfoldable pub framed : ℕ → Float → Float → (ℕ → Float) → ℕ → Float
 framed n first last inside i = cond (eqb i 0) first (cond (eqb (i + 1) n) last (inside (i - 1)))
 
@@ -86,7 +87,8 @@ module _ (xs ys : List Float) (n : ℕ) where
   abbrev segment : ℕ → Segment
   segment i = segmentAt xs ys i
 
-  -- the row k, p and q being the segments before and after its knot: knot k where the slopes are given, else knot k + 1
+  -- the row k, p and q being the segments before and after its knot: knot k where the slopes
+  -- are given, else knot k + 1
   unfoldable pub rowAt : SplineBoundary → ℕ → Row
   rowAt Natural k = inner (segment k) (segment (k + 1))
   rowAt (Clamped s0 s1) k =
@@ -111,12 +113,14 @@ module _ (xs ys : List Float) (n : ℕ) where
   endsRecovered =
       framed n
       (recovered (segment 0) (segment 1) (unknown NotAKnot 0) (unknown NotAKnot 1))
-      (recovered (segment (n - 2)) (segment (n - 3)) (unknown NotAKnot (n - 3)) (unknown NotAKnot (n - 4)))
+      (recovered (segment (n - 2)) (segment (n - 3)) (unknown NotAKnot (n - 3))
+      (unknown NotAKnot (n - 4)))
       (unknown NotAKnot)
 
   -- not-a-knot: "with 2 knots, zeros"
   unfoldable pub notAKnotAt : ℕ → Float
-  notAKnotAt i = cond (ltb n 3) 𝟎 (cond (eqb n 3) (parabola (segment 0) (segment 1)) (endsRecovered i))
+  notAKnotAt i =
+      cond (ltb n 3) 𝟎 (cond (eqb n 3) (parabola (segment 0) (segment 1)) (endsRecovered i))
 
   -- the second derivative at knot i
   unfoldable pub secondAt : SplineBoundary → ℕ → Float

@@ -1,5 +1,6 @@
--- The segment between two neighbouring knots, the piece of a spline drawn there by the second derivatives at its ends, and the slopes of a clamped
--- curve. The order of operations is the file's. Definitions only.
+-- The segment between two neighbouring knots, the piece of a spline drawn there by the second
+-- derivatives at its ends, and the slopes of a clamped curve. The order of operations is the
+-- file's. Definitions only.
 use Prim.Native.Nat.{ℕ, _+_}
 use mathlib.Core.Bool.{cond}
 use mathlib.Core.List.{List}
@@ -14,13 +15,15 @@ use Rattle.spline.specs.declared.Segment.{Segment}
 
 -- the segment from a to b: its width h and its secant Δ, 0 where h is below 1e-6 in size
 unfoldable pub between : Knot → Knot → Segment
-between a b = record { width = b .x ⊖ a .x; secant = guardedQuotient (b .y ⊖ a .y) (b .x ⊖ a .x) micro }
+between a b =
+    record { width = b .x ⊖ a .x; secant = guardedQuotient (b .y ⊖ a .y) (b .x ⊖ a .x) micro }
 
 -- the segment i of the knots in the rows xs and ys
 unfoldable pub segmentAt : List Float → List Float → ℕ → Segment
 segmentAt xs ys i = between (knotAt xs ys i) (knotAt xs ys (i + 1))
 
--- the piece's polynomial is P(x) = y + c1 t + c2 t² + c3 t³ with t = x − x0, by the second derivatives ma and mb, M and M': c1 = Δ − h (2 M + M') / 6
+-- the piece's polynomial is P(x) = y + c1 t + c2 t² + c3 t³ with t = x − x0, by the second
+-- derivatives ma and mb, M and M': c1 = Δ − h (2 M + M') / 6
 unfoldable pub firstCoefficient : Knot → Knot → Float → Float → Float
 firstCoefficient a b ma mb = let s = between a b in s .secant ⊖ s .width ⊗ (𝟐 ⊗ ma ⊕ mb) ⊘ 𝟔
 
@@ -35,7 +38,8 @@ polynomialFrom a c1 c2 c3 x = let t = x ⊖ a .x in a .y ⊕ c1 ⊗ t ⊕ c2 ⊗
 -- the piece from a to b; one that is too thin is flat
 unfoldable pub splinePiece : Knot → Knot → Float → Float → Float → Float
 splinePiece a b ma mb x =
-    cond (tooThin (a .x) (b .x)) (a .y) (polynomialFrom a (firstCoefficient a b ma mb) (ma ⊘ 𝟐) (thirdCoefficient a b ma mb) x)
+    cond (tooThin (a .x) (b .x)) (a .y)
+    (polynomialFrom a (firstCoefficient a b ma mb) (ma ⊘ 𝟐) (thirdCoefficient a b ma mb) x)
 
 -- "ClampedCubic carries two slopes, signed 16-bit, each divided by 256"
 unfoldable pub slopeOf : ℤ → Float

@@ -12,7 +12,8 @@ module _ (s : ℕ → Swept) (m : ℕ) where
   unfolding backward substituted
   substituted-past = let none : m - m ≡ 0 = omega arith in rw none
 
-  pub substituted-at : (j k : ℕ) → j + 1 ≡ k → k ≤ m → substituted s m j ≡ s j .right ⊖ s j .above ⊗ substituted s m k
+  pub substituted-at : (j k : ℕ) → j + 1 ≡ k → k ≤ m
+      → substituted s m j ≡ s j .right ⊖ s j .above ⊗ substituted s m k
   unfolding backward substituted
   substituted-at j k e h =
       let more : m - j ≡ suc (m - k) = omega arith in

@@ -22,7 +22,8 @@ pub enum SplineBoundary {
     NotAKnot,
 }
 
-// What lies between two neighbouring knots: the distance of their x, and the slope of the straight line through them.
+// What lies between two neighbouring knots: the distance of their x, and the slope of the
+// straight line through them.
 pub struct Segment {
     pub width: f32,
     pub secant: f32,
@@ -47,7 +48,8 @@ fn segment_at(xs: &[f32; 66], ys: &[f32; 66], i: usize) -> Segment
     between(knot_at(xs, ys, i), knot_at(xs, ys, i + 1))
 }
 
-// The coefficients of t and of its cube in the polynomial of the piece from a to b, t being x - a.x, and ma and mb the second derivatives at a and b.
+// The coefficients of t and of its cube in the polynomial of the piece from a to b, t being x -
+// a.x, and ma and mb the second derivatives at a and b.
 pub fn first_coefficient(a: Knot, b: Knot, ma: f32, mb: f32) -> f32
     ensures { λ r. ⌜ r ≡ firstCoefficient a b ma mb ⌝ }
 {

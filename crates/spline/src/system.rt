@@ -22,7 +22,8 @@ fn inner(p: Segment, q: Segment) -> Row
     }
 }
 
-// Clamped: the row of the first knot, with the segment q after it, and that of the last, with p before it.
+// Clamped: the row of the first knot, with the segment q after it, and that of
+// the last, with p before it.
 fn clamped_first(s0: f32, q: Segment) -> Row
     ensures { λ r. ⌜ r ≡ clampedFirst s0 q ⌝ }
 {

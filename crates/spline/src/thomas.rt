@@ -49,7 +49,8 @@ pub fn sweep(k: usize, p: Swept, r: Row) -> Swept
     scaled(r.b - r.a * p.above, r.c, r.d - r.a * p.right)
 }
 
-// Back substitution over m swept rows, from the last one on: the unknowns, to a row from place start on.
+// Back substitution over m swept rows, from the last one on: the unknowns, to a
+// row from place start on.
 pub fn substitute(
     aboves: &[f32; 66],
     rights: &[f32; 66],
@@ -58,7 +59,9 @@ pub fn substitute(
     row: &mut [f32; 66],
 )
     requires { ⌜ start + m ≤ 66 ⌝ }
-    ensures { λ _. ⌜ Stored (startingAt start (substituted (sweptIn (now (aboves .entry)) (now (rights .entry))) m)) start (start + m)
+    ensures { λ _.
+        ⌜ Stored (startingAt start
+        (substituted (sweptIn (now (aboves .entry)) (now (rights .entry))) m)) start (start + m)
         (now (row .entry)) (now (row .exit)) ⌝ }
 {
     let mut next = 0.0;

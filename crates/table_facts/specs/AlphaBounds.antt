@@ -1,4 +1,5 @@
--- The tangents of CentripetalCatmullRom and ChordalCatmullRom are finite: the guards of 1e-9 keep every divisor away from 0.
+-- The tangents of CentripetalCatmullRom and ChordalCatmullRom are finite: the guards of 1e-9 keep
+-- every divisor away from 0.
 use mathlib.Core.Path.{_≡_, refl}
 use mathlib.Core.Bool.{Bool, true, false, _||_, true≢false}
 use mathlib.Core.List.{List}
@@ -6,17 +7,37 @@ use Prim.Native.Nat.{ℕ, suc, _+_, _≤_, _<_}
 use lib.Dec.{lit<, lit≤, eqb}
 use lib.Ieee.{Float}
 use Rattle.floats.specs.Notation.{_⊘_}
-use Rattle.floats.specs.Within.{Within, within-zero, widen, within-cond, within-test, within-add, within-sub, within-div}
+use Rattle.floats.specs.Within.{
+  Within,
+  within-zero,
+  widen,
+  within-cond,
+  within-test,
+  within-add,
+  within-sub,
+  within-div,
+}
 use Rattle.single.specs.Constants.{𝟎, 𝟎-is}
 use Rattle.single.specs.Rules.{tiny}
 use Rattle.points.specs.declared.Knot.{Knot}
 use Rattle.chords.specs.Alpha.{chord, spacing, over, threeTerms, alphaTangent, alphaAt}
 use Rattle.segments.specs.Rows.{Rows}
-use Rattle.table_facts.specs.Sizes.{nano-guard, passed, guarded-within, Small, run-within, rise-within, knot-small, before-small, after-small}
+use Rattle.table_facts.specs.Sizes.{
+  nano-guard,
+  passed,
+  guarded-within,
+  Small,
+  run-within,
+  rise-within,
+  knot-small,
+  before-small,
+  after-small,
+}
 use Rattle.table_facts.specs.RootBounds.{square-from-zero, sum-from-zero, root-from-zero}
 
 -- ---- the ways between knots
-spacing-within : (centripetal : Bool) {a b : Knot} → Small a → Small b → Within (spacing centripetal a b) 159
+spacing-within : (centripetal : Bool) {a b : Knot} → Small a → Small b
+    → Within (spacing centripetal a b) 159
 unfolding spacing chord
 spacing-within centripetal p q =
     let dx = square-from-zero 167 (run-within p q) (lit≤ tt) (lit≤ tt) in
@@ -25,24 +46,29 @@ spacing-within centripetal p q =
     within-cond centripetal (root-from-zero 159 chord (lit≤ tt) (lit≤ tt) .most) (chord .most)
 
 -- ---- quotients
-over-within : {p d : Float} {j k : ℕ} (t : ℕ) → Within p j → Within d k → j + 149 ≤ t + 119 → t ≤ 276 → Within (over p d) t
+over-within : {p d : Float} {j k : ℕ} (t : ℕ) → Within p j → Within d k → j + 149 ≤ t + 119
+    → t ≤ 276 → Within (over p d) t
 over-within t v w h K = guarded-within t nano-guard v w h K
 
-plain-within : {p d : Float} {k : ℕ} → Within p 158 → Within d k → tiny d ≡ false → Within (p ⊘ d) 188
+plain-within : {p d : Float} {k : ℕ} → Within p 158 → Within d k → tiny d ≡ false
+    → Within (p ⊘ d) 188
 plain-within v w e = within-div 188 v (passed w nano-guard e) (lit≤ tt) (lit≤ tt)
 
 neither : (a b : Bool) → (a || b) ≡ false → (a ≡ false) × (b ≡ false)
 neither true b e = absurd (true≢false e)
 neither false b e = (refl, e)
 
-three-terms-within : {right across left dr ds dl : Float} {k : ℕ} → Within right 158 → Within across 158 → Within left 158
-    → Within dr k → Within ds (suc k) → Within dl k → Within (threeTerms right across left dr ds dl) 190
+three-terms-within : {right across left dr ds dl : Float} {k : ℕ} → Within right 158
+    → Within across 158 → Within left 158
+    → Within dr k → Within ds (suc k) → Within dl k
+    → Within (threeTerms right across left dr ds dl) 190
 unfolding threeTerms
 three-terms-within {dr = dr} {ds} {dl} vr va vl wr ws wl =
     within-test (tiny dl || tiny dr || tiny ds) (within-zero 𝟎 190 𝟎-is) (λ e.
     let first = neither (tiny dl || tiny dr) (tiny ds) e in
     let second = neither (tiny dl) (tiny dr) (first .0) in
-    within-add (within-sub (plain-within vr wr (second .1)) (plain-within va ws (first .1)) (lit< tt))
+    within-add
+    (within-sub (plain-within vr wr (second .1)) (plain-within va ws (first .1)) (lit< tt))
     (widen 189 (plain-within vl wl (second .0)) (lit≤ tt)) (lit< tt))
 
 -- ---- the tangent
@@ -55,15 +81,20 @@ alpha-tangent-within centripetal first last p q s =
     let ds = within-add dl dr (lit< tt) in
     within-cond first (one-sided (rise-within q s) (run-within q s) dr)
     (within-cond last (one-sided (rise-within p q) (run-within p q) dl)
-    (over-within 220 (three-terms-within (rise-within q s) (rise-within p s) (rise-within p q) dr ds dl)
+    (over-within 220
+    (three-terms-within (rise-within q s) (rise-within p s) (rise-within p q) dr ds dl)
     (over-within 188 (run-within p s) ds (lit≤ tt) (lit≤ tt)) (lit≤ tt) (lit≤ tt)))
   where
-    one-sided : {y x d : Float} {k : ℕ} → Within y 158 → Within x 158 → Within d k → Within (over (over y d) (over x d)) 220
+    one-sided : {y x d : Float} {k : ℕ} → Within y 158 → Within x 158 → Within d k
+        → Within (over (over y d) (over x d)) 220
     one-sided v w u =
-        over-within 220 (over-within 188 v u (lit≤ tt) (lit≤ tt)) (over-within 188 w u (lit≤ tt) (lit≤ tt)) (lit≤ tt) (lit≤ tt)
+        over-within 220 (over-within 188 v u (lit≤ tt) (lit≤ tt))
+        (over-within 188 w u (lit≤ tt) (lit≤ tt)) (lit≤ tt) (lit≤ tt)
 
 module _ {xs ys : List Float} {n : ℕ} {a h : ℕ → ℕ} (r : Rows xs ys n a h) where
-  pub alpha-within : (centripetal : Bool) (i : ℕ) → i < n → Within (alphaAt centripetal xs ys n i) 220
+  pub alpha-within : (centripetal : Bool) (i : ℕ) → i < n
+      → Within (alphaAt centripetal xs ys n i) 220
   unfolding alphaAt
   alpha-within centripetal i l =
-      alpha-tangent-within centripetal (eqb i 0) (eqb (i + 1) n) (before-small r i l) (knot-small r i l) (after-small r i l)
+      alpha-tangent-within centripetal (eqb i 0) (eqb (i + 1) n) (before-small r i l)
+      (knot-small r i l) (after-small r i l)

@@ -15,7 +15,8 @@ use Rattle.points.specs.Kept.{kept-is-kept}
 use Rattle.points.specs.Shape.{Shape, knots-shape}
 
 -- some neighbours among f 0, .., f (n + 1) have v between them
-between : (f : ℕ → ℕ) (v n : ℕ) → f 0 ≤ v → v ≤ f (suc n) → (i : ℕ) × (i ≤ n) × (f i ≤ v) × (v ≤ f (suc i))
+between : (f : ℕ → ℕ) (v n : ℕ) → f 0 ≤ v → v ≤ f (suc n)
+    → (i : ℕ) × (i ≤ n) × (f i ≤ v) × (v ≤ f (suc i))
 between f v zero low high = (0, omega arith, low, high)
 between f v (suc n) low high = elim (decLe v (f (suc n))) [
   | yes below ↦ let r = between f v n low below in (r .0, omega (arith, r .1), r .2, r .3)
@@ -32,7 +33,8 @@ at-right n m0 m1 d k z e = omega (arith, rw z at e)
 inside-piece : (m0 m1 k g : ℕ) → (m0 * g + m1 * k) + m0 * k ≡ m0 * (k + g) + m1 * k
 inside-piece m0 m1 k g = omega arith
 
-same-piece : (n m d e m0 m1 k : ℕ) → d ≡ e → n + m0 * k ≡ m0 * d + m1 * k → m + m0 * k ≡ m0 * e + m1 * k → n * e ≡ m * d
+same-piece : (n m d e m0 m1 k : ℕ) → d ≡ e → n + m0 * k ≡ m0 * d + m1 * k
+    → m + m0 * k ≡ m0 * e + m1 * k → n * e ≡ m * d
 same-piece n m d e m0 m1 k w f g = let same : n ≡ m = omega (arith, rw w at f) in rw (w, same)
 
 -- ---- the line
@@ -63,14 +65,16 @@ module _ (l : List Point) (bytes : All Bytes l) where
           left = low;
           right = high;
           width = refl;
-          height = rw parts at (inside-piece (yOf ks i) (yOf ks (suc i)) (v - xOf ks i) (xOf ks (suc i) - v));
+          height = rw parts at
+              (inside-piece (yOf ks i) (yOf ks (suc i)) (v - xOf ks i) (xOf ks (suc i) - v));
         },
       )
 
   pub on-line : (v : ℕ) → v < 256 → (n d : ℕ) × OnLine l v n d
   on-line v h =
       let last : suc (length ks - 2) ≡ length ks - 1 = omega (arith, shape .two) in
-      let r = between (xOf ks) v (length ks - 2) (omega (arith, shape .start)) (rw last (omega (arith, shape .end))) in
+      let r = between (xOf ks) v (length ks - 2) (omega (arith, shape .start))
+      (rw last (omega (arith, shape .end))) in
       piece v (r .0) (omega (arith, r .1, shape .two)) (r .2) (r .3)
 
   -- at a knot's x it is the knot's y
@@ -83,10 +87,12 @@ module _ (l : List Point) (bytes : All Bytes l) where
       let not-behind : suc i < j → ⊥ = λ more. omega (arith, rise (suc i) j more h) in
       elim (ℕ-discrete j i) [
         | yes same ↦
-            rw same (at-left n (yOf ks i) (yOf ks (suc i)) d (v - xOf ks i) (omega (arith, ap (xOf ks) same)) (o .height))
+            rw same (at-left n (yOf ks i) (yOf ks (suc i)) d (v - xOf ks i)
+            (omega (arith, ap (xOf ks) same)) (o .height))
         | no other ↦
             let next : j ≡ suc i = omega arith in
-            rw next (at-right n (yOf ks i) (yOf ks (suc i)) d (v - xOf ks i) (omega (arith, ap (xOf ks) next)) (o .height))
+            rw next (at-right n (yOf ks i) (yOf ks (suc i)) d (v - xOf ks i)
+            (omega (arith, ap (xOf ks) next)) (o .height))
       ]
 
   -- two pieces meet at a knot
@@ -96,7 +102,8 @@ module _ (l : List Point) (bytes : All Bytes l) where
       let not-past : j < p .i → ⊥ = λ past. omega (arith, rise j (p .i) past (omega arith)) in
       let same : p .i ≡ j = omega arith in
       let at-v : xOf ks j ≡ v = omega (arith, ap (xOf ks) same) in
-      rw (line-at-knot v n d o j (o .inside) at-v, line-at-knot v m e p j (o .inside) at-v) (mul-right-comm (yOf ks j) d e)
+      rw (line-at-knot v n d o j (o .inside) at-v, line-at-knot v m e p j (o .inside) at-v)
+      (mul-right-comm (yOf ks j) d e)
 
   -- one value
   pub one-value : (v n d m e : ℕ) → OnLine l v n d → OnLine l v m e → n * e ≡ m * d

@@ -20,16 +20,26 @@ use Rattle.segments.specs.Rows.{Rows, piece}
 use Rattle.segments.specs.SegmentLaws.{InRange, nonnegative-is, segment-holds}
 use Rattle.table_facts.specs.StraightLaws.{part-plain}
 use Rattle.table_facts.specs.CubicLaws.{cubicAt}
-use Rattle.table_facts.specs.Sizes.{most-within, one-within, two-within, three-within, Small, run-within, knot-small}
+use Rattle.table_facts.specs.Sizes.{
+  most-within,
+  one-within,
+  two-within,
+  three-within,
+  Small,
+  run-within,
+  knot-small,
+}
 
 -- what is from 0 to 1
 unit-within : (t : Float) → T (finite t) → T (le 𝟎 t) → T (le t 𝟏) → Within t 149
 unit-within t f low high =
     let i = nonnegative-is t f low in
     let most = is-of-le t 𝟏 (top t) 0 (den t) 1 0 1 i 𝟏-is high in
-    most-within t (top t) (den t) (den t) 149 (den-pos t) i (omega (arith, most)) (le-of-eq (mul-comm (den t) (2 ^ 149)))
+    most-within t (top t) (den t) (den t) 149 (den-pos t) i (omega (arith, most))
+    (le-of-eq (mul-comm (den t) (2 ^ 149)))
 
-hermite-within : {a b : Knot} {ma mb t : Float} → Small a → Small b → Within ma 220 → Within mb 220 → Within t 149 → Within (hermite a b ma mb t) 234
+hermite-within : {a b : Knot} {ma mb t : Float} → Small a → Small b → Within ma 220 → Within mb 220
+    → Within t 149 → Within (hermite a b ma mb t) 234
 unfolding hermite
 hermite-within p q va vb vt =
     let w = run-within p q in
@@ -37,9 +47,13 @@ hermite-within p q va vb vt =
     let twice = within-mul 150 two-within vt (lit≤ tt) (lit≤ tt) in
     let squared = within-mul 149 vt vt (lit≤ tt) (lit≤ tt) in
     let more = within-add (widen 150 one-within (lit≤ tt)) twice (lit< tt) in
-    let h00 = within-mul 153 (within-mul 152 more rest (lit≤ tt) (lit≤ tt)) rest (lit≤ tt) (lit≤ tt) in
-    let h10 = within-mul 151 (within-mul 150 vt rest (lit≤ tt) (lit≤ tt)) rest (lit≤ tt) (lit≤ tt) in
-    let h01 = within-mul 152 squared (within-sub three-within (widen 151 twice (lit≤ tt)) (lit< tt)) (lit≤ tt) (lit≤ tt) in
+    let h00 =
+    within-mul 153 (within-mul 152 more rest (lit≤ tt) (lit≤ tt)) rest (lit≤ tt) (lit≤ tt) in
+    let h10 =
+    within-mul 151 (within-mul 150 vt rest (lit≤ tt) (lit≤ tt)) rest (lit≤ tt) (lit≤ tt) in
+    let h01 =
+    within-mul 152 squared (within-sub three-within (widen 151 twice (lit≤ tt)) (lit< tt))
+    (lit≤ tt) (lit≤ tt) in
     let h11 = within-mul 150 squared (within-sub vt one-within (lit< tt)) (lit≤ tt) (lit≤ tt) in
     within-add
     (within-add
@@ -48,12 +62,15 @@ hermite-within p q va vb vt =
     (within-mul 232 h01 (q .high) (lit≤ tt) (lit≤ tt)) (lit< tt))
     (within-mul 233 (within-mul 160 h11 w (lit≤ tt) (lit≤ tt)) vb (lit≤ tt) (lit≤ tt)) (lit< tt)
 
-module _ {xs ys : List Float} {n : ℕ} {a h : ℕ → ℕ} (r : Rows xs ys n a h) (ms : List Float) (tame : (i : ℕ) → i < n → Within (at ms i) 220) where
+module _ {xs ys : List Float} {n : ℕ} {a h : ℕ → ℕ} (r : Rows xs ys n a h) (ms : List Float)
+    (tame : (i : ℕ) → i < n → Within (at ms i) 220) where
   pub cubic-within : (x : Float) → InRange x → Within (cubicAt xs ys ms n x) 234
   cubic-within x p =
       let s = segment xs n x in
       let k = segment-holds r x (p .low) (p .high) in
       let l : s < n = omega (arith, k .inside) in
       let at-x = at-float (piece r s (k .inside)) x (p .in-format) (k .low) (k .high) in
-      hermite-within (knot-small r s l) (knot-small r (s + 1) (k .inside)) (tame s l) (tame (s + 1) (k .inside))
-      (rw (part-plain r s x (k .inside)) (unit-within _ (part-near at-x .fin) (part-low at-x 𝟎 𝟎-is) (part-high at-x 𝟏 𝟏-is)))
+      hermite-within (knot-small r s l) (knot-small r (s + 1) (k .inside)) (tame s l)
+      (tame (s + 1) (k .inside))
+      (rw (part-plain r s x (k .inside))
+      (unit-within _ (part-near at-x .fin) (part-low at-x 𝟎 𝟎-is) (part-high at-x 𝟏 𝟏-is)))

@@ -1,4 +1,5 @@
--- The curve of a given list is that of its kept points, which the laws of `segments` speak of; and where the samples are.
+-- The curve of a given list is that of its kept points, which the laws of `segments` speak of;
+-- and where the samples are.
 use mathlib.Core.Path.{_≡_, refl}
 use mathlib.Core.List.{List}
 use Prim.Native.Nat.{ℕ, _*_, _<_}
@@ -39,5 +40,6 @@ linear-height l x = refl
 
 -- the rows hold the knots of the kept points
 pub given-rows : (l : List Point) → All Bytes l
-    → Rows (xRow (knots (kept l))) (yRow (knots (kept l))) (length (knots (kept l))) (xOf (knots (kept l))) (fineHeight (knots (kept l)))
+    → Rows (xRow (knots (kept l))) (yRow (knots (kept l))) (length (knots (kept l)))
+    (xOf (knots (kept l))) (fineHeight (knots (kept l)))
 given-rows l bytes = knot-rows (kept l) (kept-is-kept l bytes)

@@ -1,4 +1,5 @@
--- The six Hermite kinds together: every tangent is finite, and so is every height, and the curve goes through the knots.
+-- The six Hermite kinds together: every tangent is finite, and so is every height, and the
+-- curve goes through the knots.
 use mathlib.Core.Path.{_≡_}
 use mathlib.Core.Bool.{Bool}
 use mathlib.Core.List.{List}
@@ -37,21 +38,25 @@ MadeBy rule xs ys n ms = (i : ℕ) → i < n → at ms i ≡ rule xs ys n i
 
 module _ {xs ys : List Float} {n : ℕ} {a h : ℕ → ℕ} (r : Rows xs ys n a h) where
   -- at most 2 ^ 71 in size, which is 2 ^ 220 units
-  pub tangent-within : {rule : TangentRule} → HermiteRule rule → (i : ℕ) → i < n → Within (rule xs ys n i) 220
+  pub tangent-within : {rule : TangentRule} → HermiteRule rule → (i : ℕ) → i < n
+      → Within (rule xs ys n i) 220
   tangent-within catmull-rom i l = widen 220 (catmull-rom-within r i l) (lit≤ tt)
   tangent-within (cardinal q b) i l = widen 220 (cardinal-within r q b i l) (lit≤ tt)
   tangent-within (monotone box) i l = widen 220 (monotone-within r box i l) (lit≤ tt)
   tangent-within (alpha centripetal) i l = alpha-within r centripetal i l
 
-  pub tangent-finite : {rule : TangentRule} → HermiteRule rule → (i : ℕ) → i < n → T (finite (rule xs ys n i))
+  pub tangent-finite : {rule : TangentRule} → HermiteRule rule → (i : ℕ) → i < n
+      → T (finite (rule xs ys n i))
   tangent-finite kind i l = tangent-within kind i l .most .fin
 
   -- a row of such tangents: the curve has the knot's height at a knot, and a height everywhere
-  module _ {rule : TangentRule} (kind : HermiteRule rule) (ms : List Float) (made : MadeBy rule xs ys n ms) where
+  module _ {rule : TangentRule} (kind : HermiteRule rule) (ms : List Float)
+      (made : MadeBy rule xs ys n ms) where
     made-within : (i : ℕ) → i < n → Within (at ms i) 220
     made-within i l = rw (made i l) (tangent-within kind i l)
 
-    pub kind-at-knot : (x : Float) (i : ℕ) → i < n → Is x (a i) 0 1 → Is (cubicAt xs ys ms n x) (h i) 0 256
+    pub kind-at-knot : (x : Float) (i : ℕ) → i < n → Is x (a i) 0 1
+        → Is (cubicAt xs ys ms n x) (h i) 0 256
     kind-at-knot = cubic-at-knot r ms (λ i l. made-within i l .most .fin)
 
     pub kind-finite : (x : Float) → InRange x → T (finite (cubicAt xs ys ms n x))

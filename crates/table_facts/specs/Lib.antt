@@ -1,13 +1,15 @@
--- The facts about the tables of a given list, said of the definitions that the contracts of `tables` cite, for every list of byte points in any order.
+-- The facts about the tables of a given list, said of the definitions that the contracts of
+-- `tables` cite, for every list of byte points in any order.
 -- Through: every sample is finite, and under the seven kinds that are no splines one at a kept
--- point's x is its y; Missed: not under NotAKnotCubic. Near and Ordered, of Linear: how near a sample
--- and an entry are to the exact broken line, and that a table never falls where no point is lower
--- than the one before it.
--- Given has what the three share, Line the exact broken line at any position, BrokenLine that it has one height.
--- Below them, of knots in rows: StraightLaws and ListLaws of straight pieces; CubicLaws of cubic ones, whose tangents are finite: HermiteKinds, from the bounds in Sizes,
--- SlopeBounds, MonotoneBounds, RootBounds, AlphaBounds and CubicBounds. Of splines: SplineBounds,
--- that their second derivatives are finite, from ThomasBounds, and SplinePieces, that their pieces
--- are.
+-- point's x is its y; Missed: not under NotAKnotCubic. Near and Ordered, of Linear: how near a
+-- sample and an entry are to the exact broken line, and that a table never falls where no point is
+-- lower than the one before it.
+-- Given has what the three share, Line the exact broken line at any position,
+-- BrokenLine that it has one height.
+-- Below them, of knots in rows: StraightLaws and ListLaws of straight pieces; CubicLaws of cubic
+-- ones, whose tangents are finite: HermiteKinds, from the bounds in Sizes, SlopeBounds,
+-- MonotoneBounds, RootBounds, AlphaBounds and CubicBounds. Of splines: SplineBounds, that their
+-- second derivatives are finite, from ThomasBounds, and SplinePieces, that their pieces are.
 pub mod BrokenLine
 pub mod Sizes
 pub mod SlopeBounds

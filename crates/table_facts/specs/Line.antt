@@ -1,4 +1,5 @@
--- The exact broken line at any position, a fraction p / c: the definition, what it is at a byte, and that it is there at every position in range.
+-- The exact broken line at any position, a fraction p / c: the definition, what it is at a byte,
+-- and that it is there at every position in range.
 use mathlib.Core.Path.{_≡_, refl, ap}
 use mathlib.Core.List.{List}
 use Prim.Native.Nat.{ℕ, suc, _+_, _-_, _*_, _≤_, _<_}
@@ -35,7 +36,8 @@ pub record LineAt (l : List Point) (p c n d : ℕ) : Type 0 where
       + fineHeight (givenKnots l) (suc i) * (p - xOf (givenKnots l) i * c)
 
 -- ---- at a byte it is what `OnLine` says
-in-256ths : (n y0 y1 d k : ℕ) → n + y0 * k ≡ y0 * d + y1 * k → 256 * n + 256 * y0 * k ≡ 256 * y0 * d + 256 * y1 * k
+in-256ths : (n y0 y1 d k : ℕ) → n + y0 * k ≡ y0 * d + y1 * k
+    → 256 * n + 256 * y0 * k ≡ 256 * y0 * d + 256 * y1 * k
 in-256ths n y0 y1 d k h = omega (arith, ap (λ (t : ℕ). 256 * t) h)
 
 pub at-byte : (l : List Point) (v n d : ℕ) → OnLine l v n d → LineAt l v 1 (256 * n) d
@@ -67,12 +69,18 @@ line-at l bytes x r p c C e =
     let held = segment-holds rows x (r .low) (r .high) in
     let next : s + 1 ≡ suc s = add-one s in
     let inside : suc s < length ks = rw next at (held .inside) in
-    let low = is-of-le (at (xRow ks) s) x (xOf ks s) 0 1 p 0 c (rows .x-is s (omega arith)) e (held .low) in
-    let high = is-of-le x (at (xRow ks) (suc s)) p 0 c (xOf ks (suc s)) 0 1 e (rows .x-is (suc s) inside) (rw next at (held .high)) in
+    let low =
+    is-of-le (at (xRow ks) s) x (xOf ks s) 0 1 p 0 c (rows .x-is s (omega arith)) e
+    (held .low) in
+    let high =
+    is-of-le x (at (xRow ks) (suc s)) p 0 c (xOf ks (suc s)) 0 1 e (rows .x-is (suc s) inside)
+    (rw next at (held .high)) in
     let k = p - xOf ks s * c in
     let g = xOf ks (suc s) * c - p in
     let d = (xOf ks (suc s) - xOf ks s) * c in
-    let split = ap (λ (t : ℕ). t * c) (add-sub-of-le (le-of-lt (rows .rising s (suc s) (le-refl (suc s)) inside))) in
+    let split =
+    ap (λ (t : ℕ). t * c)
+    (add-sub-of-le (le-of-lt (rows .rising s (suc s) (le-refl (suc s)) inside))) in
     let parts : k + g ≡ d = omega arith in (
       fineHeight ks s * g + fineHeight ks (suc s) * k,
       d,

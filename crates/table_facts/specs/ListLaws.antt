@@ -1,5 +1,5 @@
--- The facts for the knots of a kept list: they are in rows, its curve goes through its points, and the straight pieces are in order where the list
--- never falls.
+-- The facts for the knots of a kept list: they are in rows, its curve goes through its points, and
+-- the straight pieces are in order where the list never falls.
 use mathlib.Core.Path.{sym, ap}
 use mathlib.Core.List.{List, List·Memᴰ}
 use Prim.Native.Nat.{ℕ, _*_, _≤_, _<_}
@@ -32,25 +32,34 @@ module _ (l : List Point) (kept : IsKept l) where
   abbrev ks : List Point
   ks = knots l
 
-  pub knot-rows : Rows (xRow (knots l)) (yRow (knots l)) (length (knots l)) (xOf (knots l)) (fineHeight (knots l))
+  pub knot-rows :
+      Rows (xRow (knots l)) (yRow (knots l)) (length (knots l)) (xOf (knots l))
+      (fineHeight (knots l))
   knot-rows = rows-of ks (knots-shape l kept)
 
   -- ---- through points
   -- what holds at every knot holds at a point
-  at-point : (P : Point → Type 0) → ((i : ℕ) → i < length ks → P (nth ks i)) → (p : Point) → List·Memᴰ p l → P p
+  at-point : (P : Point → Type 0) → ((i : ℕ) → i < length ks → P (nth ks i)) → (p : Point)
+      → List·Memᴰ p l → P p
   at-point P all p m = let k = mem-at ks p (knots-mem l p m) in rw (sym (k .2)) (all (k .0) (k .1))
 
-  pub straight-at-point : (x : Float) (p : Point) → List·Memᴰ p l → Is x (p .x) 0 1 → Is (straightOf l x) (256 * p .y) 0 256
-  straight-at-point x p m e = at-point (λ q. Is x (q .x) 0 1 → Is (straightOf l x) (256 * q .y) 0 256) (straight-at-knot knot-rows x) p m e
+  pub straight-at-point : (x : Float) (p : Point) → List·Memᴰ p l → Is x (p .x) 0 1
+      → Is (straightOf l x) (256 * p .y) 0 256
+  straight-at-point x p m e =
+      at-point (λ q. Is x (q .x) 0 1 → Is (straightOf l x) (256 * q .y) 0 256)
+      (straight-at-knot knot-rows x) p m e
 
   pub kind-at-point : {rule : TangentRule} → HermiteRule rule
       → (ms : List Float) → MadeBy rule (xRow (knots l)) (yRow (knots l)) (length (knots l)) ms
-      → (x : Float) (p : Point) → List·Memᴰ p l → Is x (p .x) 0 1 → Is (cubicOf l ms x) (256 * p .y) 0 256
+      → (x : Float) (p : Point) → List·Memᴰ p l → Is x (p .x) 0 1
+      → Is (cubicOf l ms x) (256 * p .y) 0 256
   kind-at-point kind ms made x p m e =
-      at-point (λ q. Is x (q .x) 0 1 → Is (cubicOf l ms x) (256 * q .y) 0 256) (kind-at-knot knot-rows kind ms made x) p m e
+      at-point (λ q. Is x (q .x) 0 1 → Is (cubicOf l ms x) (256 * q .y) 0 256)
+      (kind-at-knot knot-rows kind ms made x) p m e
 
   -- ---- order
-  pub straight-rises : NeverFalls l → (x y : Float) → InRange x → InRange y → T (le x y) → T (le (straightOf l x) (straightOf l y))
+  pub straight-rises : NeverFalls l → (x y : Float) → InRange x → InRange y → T (le x y)
+      → T (le (straightOf l x) (straightOf l y))
   straight-rises f = straight-order knot-rows (λ i j h k. mul-le-mul-left 256 (climbs i j h k))
     where
       climbs : (i j : ℕ) → i ≤ j → j < length ks → yOf ks i ≤ yOf ks j

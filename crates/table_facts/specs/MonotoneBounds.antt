@@ -1,5 +1,6 @@
--- The tangents of MonotoneCubic and MonotoneCubicBox are finite. A segment leaves a tangent as it is, or sets it to 0, or to at most 8 secants: the
--- circle of radius 3 reaches no further, roundings included.
+-- The tangents of MonotoneCubic and MonotoneCubicBox are finite. A segment leaves a tangent
+-- as it is, or sets it to 0, or to at most 8 secants: the circle of radius 3 reaches no
+-- further, roundings included.
 use mathlib.Core.Path.{_≡_, refl}
 use mathlib.Core.Logic.{inl, inr}
 use mathlib.Core.Bool.{Bool, true, false, cond}
@@ -12,14 +13,49 @@ use lib.Dec.{lit<, lit≤}
 use lib.Ieee.{Float, lt}
 use Rattle.floats.specs.Notation.{_⊕_, _⊗_, _⊘_}
 use Rattle.floats.specs.Value.{absolute}
-use Rattle.floats.specs.Within.{Within, Beyond, within-zero, widen, within-cond, within-add, within-mul, within-div, beyond-mul}
+use Rattle.floats.specs.Within.{
+  Within,
+  Beyond,
+  within-zero,
+  widen,
+  within-cond,
+  within-add,
+  within-mul,
+  within-div,
+  beyond-mul,
+}
 use Rattle.single.specs.Constants.{𝟎, 𝟑, 𝟗, nano, 𝟎-is}
 use Rattle.single.specs.Root.{rootOf}
 use Rattle.monotone.specs.declared.Tangents.{Tangents}
-use Rattle.monotone.specs.Monotone.{secantAt, meanAt, nonnegative, capped, boxed, circled, adjusted, reached, monotoneAt}
+use Rattle.monotone.specs.Monotone.{
+  secantAt,
+  meanAt,
+  nonnegative,
+  capped,
+  boxed,
+  circled,
+  adjusted,
+  reached,
+  monotoneAt,
+}
 use Rattle.segments.specs.Rows.{Rows}
-use Rattle.table_facts.specs.RootBounds.{FromZero, square-from-zero, sum-from-zero, term-beyond, above-guard, root-beyond, size-of}
-use Rattle.table_facts.specs.Sizes.{half-within, three-within, nano-guard, nine-guard, passed, knot-small}
+use Rattle.table_facts.specs.RootBounds.{
+  FromZero,
+  square-from-zero,
+  sum-from-zero,
+  term-beyond,
+  above-guard,
+  root-beyond,
+  size-of,
+}
+use Rattle.table_facts.specs.Sizes.{
+  half-within,
+  three-within,
+  nano-guard,
+  nine-guard,
+  passed,
+  knot-small,
+}
 use Rattle.table_facts.specs.SlopeBounds.{slope-within}
 
 -- ---- both tangents of a segment are at most 2 ^ 181 units
@@ -27,7 +63,8 @@ record Tame (t : Tangents) : Type 0 where
   left : Within (t .left) 181
   right : Within (t .right) 181
 
-tame-cond : (b : Bool) {s t : Tangents} → (b ≡ true → Tame s) → (b ≡ false → Tame t) → Tame (cond b s t)
+tame-cond : (b : Bool) {s t : Tangents} → (b ≡ true → Tame s) → (b ≡ false → Tame t)
+    → Tame (cond b s t)
 tame-cond true v w = v refl
 tame-cond false v w = w refl
 
@@ -37,39 +74,47 @@ nonnegative-within m q {k} w = within-cond (lt q 𝟎) (within-zero 𝟎 k 𝟎-
 -- ---- the Box kind
 capped-within : (m q d : Float) → Within m 181 → Within d 178 → Within (capped m q d) 181
 capped-within m q d w v =
-    within-cond (lt 𝟑 q) (within-mul 181 three-within v (lit≤ tt) (lit≤ tt)) (nonnegative-within m q w)
+    within-cond (lt 𝟑 q) (within-mul 181 three-within v (lit≤ tt) (lit≤ tt))
+    (nonnegative-within m q w)
 
 boxed-tame : (d l r : Float) → Within d 178 → Within l 181 → Within r 181 → Tame (boxed d l r)
 unfolding boxed
-boxed-tame d l r v wl wr = record { left = capped-within l (l ⊘ d) d wl v; right = capped-within r (r ⊘ d) d wr v }
+boxed-tame d l r v wl wr =
+    record { left = capped-within l (l ⊘ d) d wl v; right = capped-within r (r ⊘ d) d wr v }
 
 -- ---- the circle
 square-within : {x : Float} → Within x 211 → FromZero (x ⊗ x) 273
 square-within w = square-from-zero 273 w (lit≤ tt) (lit≤ tt)
 
 -- a sum of two squares is at least each of them, as far as powers of two tell
-squares-beyond : {x y : Float} (p : ℕ) → Within x 211 → Within y 211 → 150 ≤ p → p < 211 → Beyond x p
+squares-beyond : {x y : Float} (p : ℕ) → Within x 211 → Within y 211 → 150 ≤ p → p < 211
+    → Beyond x p
     → Beyond (x ⊗ x ⊕ y ⊗ y) (p + p - 149) × Beyond (y ⊗ y ⊕ x ⊗ x) (p + p - 149)
 squares-beyond p v w low high b =
     term-beyond (square-within v) (square-within w) (lit< tt)
     (beyond-mul (p + p - 149) b b (omega arith) (square-within v .most) (omega arith)) (omega arith)
 
 -- where s is above 9 and at least x squared, 3 x over the root of s is at most 8 in size
-ratio-within : {x s : Float} → Within x 211 → FromZero s 274 → Beyond s 152 → ((p : ℕ) → 150 ≤ p → p < 211 → Beyond x p → Beyond s (p + p - 149))
+ratio-within : {x s : Float} → Within x 211 → FromZero s 274 → Beyond s 152
+    → ((p : ℕ) → 150 ≤ p → p < 211 → Beyond x p → Beyond s (p + p - 149))
     → Within (𝟑 ⊘ rootOf s ⊗ x) 152
 ratio-within {x} v w nine squared = elim (size-of x 150 211 v) [
   | inl small ↦
       let root = root-beyond 150 212 w nine (lit≤ tt) (lit≤ tt) (lit≤ tt) in
-      within-mul 152 (within-div 150 three-within root (lit≤ tt) (lit≤ tt)) small (lit≤ tt) (lit≤ tt)
+      within-mul 152 (within-div 150 three-within root (lit≤ tt) (lit≤ tt)) small (lit≤ tt)
+      (lit≤ tt)
   | inr large ↦
       let p = large .0 in
       let low : 150 ≤ p = large .1 in
       let high : p < 211 = large .2 in
-      let root = root-beyond p 212 w (squared p low high (large .3)) (omega arith) (lit≤ tt) (lit≤ tt) in
-      within-mul 152 (within-div (300 - p) three-within root (omega arith) (omega arith)) (large .4) (omega arith) (lit≤ tt)
+      let root =
+      root-beyond p 212 w (squared p low high (large .3)) (omega arith) (lit≤ tt) (lit≤ tt) in
+      within-mul 152 (within-div (300 - p) three-within root (omega arith) (omega arith)) (large .4)
+      (omega arith) (lit≤ tt)
 ]
 
-circled-tame : (d l r : Float) → Within d 178 → Beyond d 119 → Within l 181 → Within r 181 → Tame (circled d l r)
+circled-tame : (d l r : Float) → Within d 178 → Beyond d 119 → Within l 181 → Within r 181
+    → Tame (circled d l r)
 unfolding circled
 circled-tame d l r v away wl wr =
     let a : Within (l ⊘ d) 211 = within-div 211 wl away (lit≤ tt) (lit≤ tt) in
@@ -79,19 +124,28 @@ circled-tame d l r v away wl wr =
     (λ above.
     let nine = above-guard s nine-guard above in
     record {
-      left = within-mul 181 (ratio-within a s nine (λ p low high w. squares-beyond p a b low high w .0)) v (lit≤ tt) (lit≤ tt);
-      right = within-mul 181 (ratio-within b s nine (λ p low high w. squares-beyond p b a low high w .1)) v (lit≤ tt) (lit≤ tt);
+      left = within-mul 181
+          (ratio-within a s nine (λ p low high w. squares-beyond p a b low high w .0)) v (lit≤ tt)
+          (lit≤ tt);
+      right = within-mul 181
+          (ratio-within b s nine (λ p low high w. squares-beyond p b a low high w .1)) v (lit≤ tt)
+          (lit≤ tt);
     })
-    (λ else. record { left = nonnegative-within l (l ⊘ d) wl; right = nonnegative-within r (r ⊘ d) wr })
+    (λ else. record {
+      left = nonnegative-within l (l ⊘ d) wl;
+      right = nonnegative-within r (r ⊘ d) wr;
+    })
 
 -- ---- a segment of either kind
-adjusted-tame : (box : Bool) (d l r : Float) → Within d 178 → Within l 181 → Within r 181 → Tame (adjusted box d l r)
+adjusted-tame : (box : Bool) (d l r : Float) → Within d 178 → Within l 181 → Within r 181
+    → Tame (adjusted box d l r)
 unfolding adjusted
 adjusted-tame box d l r v wl wr =
     tame-cond (lt (absolute d) nano)
     (λ tiny. record { left = within-zero 𝟎 181 𝟎-is; right = within-zero 𝟎 181 𝟎-is })
     (λ large.
-    tame-cond box (λ is-box. boxed-tame d l r v wl wr) (λ is-circle. circled-tame d l r v (passed v nano-guard large) wl wr))
+    tame-cond box (λ is-box. boxed-tame d l r v wl wr)
+    (λ is-circle. circled-tame d l r v (passed v nano-guard large) wl wr))
 
 module _ {xs ys : List Float} {n : ℕ} {a h : ℕ → ℕ} (r : Rows xs ys n a h) where
   secant-within : (i : ℕ) → i + 1 < n → Within (secantAt xs ys i) 178
@@ -107,7 +161,9 @@ module _ {xs ys : List Float} {n : ℕ} {a h : ℕ → ℕ} (r : Rows xs ys n a 
         (elim (ℕ-discrete (i + 1) n) [
           | yes last ↦ rw (eq-eqb (i + 1) n last) (secant-within (i - 1) (omega arith))
           | no more ↦
-              let sum = within-add (secant-within (i - 1) (omega arith)) (secant-within i (omega arith)) (lit< tt) in
+              let sum =
+              within-add (secant-within (i - 1) (omega arith)) (secant-within i (omega arith))
+              (lit< tt) in
               rw (ne-eqb (i + 1) n more) (within-mul 178 half-within sum (lit≤ tt) (lit≤ tt))
         ])
   ]
@@ -116,7 +172,8 @@ module _ {xs ys : List Float} {n : ℕ} {a h : ℕ → ℕ} (r : Rows xs ys n a 
   unfolding reached
   reached-within box zero l = widen 181 (mean-within 0 l) (lit≤ tt)
   reached-within box (suc i) l =
-      adjusted-tame box (secantAt xs ys i) (reached box xs ys n i) (meanAt xs ys n (suc i)) (secant-within i (omega arith))
+      adjusted-tame box (secantAt xs ys i) (reached box xs ys n i) (meanAt xs ys n (suc i))
+      (secant-within i (omega arith))
       (reached-within box i (omega arith)) (widen 181 (mean-within (suc i) l) (lit≤ tt)) .right
 
   pub monotone-within : (box : Bool) (i : ℕ) → i < n → Within (monotoneAt box xs ys n i) 181
@@ -125,6 +182,7 @@ module _ {xs ys : List Float} {n : ℕ} {a h : ℕ → ℕ} (r : Rows xs ys n a 
     | yes last ↦ rw (eq-eqb (i + 1) n last) (reached-within box i l)
     | no more ↦
         rw (ne-eqb (i + 1) n more)
-        (adjusted-tame box (secantAt xs ys i) (reached box xs ys n i) (meanAt xs ys n (i + 1)) (secant-within i (omega arith))
+        (adjusted-tame box (secantAt xs ys i) (reached box xs ys n i) (meanAt xs ys n (i + 1))
+        (secant-within i (omega arith))
         (reached-within box i l) (widen 181 (mean-within (i + 1) (omega arith)) (lit≤ tt)) .left)
   ]

@@ -1,4 +1,5 @@
--- Linear: a sample is within 1 / 16,384 of the exact broken line at its position, and an entry is a whole number nearest to the line.
+-- Linear: a sample is within 1 / 16,384 of the exact broken line at its position, and an entry is a
+-- whole number nearest to the line.
 use mathlib.Core.Path.{_≡_, sym, ap, _∙_}
 use mathlib.Core.List.{List}
 use Prim.Native.Nat.{ℕ, suc, _+_, _-_, _*_, _≤_, _<_}
@@ -26,7 +27,12 @@ use Rattle.table_facts.specs.BrokenLine.{line-width}
 use Rattle.segments.specs.Rows.{fineHeight, x-most}
 use Rattle.segments.specs.SegmentLaws.{InRange, nonnegative-is}
 use Rattle.segments.specs.Samples.{sample-256, sample-4096}
-use Rattle.table_facts.specs.StraightLaws.{exactLine, straight-finite, straight-in-range, straight-close}
+use Rattle.table_facts.specs.StraightLaws.{
+  exactLine,
+  straight-finite,
+  straight-in-range,
+  straight-close,
+}
 use Rattle.table_facts.specs.ListLaws.{straightOf}
 use Rattle.tables.specs.declared.CurveInterpolation.the-variants.{Linear}
 use Rattle.sampling.specs.Pieces.{sampled}
@@ -40,23 +46,28 @@ same-distance : (K k a c e t p : ℕ) → a * e + K ≡ t → a * c + k ≡ p �
 same-distance K k a c e t p f g h = omega (arith, ap (λ (z : ℕ). z * c) f, ap (λ (z : ℕ). z * e) g)
 
 -- K / W of the way from y0 to y1 is k / w of the way, where the height is n / (256 * w)
-same-height : (y0 y1 K W k w n : ℕ) (z : Float) → 0 < W → K * w ≡ k * W → n + y0 * k ≡ y0 * w + y1 * k
+same-height : (y0 y1 K W k w n : ℕ) (z : Float) → 0 < W → K * w ≡ k * W
+    → n + y0 * k ≡ y0 * w + y1 * k
     → Close 1 16384 (val z) (exactLine y0 y1 K W) → Close 1 16384 (val z) (frac n 0 (256 * w))
 same-height y0 y1 K W k w n z some e h near =
     let f = ap (λ (t : ℕ). t * W) h in
     let g = ap (λ (t : ℕ). y0 * t) e in
     let i = ap (λ (t : ℕ). y1 * t) e in
-    close-same 1 16384 (val z) (exactLine y0 y1 K W) (frac n 0 (256 * w)) (omega arith) near (omega arith) (omega arith)
+    close-same 1 16384 (val z) (exactLine y0 y1 K W) (frac n 0 (256 * w)) (omega arith) near
+    (omega arith) (omega arith)
 
 -- a float that is not below 0 has no negative part
 unsigned : (x : Float) → T (finite x) → T (le 𝟎 x) → bot x ≡ 0
-unsigned x f low = eq-of-mul-eq-mul-right (den x) (den-pos x) (bot x) 0 (omega (arith, nonnegative-is x f low .1))
+unsigned x f low =
+    eq-of-mul-eq-mul-right (den x) (den-pos x) (bot x) 0 (omega (arith, nonnegative-is x f low .1))
 
 -- the byte of a float from 0 to 255 is nearest to it
 byte-of-range : (z : Float) → T (finite z) → T (le 𝟎 z) → T (le z 𝟐𝟓𝟓) → Nearest (byteOf z) (val z)
 byte-of-range z f low high =
     let i = nonnegative-is z f low in
-    let near = byte-near z (top z) (den z) (den-pos z) (omega (arith, is-of-le z 𝟐𝟓𝟓 (top z) 0 (den z) 255 0 1 i 𝟐𝟓𝟓-is high)) i in
+    let near =
+    byte-near z (top z) (den z) (den-pos z)
+    (omega (arith, is-of-le z 𝟐𝟓𝟓 (top z) 0 (den z) 255 0 1 i 𝟐𝟓𝟓-is high)) i in
     (omega (arith, near .0, unsigned z f low), omega (arith, near .1, unsigned z f low))
 
 module _ (l : List Point) (bytes : All Bytes l) where
@@ -64,13 +75,16 @@ module _ (l : List Point) (bytes : All Bytes l) where
   ks = knots (kept l)
 
   -- clamping changes no sample
-  pub sample-unclamped : (S v : ℕ) → InRange (sampleX S v) → sampleOf Linear l S v ≡ unclampedAt Linear l (sampleX S v)
+  pub sample-unclamped : (S v : ℕ) → InRange (sampleX S v)
+      → sampleOf Linear l S v ≡ unclampedAt Linear l (sampleX S v)
   unfolding sampleOf sampled
   sample-unclamped S v r =
       let b = straight-in-range (given-rows l bytes) (sampleX S v) r in
-      clamped-keeps (unclampedAt Linear l (sampleX S v)) (rw (linear-height l (sampleX S v)) (b .0)) (rw (linear-height l (sampleX S v)) (b .1))
+      clamped-keeps (unclampedAt Linear l (sampleX S v)) (rw (linear-height l (sampleX S v)) (b .0))
+      (rw (linear-height l (sampleX S v)) (b .1))
 
-  sample-straight : (S v : ℕ) → InRange (sampleX S v) → sampleOf Linear l S v ≡ straightOf (kept l) (sampleX S v)
+  sample-straight : (S v : ℕ) → InRange (sampleX S v)
+      → sampleOf Linear l S v ≡ straightOf (kept l) (sampleX S v)
   sample-straight S v r = sample-unclamped S v r ∙ linear-height l (sampleX S v)
 
   -- ---- for any S, where the sample is at p / c
@@ -89,18 +103,26 @@ module _ (l : List Point) (bytes : All Bytes l) where
       let right : p ≤ b * c = rw next at (o .right) in
       let width : d ≡ (b - a) * c = rw next at (o .width) in
       let a-is = rows .x-is i (omega arith) in
-      let low = le-of-is (at (xRow ks) i) x a 0 1 p 0 c (lit< tt) C a-is e (omega (arith, o .left)) in
-      let high = le-of-is x (at (xRow ks) (i + 1)) p 0 c b 0 1 C (lit< tt) e (rows .x-is (i + 1) inside) (omega arith) in
-      let own-left = is-of-le (at (xRow ks) i) x a 0 1 (top x) 0 (den x) a-is (nonnegative-is x (e .0) (r .low)) low in
+      let low =
+      le-of-is (at (xRow ks) i) x a 0 1 p 0 c (lit< tt) C a-is e (omega (arith, o .left)) in
+      let high =
+      le-of-is x (at (xRow ks) (i + 1)) p 0 c b 0 1 C (lit< tt) e (rows .x-is (i + 1) inside)
+      (omega arith) in
+      let own-left =
+      is-of-le (at (xRow ks) i) x a 0 1 (top x) 0 (den x) a-is
+      (nonnegative-is x (e .0) (r .low)) low in
       let positive = ap (λ (t : ℕ). t * c) (unsigned x (e .0) (r .low)) in
       let far : (top x - a * den x) * c ≡ (p - a * c) * den x =
       same-distance (top x - a * den x) (p - a * c) a c (den x) (top x) p
-      (add-sub-of-le (omega (arith, own-left))) (add-sub-of-le (o .left)) (omega (arith, e .1, positive)) in
+      (add-sub-of-le (omega (arith, own-left))) (add-sub-of-le (o .left))
+      (omega (arith, e .1, positive)) in
       let apart : 0 < b - a = omega (arith, rows .rising i (i + 1) (omega arith) inside) in
       rw (sample-straight S v r)
       (rw width
-      (same-height (fineHeight ks i) (fineHeight ks (i + 1)) (top x - a * den x) ((b - a) * den x) (p - a * c) ((b - a) * c) n (straightOf (kept l) x)
-      (mul-pos apart (den-pos x)) (omega (arith, ap (λ (t : ℕ). (b - a) * t) far)) (rw (next, width) at (o .height))
+      (same-height (fineHeight ks i) (fineHeight ks (i + 1)) (top x - a * den x) ((b - a) * den x)
+      (p - a * c) ((b - a) * c) n (straightOf (kept l) x)
+      (mul-pos apart (den-pos x)) (omega (arith, ap (λ (t : ℕ). (b - a) * t) far))
+      (rw (next, width) at (o .height))
       (straight-close rows x r i inside low high)))
 
   -- of 256 samples, where sample v is at v ..

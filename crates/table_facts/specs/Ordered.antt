@@ -1,4 +1,5 @@
--- Linear, where no kept point is lower than the one before it: no sample is lower than one before it, and no entry, across segments too.
+-- Linear, where no kept point is lower than the one before it: no sample is lower than one before
+-- it, and no entry, across segments too.
 use mathlib.Core.List.{List}
 use Prim.Native.Nat.{ℕ, _^_, _≤_, _<_}
 use native.Mathlib.Omega.{arith}
@@ -30,13 +31,18 @@ module _ (l : List Point) (bytes : All Bytes l) (never-falls : NeverFalls (kept 
       (straight-rises (kept l) (kept-is-kept l bytes) never-falls (sampleX S v) (sampleX S w) p q
       (sample-le S two most v w h (omega arith))))
 
-  pub byte-sample-order : (v w : ℕ) → v ≤ w → w < 256 → T (le (sampleOf Linear l 256 v) (sampleOf Linear l 256 w))
-  byte-sample-order v w h k = sample-order 256 (lit≤ tt) (lit≤ tt) v w h k (sample-256 v (omega arith)) (sample-256 w k)
+  pub byte-sample-order : (v w : ℕ) → v ≤ w → w < 256
+      → T (le (sampleOf Linear l 256 v) (sampleOf Linear l 256 w))
+  byte-sample-order v w h k =
+      sample-order 256 (lit≤ tt) (lit≤ tt) v w h k (sample-256 v (omega arith)) (sample-256 w k)
 
-  pub fine-sample-order : (v w : ℕ) → v ≤ w → w < 4096 → T (le (sampleOf Linear l 4096 v) (sampleOf Linear l 4096 w))
-  fine-sample-order v w h k = sample-order 4096 (lit≤ tt) (lit≤ tt) v w h k (sample-4096 v (omega arith)) (sample-4096 w k)
+  pub fine-sample-order : (v w : ℕ) → v ≤ w → w < 4096
+      → T (le (sampleOf Linear l 4096 v) (sampleOf Linear l 4096 w))
+  fine-sample-order v w h k =
+      sample-order 4096 (lit≤ tt) (lit≤ tt) v w h k (sample-4096 v (omega arith)) (sample-4096 w k)
 
   -- ---- the byte table never falls
   pub entry-order : (v w : ℕ) → v ≤ w → w < 256 → entryOf Linear l v ≤ entryOf Linear l w
   unfolding entryOf
-  entry-order v w h k = byte-le (sampleOf Linear l 256 v) (sampleOf Linear l 256 w) (byte-sample-order v w h k)
+  entry-order v w h k =
+      byte-le (sampleOf Linear l 256 v) (sampleOf Linear l 256 w) (byte-sample-order v w h k)

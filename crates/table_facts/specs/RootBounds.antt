@@ -1,10 +1,27 @@
--- How large squares, sums of squares and roots are, by powers of two in the units of `Within`; and between which powers a number lies.
+-- How large squares, sums of squares and roots are, by powers of two in the units of `Within`; and
+-- between which powers a number lies.
 use mathlib.Core.Path.{_≡_, refl, sym, _∙_, subst}
 use mathlib.Core.Logic.{_⊎_, inl, inr}
 use mathlib.Core.Bool.{true, false, true≢false}
 use Prim.Native.Nat.{ℕ, zero, suc, _+_, _*_, _/_, _^_, _≤_, _<_, zero-le}
-use native.Mathlib.Nat.{le-trans, le-of-eq, le-of-lt, lt-of-not-le, not-le-of-lt, le-of-suc-le-suc, lt-of-le-of-lt, lt-suc-self}
-use native.Mathlib.Nat.{zero-mul, mul-pos, mul-le-mul-right, mul-lt-mul-of-pos-right, div-lt-iff-lt-mul, le-div-iff-mul-le}
+use native.Mathlib.Nat.{
+  le-trans,
+  le-of-eq,
+  le-of-lt,
+  lt-of-not-le,
+  not-le-of-lt,
+  le-of-suc-le-suc,
+  lt-of-le-of-lt,
+  lt-suc-self,
+}
+use native.Mathlib.Nat.{
+  zero-mul,
+  mul-pos,
+  mul-le-mul-right,
+  mul-lt-mul-of-pos-right,
+  div-lt-iff-lt-mul,
+  le-div-iff-mul-le,
+}
 use native.Mathlib.Decide.{decLe}
 use native.Mathlib.Omega.{arith}
 use lib.Dec.{T}
@@ -18,7 +35,17 @@ use Rattle.floats.specs.Value.{unsigned, unsigned-sign, absolute}
 use Rattle.floats.specs.Order.{le-of-lt as le-of-below, not-lt-of-le}
 use Rattle.floats.specs.Ops.{add-commutes}
 use Rattle.floats.specs.Sign.{add-unsigned, square-unsigned}
-use Rattle.floats.specs.Within.{Within, Beyond, within-of, beyond-of, within-zero, widen, within-add, within-mul, beyond-add}
+use Rattle.floats.specs.Within.{
+  Within,
+  Beyond,
+  within-of,
+  beyond-of,
+  within-zero,
+  widen,
+  within-add,
+  within-mul,
+  beyond-add,
+}
 use Rattle.single.specs.Root.{rootOfUnits, rootOf}
 use Rattle.single.specs.RootUnits.{root-most, root-between}
 use Rattle.table_facts.specs.Sizes.{Guard, passed}
@@ -28,25 +55,32 @@ pub record FromZero (x : Float) (k : ℕ) : Type 0 where
   pub most : Within x k
   pub plus : T (unsigned x)
 
-pub square-from-zero : {x : Float} {j : ℕ} (t : ℕ) → Within x j → j + j ≤ t + 149 → t ≤ 276 → FromZero (x ⊗ x) t
-square-from-zero {x} t w h K = record { most = within-mul t w w h K; plus = square-unsigned binary32 x (w .most .fin) }
+pub square-from-zero : {x : Float} {j : ℕ} (t : ℕ) → Within x j → j + j ≤ t + 149 → t ≤ 276
+    → FromZero (x ⊗ x) t
+square-from-zero {x} t w h K =
+    record { most = within-mul t w w h K; plus = square-unsigned binary32 x (w .most .fin) }
 
-pub sum-from-zero : {x y : Float} {k : ℕ} → FromZero x k → FromZero y k → k < 276 → FromZero (x ⊕ y) (suc k)
+pub sum-from-zero : {x y : Float} {k : ℕ} → FromZero x k → FromZero y k → k < 276
+    → FromZero (x ⊕ y) (suc k)
 sum-from-zero {x} {y} v w K = record {
   most = within-add (v .most) (w .most) K;
   plus = add-unsigned binary32 x y (v .most .most .fin) (w .most .most .fin) (v .plus) (w .plus);
 }
 
 -- one term alone
-pub term-beyond : {x y : Float} {k l : ℕ} → FromZero x k → FromZero y k → k < 276 → Beyond x l → l ≤ 276 → Beyond (x ⊕ y) l × Beyond (y ⊕ x) l
+pub term-beyond : {x y : Float} {k l : ℕ} → FromZero x k → FromZero y k → k < 276 → Beyond x l
+    → l ≤ 276 → Beyond (x ⊕ y) l × Beyond (y ⊕ x) l
 term-beyond {x} {y} v w K b L =
-    let least = beyond-add b (w .most) (unsigned-sign x (v .plus) ∙ sym (unsigned-sign y (w .plus))) (within-add (v .most) (w .most) K) L in
+    let least =
+    beyond-add b (w .most) (unsigned-sign x (v .plus) ∙ sym (unsigned-sign y (w .plus)))
+    (within-add (v .most) (w .most) K) L in
     (least, rw (add-commutes binary32 y x) least)
 
 -- what is above a guard
 pub above-guard : {x g : Float} {k l : ℕ} → FromZero x k → Guard g l → lt g x ≡ true → Beyond x l
 above-guard {x} {g} v guard h =
-    passed (v .most) guard (rw (absolute-plus x (v .plus)) (not-lt-of-le g x (le-of-below g x (subst T (sym h) tt))))
+    passed (v .most) guard
+    (rw (absolute-plus x (v .plus)) (not-lt-of-le g x (le-of-below g x (subst T (sym h) tt))))
   where
     absolute-plus : (x : Float) → T (unsigned x) → absolute x ≡ x
     absolute-plus nan u = absurd u
@@ -61,36 +95,49 @@ value-from-zero nan g k v h = absurd v
 value-from-zero (inf s) g k v h = absurd v
 value-from-zero (fin true m e) g k v h = absurd (true≢false (v .0))
 value-from-zero (fin false m e) g k v h =
-    record { most = within-of tt (le-trans (le-of-eq (v .1)) (mul-le-mul-right (down e) h)); plus = tt }
+    record {
+      most = within-of tt (le-trans (le-of-eq (v .1)) (mul-le-mul-right (down e) h));
+      plus = tt;
+    }
 
 value-beyond : (x : Float) (g l : ℕ) → HasValue x false g (2 ^ 149) → 2 ^ l ≤ g → Beyond x l
 value-beyond nan g l v h = absurd v
 value-beyond (inf s) g l v h = absurd v
-value-beyond (fin s m e) g l v h = beyond-of tt (le-trans (mul-le-mul-right (down e) h) (le-of-eq (sym (v .1))))
+value-beyond (fin s m e) g l v h =
+    beyond-of tt (le-trans (mul-le-mul-right (down e) h) (le-of-eq (sym (v .1))))
 
 powers : (i j k l : ℕ) → i + j ≤ k + l → 2 ^ i * 2 ^ j ≤ 2 ^ k * 2 ^ l
-powers i j k l h = le-trans (le-of-eq (sym (pow-add 2 i j))) (le-trans (pow-mono h) (le-of-eq (pow-add 2 k l)))
+powers i j k l h =
+    le-trans (le-of-eq (sym (pow-add 2 i j))) (le-trans (pow-mono h) (le-of-eq (pow-add 2 k l)))
 
 quotient-most : (a d k : ℕ) → 0 < d → a ≤ k * d → a / d ≤ k
-quotient-most a d k D h = le-of-suc-le-suc (div-lt-iff-lt-mul D .1 (lt-of-le-of-lt h (mul-lt-mul-of-pos-right (lt-suc-self k) D)))
+quotient-most a d k D h =
+    le-of-suc-le-suc
+    (div-lt-iff-lt-mul D .1 (lt-of-le-of-lt h (mul-lt-mul-of-pos-right (lt-suc-self k) D)))
 
 -- n against the square of 2 ^ t units
-units-most : (a d k t : ℕ) → 0 < d → a ≤ 2 ^ k * d → k + 149 ≤ t + t → a / d * 2 ^ 149 ≤ 2 ^ t * 2 ^ t
-units-most a d k t D h l = le-trans (mul-le-mul-right (2 ^ 149) (quotient-most a d (2 ^ k) D h)) (powers k 149 t t l)
+units-most : (a d k t : ℕ) → 0 < d → a ≤ 2 ^ k * d → k + 149 ≤ t + t
+    → a / d * 2 ^ 149 ≤ 2 ^ t * 2 ^ t
+units-most a d k t D h l =
+    le-trans (mul-le-mul-right (2 ^ 149) (quotient-most a d (2 ^ k) D h)) (powers k 149 t t l)
 
-pub root-from-zero : {x : Float} {k : ℕ} (t : ℕ) → FromZero x k → k + 149 ≤ t + t → t ≤ 276 → FromZero (rootOf x) t
+pub root-from-zero : {x : Float} {k : ℕ} (t : ℕ) → FromZero x k → k + 149 ≤ t + t → t ≤ 276
+    → FromZero (rootOf x) t
 unfolding rootOf
 root-from-zero {x = nan} t v h K = absurd (v .plus)
 root-from-zero {x = inf true} t v h K = absurd (v .plus)
 root-from-zero {x = inf false} t v h K = absurd (v .most .most .fin)
 root-from-zero {x = fin true m e} t v h K = absurd (v .plus)
-root-from-zero {x = fin false zero e} t v h K = record { most = within-zero (fin false 0 e) t (tt, omega arith); plus = tt }
+root-from-zero {x = fin false zero e} t v h K =
+    record { most = within-zero (fin false 0 e) t (tt, omega arith); plus = tt }
 root-from-zero {x = fin false (suc m) e} {k} t v h K =
     let a = suc m * up e * 2 ^ 149 in
-    let r = root-most (a / down e * 2 ^ 149) t (units-most a (down e) k t (down-pos e) (v .most .most .most) h) K in
+    let r = root-most (a / down e * 2 ^ 149) t
+    (units-most a (down e) k t (down-pos e) (v .most .most .most) h) K in
     value-from-zero (rootOfUnits (a / down e * 2 ^ 149)) (r .0) t (r .1) (r .2)
 
-pub root-beyond : {x : Float} {k l : ℕ} (u t : ℕ) → FromZero x k → Beyond x l → u + u ≤ l + 149 → k + 149 ≤ t + t → t ≤ 276 → Beyond (rootOf x) u
+pub root-beyond : {x : Float} {k l : ℕ} (u t : ℕ) → FromZero x k → Beyond x l → u + u ≤ l + 149
+    → k + 149 ≤ t + t → t ≤ 276 → Beyond (rootOf x) u
 unfolding rootOf
 root-beyond {x = nan} u t v w g h K = absurd (v .plus)
 root-beyond {x = inf true} u t v w g h K = absurd (v .plus)
@@ -101,12 +148,15 @@ root-beyond {x = fin false zero e} {l = l} u t v w g h K =
 root-beyond {x = fin false (suc m) e} {k} {l} u t v w g h K =
     let a = suc m * up e * 2 ^ 149 in
     let least : 2 ^ u * 2 ^ u ≤ a / down e * 2 ^ 149 =
-    le-trans (powers u u l 149 g) (mul-le-mul-right (2 ^ 149) (le-div-iff-mul-le (down-pos e) .1 (w .least .least))) in
-    let r = root-between (a / down e * 2 ^ 149) u t least (units-most a (down e) k t (down-pos e) (v .most .most .most) h) K in
+    le-trans (powers u u l 149 g)
+    (mul-le-mul-right (2 ^ 149) (le-div-iff-mul-le (down-pos e) .1 (w .least .least))) in
+    let r = root-between (a / down e * 2 ^ 149) u t least
+    (units-most a (down e) k t (down-pos e) (v .most .most .most) h) K in
     value-beyond (rootOfUnits (a / down e * 2 ^ 149)) (r .0) u (r .1) (r .2)
 
 -- ---- where a value lies: at most 2 ^ b units, or between two neighbouring powers from there on
-pub size-of : (x : Float) (b k : ℕ) → Within x k → Within x b ⊎ ((p : ℕ) × (b ≤ p) × (p < k) × Beyond x p × Within x (suc p))
+pub size-of : (x : Float) (b k : ℕ) → Within x k
+    → Within x b ⊎ ((p : ℕ) × (b ≤ p) × (p < k) × Beyond x p × Within x (suc p))
 size-of x b zero w = inl (widen b w zero-le)
 size-of x b (suc k) w = elim (decLe (num x * 2 ^ 149) (2 ^ k * den x)) [
   | yes h ↦ elim (size-of x b k (within-of (w .most .fin) h)) [

@@ -1,5 +1,6 @@
--- How large the numbers are that tangents are made of: constants, knots, and quotients with a guard. Sizes are powers of two, in the units of
--- `Within`, of which 1.0 has 2 ^ 149; a knot's x and height are at most 2 ^ 8, so 2 ^ 157 units.
+-- How large the numbers are that tangents are made of: constants, knots, and quotients with a
+-- guard. Sizes are powers of two, in the units of `Within`, of which 1.0 has 2 ^ 149; a knot's x
+-- and height are at most 2 ^ 8, so 2 ^ 157 units.
 use mathlib.Core.Path.{_≡_, sym}
 use mathlib.Core.Logic.{inl}
 use mathlib.Core.Bool.{false}
@@ -11,7 +12,17 @@ use lib.Dec.{T, lit<, lit≤}
 use lib.Ieee.{Float, lt, ofBits}
 use Rattle.floats.specs.Notation.{_⊖_}
 use Rattle.floats.specs.Value.{Is, unsigned, absolute}
-use Rattle.floats.specs.Within.{Within, Beyond, beyond-of, within-is, within-zero, within-test, within-sub, within-div, guarded}
+use Rattle.floats.specs.Within.{
+  Within,
+  Beyond,
+  beyond-of,
+  within-is,
+  within-zero,
+  within-test,
+  within-sub,
+  within-div,
+  guarded,
+}
 use Rattle.single.specs.Constants.{𝟎, ½, 𝟏, 𝟐, 𝟑, 𝟗, micro, nano, 𝟎-is, ½-is, 𝟏-is, 𝟐-is, 𝟑-is}
 use Rattle.single.specs.Rules.{guardedQuotient}
 use Rattle.points.specs.declared.Knot.{Knot}
@@ -19,8 +30,10 @@ use Rattle.points.specs.Knots.{knotAt, before, after}
 use Rattle.segments.specs.Rows.{Rows, x-most}
 
 -- ---- numbers that are not negative: p / c, p being at most b
-pub most-within : (x : Float) (p c b k : ℕ) → 0 < c → Is x p 0 c → p ≤ b → b * 2 ^ 149 ≤ 2 ^ k * c → Within x k
-most-within x p c b k C i l h = within-is x p 0 c p k C i (inl (sym (zero-add p))) (le-trans (mul-le-mul-right (2 ^ 149) l) h)
+pub most-within : (x : Float) (p c b k : ℕ) → 0 < c → Is x p 0 c → p ≤ b → b * 2 ^ 149 ≤ 2 ^ k * c
+    → Within x k
+most-within x p c b k C i l h =
+    within-is x p 0 c p k C i (inl (sym (zero-add p))) (le-trans (mul-le-mul-right (2 ^ 149) l) h)
 
 pub half-within : Within ½ 148
 half-within = most-within ½ 1 2 1 148 (lit< tt) ½-is (lit≤ tt) (lit≤ tt)
@@ -52,14 +65,17 @@ unfolding ofBits
 nine-guard = record { plus = tt; least = beyond-of tt (lit≤ tt) }
 
 -- what it lets pass
-pub passed : {d g : Float} {k l : ℕ} → Within d k → Guard g l → lt (absolute d) g ≡ false → Beyond d l
+pub passed : {d g : Float} {k l : ℕ} → Within d k → Guard g l → lt (absolute d) g ≡ false
+    → Beyond d l
 passed w g e = guarded w (g .plus) (g .least) e
 
-pub guarded-within : {p d g : Float} {j k l : ℕ} (t : ℕ) → Guard g l → Within p j → Within d k → j + 149 ≤ t + l → t ≤ 276
+pub guarded-within : {p d g : Float} {j k l : ℕ} (t : ℕ) → Guard g l → Within p j → Within d k
+    → j + 149 ≤ t + l → t ≤ 276
     → Within (guardedQuotient p d g) t
 unfolding guardedQuotient
 guarded-within {d = d} {g = g} t guard v w h K =
-    within-test (lt (absolute d) g) (within-zero 𝟎 t 𝟎-is) (λ e. within-div t v (passed w guard e) h K)
+    within-test (lt (absolute d) g) (within-zero 𝟎 t 𝟎-is)
+    (λ e. within-div t v (passed w guard e) h K)
 
 -- ---- knots
 pub record Small (k : Knot) : Type 0 where
@@ -75,8 +91,10 @@ rise-within p q = within-sub (q .high) (p .high) (lit< tt)
 module _ {xs ys : List Float} {n : ℕ} {a h : ℕ → ℕ} (r : Rows xs ys n a h) where
   pub knot-small : (i : ℕ) → i < n → Small (knotAt xs ys i)
   knot-small i l = record {
-    across = most-within (knotAt xs ys i .x) (a i) 1 255 157 (lit< tt) (r .x-is i l) (x-most r i l) (lit≤ tt);
-    high = most-within (knotAt xs ys i .y) (h i) 256 65280 157 (lit< tt) (r .y-is i l) (r .high i l) (lit≤ tt);
+    across = most-within (knotAt xs ys i .x) (a i) 1 255 157 (lit< tt) (r .x-is i l) (x-most r i l)
+        (lit≤ tt);
+    high = most-within (knotAt xs ys i .y) (h i) 256 65280 157 (lit< tt) (r .y-is i l) (r .high i l)
+        (lit≤ tt);
   }
 
   pub before-small : (i : ℕ) → i < n → Small (knotAt xs ys (before i))

@@ -75,7 +75,8 @@ piece-within {a} b {w = w} p z va vb vx =
     let c3 = within-div 224 (within-sub vb va (lit< tt)) divisor (lit≤ tt) (lit≤ tt) in
     let first = within-mul 243 c1 t (lit≤ tt) (lit≤ tt) in
     let second = within-mul 244 (within-mul 233 c2 t (lit≤ tt) (lit≤ tt)) t (lit≤ tt) (lit≤ tt) in
-    let c3-square = within-mul 242 (within-mul 233 c3 t (lit≤ tt) (lit≤ tt)) t (lit≤ tt) (lit≤ tt) in
+    let c3-square =
+    within-mul 242 (within-mul 233 c3 t (lit≤ tt) (lit≤ tt)) t (lit≤ tt) (lit≤ tt) in
     let third = within-mul 251 c3-square t (lit≤ tt) (lit≤ tt) in
     let two-terms = within-add (widen 243 (p .high) (lit≤ tt)) first (lit< tt) in
     let three-terms = widen 251 (within-add two-terms second (lit< tt)) (lit≤ tt) in

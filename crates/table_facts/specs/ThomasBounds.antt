@@ -14,7 +14,14 @@ use lib.Pow.{pow-pos, pow-mono}
 use lib.Ieee.{Float, binary32, lt}
 use Rattle.floats.specs.Value.{Is, absolute}
 use Rattle.floats.specs.Exact.{rep-dyadic, rep-whole, rep-times}
-use Rattle.floats.specs.Bound.{AtMost, AtLeast, at-most-more, at-most-cond, at-most-mul, at-most-div}
+use Rattle.floats.specs.Bound.{
+  AtMost,
+  AtLeast,
+  at-most-more,
+  at-most-cond,
+  at-most-mul,
+  at-most-div,
+}
 use Rattle.floats.specs.Bound.{whole-most, whole-least, mul-most, sub-most, sub-least}
 use Rattle.single.specs.Constants.{𝟎, 𝟏, pico, 𝟎-is, 𝟏-is}
 use Rattle.single.specs.Rules.{guardedQuotient}

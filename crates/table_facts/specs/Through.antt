@@ -30,7 +30,15 @@ use Rattle.spline.specs.declared.SplineBoundary.the-variants.{Natural, Clamped,
 use Rattle.spline.specs.Segments.{slopeOf}
 use Rattle.spline.specs.Second.{secondAt}
 use Rattle.table_facts.specs.StraightLaws.{straight-finite}
-use Rattle.table_facts.specs.HermiteKinds.{HermiteRule, catmull-rom, cardinal, monotone, alpha, tangent-finite, kind-finite}
+use Rattle.table_facts.specs.HermiteKinds.{
+  HermiteRule,
+  catmull-rom,
+  cardinal,
+  monotone,
+  alpha,
+  tangent-finite,
+  kind-finite,
+}
 use Rattle.table_facts.specs.SplineBounds.{SlopesWithin, second-within}
 use Rattle.table_facts.specs.SplinePieces.{slope-of-within, splineAt, spline-within}
 use Rattle.table_facts.specs.ListLaws.{cubicOf, straight-at-point, kind-at-point}
@@ -174,7 +182,8 @@ module _ (l : List Point) (bytes : All Bytes l) where
   pub sample-finite : (k : CurveInterpolation) → LegalKind k → (S v : ℕ) → InRange (sampleX S v)
       → T (finite (sampleOf k l S v))
   unfolding sampleOf sampled
-  sample-finite k h S v p = clamped-finite (unclampedAt k l (sampleX S v)) (height-finite k h (sampleX S v) p)
+  sample-finite k h S v p =
+      clamped-finite (unclampedAt k l (sampleX S v)) (height-finite k h (sampleX S v) p)
 
   -- .. of 256 samples and of 4,096
   pub byte-sample-finite : (k : CurveInterpolation) → LegalKind k → (v : ℕ) → v < 256
@@ -186,7 +195,8 @@ module _ (l : List Point) (bytes : All Bytes l) where
   fine-sample-finite k h v inside = sample-finite k h 4096 v (sample-4096 v inside)
 
   -- ---- through points
-  height-through : (k : CurveInterpolation) → NoSpline k → (p : Point) → List·Memᴰ p (kept l) → (x : Float) → Is x (p .x) 0 1
+  height-through : (k : CurveInterpolation) → NoSpline k → (p : Point) → List·Memᴰ p (kept l)
+      → (x : Float) → Is x (p .x) 0 1
       → Is (unclampedAt k l x) (256 * p .y) 0 256
   height-through k h p m x e = elim (three-ways k (h .tension)) [
     | inl linear ↦ rw (linear, linear-height l x) (straight-at-point (kept l) is-kept x p m e)
@@ -197,19 +207,23 @@ module _ (l : List Point) (bytes : All Bytes l) where
   ]
 
   -- for any S: a sample at a kept point's x has the point's height, exactly
-  pub sample-through : (k : CurveInterpolation) → NoSpline k → (p : Point) → List·Memᴰ p (kept l) → (S v : ℕ) → Is (sampleX S v) (p .x) 0 1
+  pub sample-through : (k : CurveInterpolation) → NoSpline k → (p : Point) → List·Memᴰ p (kept l)
+      → (S v : ℕ) → Is (sampleX S v) (p .x) 0 1
       → Is (sampleOf k l S v) (256 * p .y) 0 256
   unfolding sampleOf sampled
   sample-through k h p m S v e =
       let i = height-through k h p m (sampleX S v) e in
-      rw (byte-kept (unclampedAt k l (sampleX S v)) (p .y) (all-mem Bytes (kept l) (is-kept .bytes) p m .1) i) i
+      rw (byte-kept (unclampedAt k l (sampleX S v)) (p .y)
+      (all-mem Bytes (kept l) (is-kept .bytes) p m .1) i) i
 
   -- of 256 samples: the entry at a kept point's x is its y
-  pub through-points : (k : CurveInterpolation) → NoSpline k → (p : Point) → List·Memᴰ p (kept l) → entryOf k l (p .x) ≡ p .y
+  pub through-points : (k : CurveInterpolation) → NoSpline k → (p : Point) → List·Memᴰ p (kept l)
+      → entryOf k l (p .x) ≡ p .y
   unfolding entryOf
   through-points k h p m =
       let b = all-mem Bytes (kept l) (is-kept .bytes) p m in
-      byte-256ths (sampleOf k l 256 (p .x)) (256 * p .y) (omega arith) (sample-through k h p m 256 (p .x) (sample-x-is (p .x) (b .0))) ∙ omega arith
+      byte-256ths (sampleOf k l 256 (p .x)) (256 * p .y) (omega arith)
+      (sample-through k h p m 256 (p .x) (sample-x-is (p .x) (b .0))) ∙ omega arith
 
   -- and of 4,096: where the point's x is 17 * j, sample 273 * j is its y
   pub fine-through : (k : CurveInterpolation) → NoSpline k → (p : Point) → List·Memᴰ p (kept l)

@@ -1,5 +1,5 @@
--- The tables of a given list, and what the two calls that build them answer, as document 01's sections "Kinds and tables" and "When a call says no" have
--- them. Definitions only.
+-- The tables of a given list, and what the two calls that build them answer, as document 01's
+-- sections "Kinds and tables" and "When a call says no" have them. Definitions only.
 use Prim.Native.Nat.{ℕ}
 use mathlib.Core.Path.{_≡_}
 use mathlib.Core.Bool.{Bool, cond, not, _||_}
@@ -67,7 +67,8 @@ abbrev pub tableChecks : Curve → ℕ → List Check
 tableChecks curve S = listChecks curve ++ lengthCheck S ∷ []
 
 -- the answer, and the lent slice: filled, or on a refusal unchanged
-pub record BuildTableCall (curve : Curve) (kind : CurveInterpolation) (old : List Float) (r : Answer) (new : List Float) : Type 0 where
+pub record BuildTableCall (curve : Curve) (kind : CurveInterpolation) (old : List Float)
+    (r : Answer) (new : List Float) : Type 0 where
   pub answer : r ≡ firstRefusal (tableChecks curve (length old))
   pub table : new ≡ cond (isDone r) (fineTable kind (listOf curve) (length old)) old
 

@@ -1,4 +1,5 @@
-// Tables of a curve: the kinds of interpolation, S samples into a lent slice, and the byte table by value.
+// Tables of a curve: the kinds of interpolation, S samples into a lent slice, and
+// the byte table by value.
 ghost use mathlib.Core.Path.{_≡_};
 ghost use Prim.Native.Nat.{_≤_};
 ghost use mathlib.Core.List.{[], _∷_};
@@ -18,7 +19,12 @@ ghost use Rattle.tables.specs.Kinds.{
   knotValueRow,
 };
 ghost use Rattle.tables.specs.Tables.{fineTable, bytesOf, tableOf};
-ghost use Rattle.tables.specs.Tables.{isTableLength, lengthCheck, BuildTableCall, BuildLutCall};
+ghost use Rattle.tables.specs.Tables.{
+  isTableLength,
+  lengthCheck,
+  BuildTableCall,
+  BuildLutCall,
+};
 use answers::Answer;
 use answers::first_of;
 use points::Curve;
@@ -231,7 +237,8 @@ fn knot_values(
 // The samples of a given list.
 fn sample_curve(curve: Curve, kind: CurveInterpolation, samples: &mut [f32])
     requires { ⌜ (2 ≤ length (now samples)) × (length (now samples) ≤ 4096) ⌝ }
-    ensures { λ _. ⌜ now (samples .exit) ≡ fineTable kind (listOf curve) (length (now (samples .entry))) ⌝ }
+    ensures { λ _. ⌜
+        now (samples .exit) ≡ fineTable kind (listOf curve) (length (now (samples .entry))) ⌝ }
 {
     let sorted = curve.sorted();
     let knots = sorted.knots();

@@ -1,4 +1,5 @@
--- The tangents of CatmullRom and Cardinal (Catmull and Rom, "A class of local interpolating splines", 1974), as document 01 has them. Definitions only.
+-- The tangents of CatmullRom and Cardinal (Catmull and Rom, "A class of local interpolating
+-- splines", 1974), as document 01 has them. Definitions only.
 use Prim.Native.Nat.{ℕ}
 use mathlib.Core.List.{List}
 use lib.Ieee.{Float}
@@ -22,4 +23,5 @@ unfoldable pub looseSlope : Float → Knot → Knot → Float
 looseSlope scale l r = guardedQuotient (scale ⊗ (r .y ⊖ l .y)) (r .x ⊖ l .x) micro
 
 unfoldable pub cardinalAt : ℕ → List Float → List Float → ℕ → ℕ → Float
-cardinalAt q xs ys n i = looseSlope (looseness q) (knotAt xs ys (before i)) (knotAt xs ys (after n i))
+cardinalAt q xs ys n i =
+    looseSlope (looseness q) (knotAt xs ys (before i)) (knotAt xs ys (after n i))

@@ -29,7 +29,9 @@ fn after(n: usize, i: usize) -> usize
 // The tangents of CatmullRom.
 pub fn catmull_rom(xs: &[f32; 66], ys: &[f32; 66], n: usize, tangents: &mut [f32; 66])
     requires { ⌜ (2 ≤ n) × (n ≤ 66) ⌝ }
-    ensures { λ _. ⌜ Stored (CatmullRom.catmullRomAt (now (xs .entry)) (now (ys .entry)) n) 0 n (now (tangents .entry)) (now (tangents .exit)) ⌝ }
+    ensures { λ _. ⌜
+        Stored (CatmullRom.catmullRomAt (now (xs .entry)) (now (ys .entry)) n) 0 n
+        (now (tangents .entry)) (now (tangents .exit)) ⌝ }
 {
     let mut i: usize = 0;
     while i < n {
@@ -57,7 +59,9 @@ fn loose_slope(scale: f32, l: Knot, r: Knot) -> f32
 // The tangents of Cardinal with the tension q.
 pub fn cardinal(q: u8, xs: &[f32; 66], ys: &[f32; 66], n: usize, tangents: &mut [f32; 66])
     requires { ⌜ (2 ≤ n) × (n ≤ 66) ⌝ }
-    ensures { λ _. ⌜ Stored (CatmullRom.cardinalAt q (now (xs .entry)) (now (ys .entry)) n) 0 n (now (tangents .entry)) (now (tangents .exit)) ⌝ }
+    ensures { λ _. ⌜
+        Stored (CatmullRom.cardinalAt q (now (xs .entry)) (now (ys .entry)) n) 0 n
+        (now (tangents .entry)) (now (tangents .exit)) ⌝ }
 {
     let scale = looseness(q);
     let mut i: usize = 0;

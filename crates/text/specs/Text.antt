@@ -1,5 +1,6 @@
--- What the program `tonetable` prints, as document 01's section "Stored record" has it: "16 lines of 16 two-digit upper-case hexadecimal entries, one
--- space between, from entry 0; or one line, `refused ` and the number". Definitions only.
+-- What the program `tonetable` prints, as document 01's section "Stored record" has it: "16 lines
+-- of 16 two-digit upper-case hexadecimal entries, one space between, from entry 0; or one line,
+-- `refused ` and the number". Definitions only.
 use Prim.Native.Nat.{ℕ, zero, suc, _+_, _/_, _%_, _≤_}
 use mathlib.Core.Path.{_≡_}
 use mathlib.Core.Bool.{cond}
@@ -56,7 +57,8 @@ refusalText n = 114 ∷ 101 ∷ 102 ∷ 117 ∷ 115 ∷ 101 ∷ 100 ∷ space �
 unfoldable pub printed : List ℕ → List ℕ
 printed s =
     let r = readRecord s in
-    cond (isDone (r .answer)) (tableText (byteTable (r .set .kind) (r .set .master))) (refusalText (numberOf (r .answer)))
+    cond (isDone (r .answer)) (tableText (byteTable (r .set .kind) (r .set .master)))
+    (refusalText (numberOf (r .answer)))
 
 -- the characters of a text
 abbrev pub textOf : Text → List ℕ

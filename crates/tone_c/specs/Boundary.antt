@@ -1,5 +1,6 @@
--- The calls for a C or Rust caller, as the page of the C boundary has them: what a caller gives as bytes and numbers, for each call its refusals in
--- document 01's order, and what is in lent memory after it. Definitions only.
+-- The calls for a C or Rust caller, as the page of the C boundary has them: what a caller gives as
+-- bytes and numbers, for each call its refusals in document 01's order, and what is in lent memory
+-- after it. Definitions only.
 use Prim.Native.Nat.{ℕ, _/_}
 use mathlib.Core.Path.{_≡_}
 use mathlib.Core.Bool.{cond}
@@ -54,10 +55,14 @@ setOf stored = readRecord stored .set
 abbrev pub toneTableChecks : List ℕ → ℕ → ℕ → List Check
 toneTableChecks points kind held = givenChecks points kind ++ roomCheck 256 held ∷ []
 
--- the number answered; and the output: the byte table in place of its first 256 bytes, or on a refusal unchanged
-pub record ToneTableCall (points : List ℕ) (kind tension : ℕ) (start end : ℤ) (old : List ℕ) (r : ℕ) (new : List ℕ) : Type 0 where
+-- the number answered; and the output: the byte table in place of its first 256 bytes,
+-- or on a refusal unchanged
+pub record ToneTableCall (points : List ℕ) (kind tension : ℕ) (start end : ℤ) (old : List ℕ) (r : ℕ)
+    (new : List ℕ) : Type 0 where
   pub number : r ≡ numberOf (firstRefusal (toneTableChecks points kind (length old)))
-  pub table : new ≡ cond (eqb r 0) (byteTable (kindOf kind tension start end) (pairsOf points) ++ drop 256 old) old
+  pub table : new
+      ≡ cond (eqb r 0) (byteTable (kindOf kind tension start end) (pairsOf points) ++ drop 256 old)
+      old
 
 -- ---- tone_fine_table
 -- 3 5 14: "A float table's length isn't 256 or 4,096 (build)"
@@ -65,9 +70,11 @@ abbrev pub toneFineTableChecks : List ℕ → ℕ → ℕ → List Check
 toneFineTableChecks points kind S = givenChecks points kind ++ lengthCheck S ∷ []
 
 -- the number answered; and the lent table: filled, or on a refusal unchanged
-pub record ToneFineTableCall (points : List ℕ) (kind tension : ℕ) (start end : ℤ) (old : List Float) (r : ℕ) (new : List Float) : Type 0 where
+pub record ToneFineTableCall (points : List ℕ) (kind tension : ℕ) (start end : ℤ) (old : List Float)
+    (r : ℕ) (new : List Float) : Type 0 where
   pub number : r ≡ numberOf (firstRefusal (toneFineTableChecks points kind (length old)))
-  pub table : new ≡ cond (eqb r 0) (fineTable (kindOf kind tension start end) (pairsOf points) (length old)) old
+  pub table : new
+      ≡ cond (eqb r 0) (fineTable (kindOf kind tension start end) (pairsOf points) (length old)) old
 
 -- ---- tone_lookup
 -- the number answered; and the lent values: each replaced, or on a refusal unchanged
@@ -78,10 +85,12 @@ pub record ToneLookupCall (table old : List Float) (r : ℕ) (new : List Float) 
 -- ---- tone_plane
 -- 8 of the format's number, then 9 11 12 of the one-table call
 abbrev pub tonePlaneChecks : ℕ → ℕ → ℕ → ℕ → ℕ → List Check
-tonePlaneChecks format w h step held = formatCheck format ∷ lutChecks (formatOf format) w h step held
+tonePlaneChecks format w h step held =
+    formatCheck format ∷ lutChecks (formatOf format) w h step held
 
 -- the number answered; and the plane: toned, or on a refusal unchanged
-pub record TonePlaneCall (table : List ℕ) (format w h step : ℕ) (old : List ℕ) (r : ℕ) (new : List ℕ) : Type 0 where
+pub record TonePlaneCall (table : List ℕ) (format w h step : ℕ) (old : List ℕ) (r : ℕ)
+    (new : List ℕ) : Type 0 where
   pub number : r ≡ numberOf (firstRefusal (tonePlaneChecks format w h step (length old)))
   pub plane : new ≡ cond (eqb r 0) (tonedWithin (formatOf format) w h step table old) old
 
@@ -138,10 +147,12 @@ pub record TonePictureCall (asked : PictureAsked) (r : ℕ) (after : Outputs) : 
 abbrev pub toneRecordTableChecks : List ℕ → ℕ → List Check
 toneRecordTableChecks stored held = recordChecks stored ++ roomCheck 256 held ∷ []
 
--- the number answered; and the output: the master's byte table in place of its first 256 bytes, or on a refusal unchanged
+-- the number answered; and the output: the master's byte table in place of its first 256 bytes,
+-- or on a refusal unchanged
 pub record ToneRecordTableCall (stored old : List ℕ) (r : ℕ) (new : List ℕ) : Type 0 where
   pub number : r ≡ numberOf (firstRefusal (toneRecordTableChecks stored (length old)))
-  pub table : new ≡ cond (eqb r 0) (byteTable (setOf stored .kind) (setOf stored .master) ++ drop 256 old) old
+  pub table : new
+      ≡ cond (eqb r 0) (byteTable (setOf stored .kind) (setOf stored .master) ++ drop 256 old) old
 
 -- ---- tone_record_copy
 -- what the present writer makes of the record's set
@@ -150,10 +161,13 @@ copyOf stored = encode (setOf stored)
 
 -- 1 to 7 of the record, then 13
 abbrev pub toneRecordCopyChecks : List ℕ → ℕ → List Check
-toneRecordCopyChecks stored held = recordChecks stored ++ roomCheck (length (copyOf stored)) held ∷ []
+toneRecordCopyChecks stored held =
+    recordChecks stored ++ roomCheck (length (copyOf stored)) held ∷ []
 
--- the number answered; the output: the copy in place of its first bytes; and its length; on a refusal both unchanged
-pub record ToneRecordCopyCall (stored old : List ℕ) (oldWritten r : ℕ) (new : List ℕ) (newWritten : ℕ) : Type 0 where
+-- the number answered; the output: the copy in place of its first bytes; and its length; on
+-- a refusal both unchanged
+pub record ToneRecordCopyCall (stored old : List ℕ) (oldWritten r : ℕ) (new : List ℕ)
+    (newWritten : ℕ) : Type 0 where
   pub number : r ≡ numberOf (firstRefusal (toneRecordCopyChecks stored (length old)))
   pub out : new ≡ cond (eqb r 0) (copyOf stored ++ drop (length (copyOf stored)) old) old
   pub written : newWritten ≡ cond (eqb r 0) (length (copyOf stored)) oldWritten

@@ -1,5 +1,5 @@
--- The definitions where a slip would show: a last odd byte, the numbers of the formats, the order of each call's refusals, the greatest count of
--- points, and arguments that a kind does not read.
+-- The definitions where a slip would show: a last odd byte, the numbers of the formats, the order
+-- of each call's refusals, the greatest count of points, and arguments that a kind does not read.
 use mathlib.Core.Path.{_≡_, refl}
 use mathlib.Core.List.{List, [], _∷_}
 use Prim.Native.Nat.{ℕ, zero, suc}
@@ -49,16 +49,21 @@ unfolding pairs
 odd-byte = refl
 
 -- 65 pairs, then kind 10, then an output one byte too short; 64 pairs and an odd byte pass
-pub table-order : (firstRefusal (toneTableChecks (replicate 130 7) 10 255) ≡ PointCount) × (firstRefusal (toneTableChecks (replicate 129 7) 10 255) ≡ UnknownKind)
-    × (firstRefusal (toneTableChecks (replicate 129 7) 9 255) ≡ OutputTooSmall) × (firstRefusal (toneTableChecks (replicate 129 7) 9 256) ≡ Done)
+pub table-order : (firstRefusal (toneTableChecks (replicate 130 7) 10 255) ≡ PointCount)
+    × (firstRefusal (toneTableChecks (replicate 129 7) 10 255) ≡ UnknownKind)
+    × (firstRefusal (toneTableChecks (replicate 129 7) 9 255) ≡ OutputTooSmall)
+    × (firstRefusal (toneTableChecks (replicate 129 7) 9 256) ≡ Done)
 table-order = (refl, refl, refl, refl)
 
-pub fine-table-order : (firstRefusal (toneFineTableChecks (replicate 130 7) 10 257) ≡ PointCount) × (firstRefusal (toneFineTableChecks (replicate 129 7) 10 257) ≡ UnknownKind)
-    × (firstRefusal (toneFineTableChecks (replicate 129 7) 9 257) ≡ TableLength) × (firstRefusal (toneFineTableChecks (replicate 129 7) 9 4096) ≡ Done)
+pub fine-table-order : (firstRefusal (toneFineTableChecks (replicate 130 7) 10 257) ≡ PointCount)
+    × (firstRefusal (toneFineTableChecks (replicate 129 7) 10 257) ≡ UnknownKind)
+    × (firstRefusal (toneFineTableChecks (replicate 129 7) 9 257) ≡ TableLength)
+    × (firstRefusal (toneFineTableChecks (replicate 129 7) 9 4096) ≡ Done)
 fine-table-order = (refl, refl, refl, refl)
 
 -- the tension matters to kind 7 only, the slopes to kind 8 only
-pub unread : (k q r : ℕ) (s t e f : ℤ) → (k ≡ 7 → q ≡ r) → (k ≡ 8 → (s ≡ t) × (e ≡ f)) → kindOf k q s e ≡ kindOf k r t f
+pub unread : (k q r : ℕ) (s t e f : ℤ) → (k ≡ 7 → q ≡ r) → (k ≡ 8 → (s ≡ t) × (e ≡ f))
+    → kindOf k q s e ≡ kindOf k r t f
 unread zero q r s t e f tension slopes = refl
 unread (suc zero) q r s t e f tension slopes = refl
 unread (suc (suc zero)) q r s t e f tension slopes = refl
@@ -67,17 +72,22 @@ unread (suc (suc (suc (suc zero)))) q r s t e f tension slopes = refl
 unread (suc (suc (suc (suc (suc zero))))) q r s t e f tension slopes = refl
 unread (suc (suc (suc (suc (suc (suc zero)))))) q r s t e f tension slopes = refl
 unread (suc (suc (suc (suc (suc (suc (suc zero))))))) q r s t e f tension slopes = rw (tension refl)
-unread (suc (suc (suc (suc (suc (suc (suc (suc zero)))))))) q r s t e f tension slopes = rw (slopes refl .0, slopes refl .1)
+unread (suc (suc (suc (suc (suc (suc (suc (suc zero)))))))) q r s t e f tension slopes =
+    rw (slopes refl .0, slopes refl .1)
 unread (suc (suc (suc (suc (suc (suc (suc (suc (suc n))))))))) q r s t e f tension slopes = refl
 
 -- ---- pictures
-pub formats : (formatOf 0 ≡ Gray8) × (formatOf 3 ≡ Rgba) × (formatOf 6 ≡ Yuv420P) × (formatOf 11 ≡ YuvJ444P)
+pub formats : (formatOf 0 ≡ Gray8) × (formatOf 3 ≡ Rgba) × (formatOf 6 ≡ Yuv420P)
+    × (formatOf 11 ≡ YuvJ444P)
 unfolding formatOf
 formats = (refl, refl, refl, refl)
 
 -- an unknown format, then a side of 4,097; the last format passes
-pub plane-order : (firstRefusal (tonePlaneChecks 12 4097 1 0 0) ≡ UnsupportedFormat) × (firstRefusal (tonePlaneChecks 11 4097 1 0 0) ≡ PictureTooLarge)
-    × (firstRefusal (tonePlaneChecks 11 4 1 3 0) ≡ RowStep) × (firstRefusal (tonePlaneChecks 11 4 1 4 3) ≡ PlaneTooShort) × (firstRefusal (tonePlaneChecks 11 4 1 4 4) ≡ Done)
+pub plane-order : (firstRefusal (tonePlaneChecks 12 4097 1 0 0) ≡ UnsupportedFormat)
+    × (firstRefusal (tonePlaneChecks 11 4097 1 0 0) ≡ PictureTooLarge)
+    × (firstRefusal (tonePlaneChecks 11 4 1 3 0) ≡ RowStep)
+    × (firstRefusal (tonePlaneChecks 11 4 1 4 3) ≡ PlaneTooShort)
+    × (firstRefusal (tonePlaneChecks 11 4 1 4 4) ≡ Done)
 unfolding formatOf needed
 plane-order = (refl, refl, refl, refl, refl)
 
@@ -105,9 +115,12 @@ pictureAnswered stored format w planes step room =
       };
     }))
 
--- the record's 7 before all others; an unknown format, or one that the set call does not take, before a width of 4,097; the output last
-pub picture-order : (pictureAnswered longer 12 4097 0 0 0 ≡ TrailingBytes) × (pictureAnswered empty 12 4097 0 0 0 ≡ UnsupportedFormat)
-    × (pictureAnswered empty 1 4097 0 0 0 ≡ UnsupportedFormat) × (pictureAnswered empty 6 4097 2 0 0 ≡ PictureTooLarge)
+-- the record's 7 before all others; an unknown format, or one that the set call does not take,
+-- before a width of 4,097; the output last
+pub picture-order : (pictureAnswered longer 12 4097 0 0 0 ≡ TrailingBytes)
+    × (pictureAnswered empty 12 4097 0 0 0 ≡ UnsupportedFormat)
+    × (pictureAnswered empty 1 4097 0 0 0 ≡ UnsupportedFormat)
+    × (pictureAnswered empty 6 4097 2 0 0 ≡ PictureTooLarge)
     × (pictureAnswered empty 6 4 2 3 0 ≡ MissingPlane) × (pictureAnswered empty 6 4 3 3 0 ≡ RowStep)
     × (pictureAnswered empty 6 4 3 4 0 ≡ OutputTooSmall) × (pictureAnswered empty 6 4 3 4 1 ≡ Done)
 unfolding formatOf needed
@@ -140,12 +153,15 @@ unfolding formatOf needed
 picture-rooms = (refl, refl, refl, refl)
 
 -- ---- records
-pub record-table-order : (firstRefusal (toneRecordTableChecks longer 255) ≡ TrailingBytes) × (firstRefusal (toneRecordTableChecks empty 255) ≡ OutputTooSmall)
+pub record-table-order : (firstRefusal (toneRecordTableChecks longer 255) ≡ TrailingBytes)
+    × (firstRefusal (toneRecordTableChecks empty 255) ≡ OutputTooSmall)
     × (firstRefusal (toneRecordTableChecks empty 256) ≡ Done)
 record-table-order = (refl, refl, refl)
 
 -- the default kind, where a record names it, is left out of the copy: 1 byte for 2
-pub record-copy-order : (firstRefusal (toneRecordCopyChecks longer 0) ≡ TrailingBytes) × (firstRefusal (toneRecordCopyChecks empty 1) ≡ OutputTooSmall)
-    × (firstRefusal (toneRecordCopyChecks empty 2) ≡ Done) × (firstRefusal (toneRecordCopyChecks (0x10 ∷ 2 ∷ []) 1) ≡ Done)
+pub record-copy-order : (firstRefusal (toneRecordCopyChecks longer 0) ≡ TrailingBytes)
+    × (firstRefusal (toneRecordCopyChecks empty 1) ≡ OutputTooSmall)
+    × (firstRefusal (toneRecordCopyChecks empty 2) ≡ Done)
+    × (firstRefusal (toneRecordCopyChecks (0x10 ∷ 2 ∷ []) 1) ≡ Done)
 unfolding readRecord readFields readKind readNumber readCarried encode bitsUnder
 record-copy-order = (refl, refl, refl, refl)

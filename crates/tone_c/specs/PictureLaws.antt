@@ -51,7 +51,8 @@ module _ {asked : PictureAsked} {after : Outputs} (run : PictureRun asked after)
   unfolding chroma
   run-cr = rw accepted-run at (run .call .cr)
 
-module _ {asked : PictureAsked} {r : ℕ} {after : Outputs} (call : TonePictureCall asked r after) where
+module _ {asked : PictureAsked} {r : ℕ} {after : Outputs}
+    (call : TonePictureCall asked r after) where
   -- where r is not 0
   old : eqb r 0 ≡ false → after ≡ asked .lent .outputs
   old other = call .unchanged (λ zero. true≢false (rw zero at other))

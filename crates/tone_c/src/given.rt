@@ -1,4 +1,5 @@
-// What a caller gives as bytes and numbers: points, a kind, a format. Each check answers for itself; the calls put them in their order.
+// What a caller gives as bytes and numbers: points, a kind, a format. Each check answers for
+// itself; the calls put them in their order.
 ghost use mathlib.Core.Path.{_≡_};
 ghost use Prim.Native.Nat.{_≤_};
 ghost use Rattle.points.specs.Points.{listOf};

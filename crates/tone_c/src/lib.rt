@@ -1,6 +1,15 @@
-// The tone calls for a C or Rust caller. Each answers one byte: 0 when it did its work, else the first refusal's number; then no lent byte has changed.
+// The tone calls for a C or Rust caller. Each answers one byte: 0 when it did its work, else the
+// first refusal's number; then no lent byte has changed.
 // A slice crosses as a pointer and a length.
-ghost use Rattle.tone_c.specs.Boundary.{ToneTableCall, ToneFineTableCall, ToneLookupCall, TonePlaneCall, TonePictureCall, ToneRecordTableCall, ToneRecordCopyCall};
+ghost use Rattle.tone_c.specs.Boundary.{
+  ToneTableCall,
+  ToneFineTableCall,
+  ToneLookupCall,
+  TonePlaneCall,
+  TonePictureCall,
+  ToneRecordTableCall,
+  ToneRecordCopyCall,
+};
 ghost use mathlib.Core.Path.{_≡_};
 ghost use Rattle.tone_c.specs.Version.{version};
 use answers::first_of;
@@ -26,7 +35,8 @@ pub extern "C" fn tone_version() -> u32
     1
 }
 
-// Writes the byte table of the curve through the points, x, y pairs in any order, to the front of table. A last odd byte of points is ignored.
+// Writes the byte table of the curve through the points, x, y pairs in any order, to the front of
+// table. A last odd byte of points is ignored.
 // The tension is read for kind 7 only, the slopes for kind 8 only.
 #[no_mangle]
 pub extern "C" fn tone_table(
@@ -76,16 +86,19 @@ pub extern "C" fn tone_fine_table(
     built.number()
 }
 
-// Replaces each value, in 0..1, by the height there of a fine table of 4,096 samples, in 0..1 again.
+// Replaces each value, in 0..1, by the height there of a fine table of
+// 4,096 samples, in 0..1 again.
 #[no_mangle]
 pub extern "C" fn tone_lookup(table: &[f32], values: &mut [f32]) -> u8
-    ensures { λ r. ⌜ ToneLookupCall (now (table .entry)) (now (values .entry)) r (now (values .exit)) ⌝ }
+    ensures { λ r. ⌜
+        ToneLookupCall (now (table .entry)) (now (values .entry)) r (now (values .exit)) ⌝ }
 {
     let replaced = lookup::lookup(table, values);
     replaced.number()
 }
 
-// Tones a plane of any of the twelve formats in place by one table. Alpha, chroma and padding stay as they are.
+// Tones a plane of any of the twelve formats in place by one table. Alpha, chroma and
+// padding stay as they are.
 #[no_mangle]
 pub extern "C" fn tone_plane(
     table: &[u8; 256],
@@ -109,8 +122,10 @@ pub extern "C" fn tone_plane(
     toned.number()
 }
 
-// Tones a picture by the set that a record holds into tight rows at the front of out_y; for YUV the chroma planes u and v are copied.
-// y is the luma or colour plane. The chroma planes of other formats are not read, and their outputs stay.
+// Tones a picture by the set that a record holds into tight rows at the front of out_y; for YUV the
+// chroma planes u and v are copied.
+// y is the luma or colour plane. The chroma planes of other formats are not
+// read, and their outputs stay.
 // A caller gives no chroma steps and gets none: they are 0.
 #[no_mangle]
 pub extern "C" fn tone_picture<'a, 'x, 'y, 'z>(
@@ -191,7 +206,8 @@ pub extern "C" fn tone_record_table(record: &[u8], table: &mut [u8]) -> u8
     answer.number()
 }
 
-// Writes the set that a record holds to the front of out with the present writer, and its length to written.
+// Writes the set that a record holds to the front of out with the present writer,
+// and its length to written.
 #[no_mangle]
 pub extern "C" fn tone_record_copy(record: &[u8], out: &mut [u8], written: &mut usize) -> u8
     ensures { λ r. ⌜

@@ -1,4 +1,5 @@
--- Two's complement of 16 bits, as the code computes it: v itself, or 65,535 less −1 − v. The code reads a signed number through `toZ` and `ofZ`.
+-- Two's complement of 16 bits, as the code computes it: v itself, or 65,535 less −1 − v. The code
+-- reads a signed number through `toZ` and `ofZ`.
 use Prim.Native.Nat.{ℕ, suc, _-_, _≤_, _<_}
 use native.Mathlib.Omega.{arith}
 use mathlib.Core.Path.{_≡_, refl, sym, ap, _∙_}
@@ -46,7 +47,8 @@ module _ (v : ℤ) (fits : SFits w16 v) where
     minus-is : toZ w16 (ofZ w16 (negsuc 0 -ℤ read)) ≡ pos (mag v)
     minus-is = toZ-ofZ minus-fits ∙ difference
 
-    pub minus-casts : T (nonNeg (toZ w16 (ofZ w16 (negsuc 0 -ℤ read)))) × Fits w16 (natAbs (toZ w16 (ofZ w16 (negsuc 0 -ℤ read))))
+    pub minus-casts : T (nonNeg (toZ w16 (ofZ w16 (negsuc 0 -ℤ read))))
+        × Fits w16 (natAbs (toZ w16 (ofZ w16 (negsuc 0 -ℤ read))))
     minus-casts = let small : mag v < 32768 = fits .sfits in rw minus-is (tt, record { fits = omega arith })
 
     pub minus-below : natAbs (toZ w16 (ofZ w16 (negsuc 0 -ℤ read))) ≤ 65535

@@ -26,7 +26,18 @@ use Rattle.sets.specs.Sets.{viewOf, channelOf, curveChecks, setChecks, curveAns
 use Rattle.sets.specs.Legal.{passed-count}
 use Rattle.writing.specs.declared.Draft.{Draft}
 use Rattle.writing.specs.declared.Written.{Written}
-use Rattle.writing.specs.Encode.{pairBytes, fieldBytes, masterField, oneIf, bitsUnder, there, encode, Write, writeChecks, writeRecord}
+use Rattle.writing.specs.Encode.{
+  pairBytes,
+  fieldBytes,
+  masterField,
+  oneIf,
+  bitsUnder,
+  there,
+  encode,
+  Write,
+  writeChecks,
+  writeRecord,
+}
 use Rattle.writing.specs.Cases.{written, write-done}
 use Rattle.writing.specs.Contracts.{bytesMade, Room, Appended, Holds, Held, WriteRecordCall}
 use Rattle.records.specs.Format.{longest}
@@ -48,7 +59,8 @@ abbrev pub draft : List ℕ → ℕ → Draft
 draft bytes n = record { bytes = bytes; length = n }
 
 -- a byte stored behind
-pub stored-one : (bytes : List ℕ) (n b : ℕ) → n < ListN.length bytes → Appended (b ∷ []) (draft bytes n) (draft (set bytes n b) (n + 1))
+pub stored-one : (bytes : List ℕ) (n b : ℕ) → n < ListN.length bytes
+    → Appended (b ∷ []) (draft bytes n) (draft (set bytes n b) (n + 1))
 stored-one bytes n b h = record { bytes = rw (add-one n, take-suc-set bytes n b h); length = refl }
 
 -- two
@@ -56,7 +68,8 @@ pub stored-two : (bytes : List ℕ) (n a b : ℕ) → n + 1 < ListN.length bytes
     → Appended (a ∷ b ∷ []) (draft bytes n) (draft (set (set bytes n a) (n + 1) b) (n + 2))
 stored-two bytes n a b h =
     let two : n + 1 + 1 ≡ n + 2 = omega arith in
-    rw two at (appended-then (stored-one bytes n a (omega arith)) (stored-one (set bytes n a) (n + 1) b (simp length-set h)))
+    rw two at
+    (appended-then (stored-one bytes n a (omega arith)) (stored-one (set bytes n a) (n + 1) b (simp length-set h)))
 
 -- ---- the points of a list
 pairs-append : (l m : List Point) → pairBytes (l ++ m) ≡ pairBytes l ++ pairBytes m
@@ -65,7 +78,8 @@ pairs-append [] m = refl
 pairs-append (p ∷ l) m = rw (pairs-append l m)
 
 -- one point more
-pub pairs-next : (l : List Point) (i : ℕ) → i < ListN.length l → pairBytes (take i l) ++ (nth l i .x ∷ nth l i .y ∷ []) ≡ pairBytes (take (i + 1) l)
+pub pairs-next : (l : List Point) (i : ℕ) → i < ListN.length l
+    → pairBytes (take i l) ++ (nth l i .x ∷ nth l i .y ∷ []) ≡ pairBytes (take (i + 1) l)
 unfolding pairBytes
 pairs-next l i h = rw (add-one i, take-suc l i (pt 0 0) h, pairs-append)
 
@@ -86,7 +100,8 @@ module _ (m : Channel) (t : m .present ≡ true) (e : channelAnswer m ≡ Done) 
   unfolding channelAnswer curveAnswer
   present-count = passed-count (m .curve) (rw t at e)
 
-  pub present-bytes : ListN.length (m .curve .points) ≡ 64 → m .curve .count ∷ pairBytes (listOf (m .curve)) ≡ fieldBytes (channelOf m)
+  pub present-bytes : ListN.length (m .curve .points) ≡ 64
+      → m .curve .count ∷ pairBytes (listOf (m .curve)) ≡ fieldBytes (channelOf m)
   present-bytes long = rw (t, length-take-le (m .curve .count) (m .curve .points) (omega (arith, present-count)))
 
 pub there-channel : (m : Channel) → m .present ≡ there (channelOf m)
@@ -94,7 +109,8 @@ there-channel m = by-test (m .present) (λ t. rw t) (λ t. rw t)
 
 -- ---- the master as a field
 module _ (c : Curve) (long : ListN.length (c .points) ≡ 64) (e : curveAnswer c ≡ Done) where
-  some-or-none : (n : ℕ) (l : List Point) → n ≤ ListN.length l → cond (not (eqb n 0)) (some (take n l)) none ≡ masterField (take n l)
+  some-or-none : (n : ℕ) (l : List Point) → n ≤ ListN.length l
+      → cond (not (eqb n 0)) (some (take n l)) none ≡ masterField (take n l)
   some-or-none zero l h = refl
   some-or-none (suc n) [] h = absurd (omega arith)
   some-or-none (suc n) (p ∷ l) h = rw (ne-eqb (suc n) 0 (λ z. omega arith))
@@ -102,7 +118,8 @@ module _ (c : Curve) (long : ListN.length (c .points) ≡ 64) (e : curveAnswer c
   pub master-channel : channelOf (record { present = not (eqb (c .count) 0); curve = c }) ≡ masterField (listOf c)
   master-channel = some-or-none (c .count) (c .points) (omega (arith, passed-count c e))
 
-pub master-passes : (c : Curve) (b : Bool) → curveAnswer c ≡ Done → channelAnswer (record { present = b; curve = c }) ≡ Done
+pub master-passes : (c : Curve) (b : Bool) → curveAnswer c ≡ Done
+    → channelAnswer (record { present = b; curve = c }) ≡ Done
 unfolding channelAnswer curveAnswer
 master-passes c true e = e
 master-passes c false e = refl
@@ -134,25 +151,35 @@ passed a e q t = sym e ∙ told-done a q t
 module _ (s : Curves) (buffer : List ℕ) where
   -- from what the definition comes to
   wrote-as : (w : Write) (r : Written) (after : List ℕ) → writeRecord s buffer ≡ w
-      → r .answer ≡ w .answer → r .length ≡ w .length → after ≡ w .buffer → (r .answer ≡ Done → Held s) → WriteRecordCall s buffer r after
+      → r .answer ≡ w .answer → r .length ≡ w .length → after ≡ w .buffer → (r .answer ≡ Done → Held s)
+      → WriteRecordCall s buffer r after
   wrote-as w r after e a l b h = record { answer = rw e a; length = rw e l; buffer = rw e b; held = h }
 
   pub wrote-refused : (a : Answer) → a ≡ firstRefusal (writeChecks s (ListN.length buffer)) → isDone a ≡ false
       → WriteRecordCall s buffer (record { answer = a; length = 0 }) buffer
-  wrote-refused a e t = wrote-as _ _ _ (written s buffer e ∙ rw t) refl refl refl (λ done. absurd (false≢true (sym t ∙ ap isDone done)))
+  wrote-refused a e t =
+      wrote-as _ _ _ (written s buffer e ∙ rw t) refl refl refl (λ done. absurd (false≢true (sym t ∙ ap isDone done)))
 
   -- the check of the lists refused
-  pub lists-refused : {a : Answer} → a ≡ setAnswer s → isDone a ≡ false → a ≡ firstRefusal (writeChecks s (ListN.length buffer))
+  pub lists-refused : {a : Answer} → a ≡ setAnswer s → isDone a ≡ false
+      → a ≡ firstRefusal (writeChecks s (ListN.length buffer))
   unfolding setAnswer
-  lists-refused e t = first-stops (setChecks curveChecks s) (roomCheck (ListN.length (encode (viewOf s))) (ListN.length buffer) ∷ []) e t
+  lists-refused e t =
+      first-stops (setChecks curveChecks s) (roomCheck (ListN.length (encode (viewOf s))) (ListN.length buffer) ∷ []) e
+      t
 
   module _ (passed : setAnswer s ≡ Done) {d : Draft} (h : Holds (encode (viewOf s)) d) where
     -- it passed, and what is left is the room for the draft
-    pub room-asked : {a : Answer} → a ≡ firstRefusal (roomCheck (d .length) (ListN.length buffer) ∷ []) → a ≡ firstRefusal (writeChecks s (ListN.length buffer))
+    pub room-asked : {a : Answer} → a ≡ firstRefusal (roomCheck (d .length) (ListN.length buffer) ∷ [])
+        → a ≡ firstRefusal (writeChecks s (ListN.length buffer))
     unfolding setAnswer
-    room-asked e = first-goes-on (setChecks curveChecks s) (roomCheck (ListN.length (encode (viewOf s))) (ListN.length buffer) ∷ []) passed (rw (h .length) at e)
+    room-asked e =
+        first-goes-on (setChecks curveChecks s)
+        (roomCheck (ListN.length (encode (viewOf s))) (ListN.length buffer) ∷ []) passed (rw (h .length) at e)
 
-    pub wrote-done : {a : Answer} {after : List ℕ} → a ≡ Done → d .length ≤ ListN.length buffer → after ≡ bytesMade d ++ drop (d .length) buffer → Held s
+    pub wrote-done : {a : Answer} {after : List ℕ} → a ≡ Done → d .length ≤ ListN.length buffer
+        → after ≡ bytesMade d ++ drop (d .length) buffer → Held s
         → WriteRecordCall s buffer (record { answer = a; length = d .length }) after
     wrote-done is room e held =
-        wrote-as _ _ _ (write-done s buffer passed (omega arith)) is (h .length) (e ∙ rw (h .bytes, h .length)) (λ done. held)
+        wrote-as _ _ _ (write-done s buffer passed (omega arith)) is (h .length) (e ∙ rw (h .bytes, h .length))
+        (λ done. held)

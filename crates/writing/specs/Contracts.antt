@@ -32,13 +32,16 @@ pub record Holds (bs : List ℕ) (r : Draft) : Type 0 where
   pub length : r .length ≡ ListN.length bs
   pub fits : r .length ≤ longest
 
--- what the types say of a set that code holds: arrays of 64 points, a byte of tension, slopes of 16 bits
+-- what the types say of a set that code holds: arrays of 64 points, a byte of
+-- tension, slopes of 16 bits
 pub record Held (set : Curves) : Type 0 where
   pub full : Full set
   pub kind : LegalKind (set .interpolation)
 
--- what the writer answers for a set and a buffer that held `before` and holds `after`. Theorems on runs use `held`.
-pub record WriteRecordCall (set : Curves) (before : List ℕ) (r : Written) (after : List ℕ) : Type 0 where
+-- what the writer answers for a set and a buffer that held `before` and holds `after`.
+-- Theorems on runs use `held`.
+pub record WriteRecordCall (set : Curves) (before : List ℕ) (r : Written) (after : List ℕ) :
+    Type 0 where
   pub answer : r .answer ≡ writeRecord set before .answer
   pub length : r .length ≡ writeRecord set before .length
   pub buffer : after ≡ writeRecord set before .buffer

@@ -1,5 +1,5 @@
--- The record of a set, edition 1, byte by byte, and what the writer leaves in a lent buffer, as document 01's sections "Stored record" and
--- "When a call says no" have them. Definitions only.
+-- The record of a set, edition 1, byte by byte, and what the writer leaves in a lent buffer, as
+-- document 01's sections "Stored record" and "When a call says no" have them. Definitions only.
 use Prim.Native.Nat.{ℕ, _+_, _-_, _*_, _/_, _%_}
 use mathlib.Core.List.{List, [], _∷_, _++_}
 use mathlib.Core.Bool.{Bool, true, false, cond, not}
@@ -75,16 +75,20 @@ there none = false
 there (some a) = true
 
 -- bits 0 to 4, and above them what the kind says of bits 5 and 6
-abbrev pub mapOf : Option (List Point) → Option (List Point) → Option (List Point) → Option (List Point) → CurveInterpolation → ℕ
+abbrev pub mapOf : Option (List Point) → Option (List Point) → Option (List Point)
+    → Option (List Point) → CurveInterpolation → ℕ
 mapOf master red green blue k =
-    bitsUnder (kindBits (kindNumber k)) (there master ∷ there red ∷ there green ∷ there blue ∷ namesKind k ∷ [])
+    bitsUnder (kindBits (kindNumber k))
+    (there master ∷ there red ∷ there green ∷ there blue ∷ namesKind k ∷ [])
 
 -- ---- the record
 -- "First a bit map byte, then only the fields whose bit stands, from bit 0"
 unfoldable pub encode : View → List ℕ
 encode v =
-    (mapOf (masterField (v .master)) (v .red) (v .green) (v .blue) (v .kind) ∷ []) ++ fieldBytes (masterField (v .master))
-    ++ fieldBytes (v .red) ++ fieldBytes (v .green) ++ fieldBytes (v .blue) ++ kindBytes (v .kind) ++ carriedBytes (v .kind)
+    (mapOf (masterField (v .master)) (v .red) (v .green) (v .blue) (v .kind) ∷ [])
+    ++ fieldBytes (masterField (v .master))
+    ++ fieldBytes (v .red) ++ fieldBytes (v .green) ++ fieldBytes (v .blue) ++ kindBytes (v .kind)
+    ++ carriedBytes (v .kind)
 
 -- ---- the call
 -- the answer, the length written, and the buffer afterwards
@@ -93,11 +97,16 @@ pub record Write : Type 0 where
   pub length : ℕ
   pub buffer : List ℕ
 
--- on a refusal "lent memory is unchanged"; else the writer "gives the length written and changes no byte past it"
+-- on a refusal "lent memory is unchanged"; else the writer "gives the length written and
+-- changes no byte past it"
 abbrev pub outcome : Answer → List ℕ → List ℕ → Write
 outcome a bytes buffer =
     cond (isDone a)
-    (record { answer = Done; length = ListN.length bytes; buffer = bytes ++ drop (ListN.length bytes) buffer })
+    (record {
+      answer = Done;
+      length = ListN.length bytes;
+      buffer = bytes ++ drop (ListN.length bytes) buffer;
+    })
     (record { answer = a; length = 0; buffer = buffer })
 
 -- the checks of the writer into a buffer of so many bytes: those of the set's lists, then 13
@@ -105,4 +114,5 @@ abbrev pub writeChecks : Curves → ℕ → List Check
 writeChecks s room = setChecks curveChecks s ++ roomCheck (length (encode (viewOf s))) room ∷ []
 
 unfoldable pub writeRecord : Curves → List ℕ → Write
-writeRecord s buffer = outcome (firstRefusal (writeChecks s (length buffer))) (encode (viewOf s)) buffer
+writeRecord s buffer =
+    outcome (firstRefusal (writeChecks s (length buffer))) (encode (viewOf s)) buffer

@@ -1,4 +1,5 @@
--- Records by example: P10 of document 01 from the writer's side, what is left out, and what a kind carries.
+-- Records by example: P10 of document 01 from the writer's side, what is left out,
+-- and what a kind carries.
 use mathlib.Core.Path.{_≡_, refl}
 use mathlib.Core.List.{[], _∷_}
 use mathlib.Core.Option.{some}
@@ -12,7 +13,8 @@ use Rattle.sets.specs.Sets.{emptyView, masterOnly, withColour, withKind}
 use Rattle.sets.specs.Examples.{line, many, falling, four}
 use Rattle.writing.specs.Encode.{pairBytes, bitsUnder, encode, writeChecks}
 
-pub P10-written : encode (withKind Linear (masterOnly straightCurve)) ≡ 0x11 ∷ 2 ∷ 0 ∷ 0 ∷ 0xff ∷ 0xff ∷ 0 ∷ []
+pub P10-written : encode (withKind Linear (masterOnly straightCurve))
+    ≡ 0x11 ∷ 2 ∷ 0 ∷ 0 ∷ 0xff ∷ 0xff ∷ 0 ∷ []
 unfolding encode bitsUnder pairBytes
 P10-written = refl
 
@@ -31,7 +33,8 @@ unfolding encode bitsUnder
 tension-written = refl
 
 -- slopes 256 and −32,768, low byte first
-pub slopes-written : encode (withKind (ClampedCubic (pos 256) (negsuc 32767)) emptyView) ≡ 0x50 ∷ 8 ∷ 0 ∷ 1 ∷ 0 ∷ 0x80 ∷ []
+pub slopes-written : encode (withKind (ClampedCubic (pos 256) (negsuc 32767)) emptyView)
+    ≡ 0x50 ∷ 8 ∷ 0 ∷ 1 ∷ 0 ∷ 0x80 ∷ []
 unfolding encode bitsUnder
 slopes-written = refl
 

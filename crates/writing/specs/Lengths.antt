@@ -12,7 +12,15 @@ use Rattle.tables.specs.declared.CurveInterpolation.{CurveInterpolation}
 use Rattle.tables.specs.Kinds.{kindNumber, carriesTension, carriesSlopes}
 use Rattle.sets.specs.Sets.{View}
 use Rattle.sets.specs.Legal.{LegalList, LegalColour, Legal}
-use Rattle.writing.specs.Encode.{pairBytes, fieldBytes, masterField, namesKind, kindBytes, carriedBytes, encode}
+use Rattle.writing.specs.Encode.{
+  pairBytes,
+  fieldBytes,
+  masterField,
+  namesKind,
+  kindBytes,
+  carriedBytes,
+  encode,
+}
 use Rattle.records.specs.Format.{longest, longestField}
 
 pub pairs-length : (l : List Point) → length (pairBytes l) ≡ length l * 2

@@ -1,4 +1,5 @@
--- The bit map: what the reader finds in it is what the writer put there. One law, `mark-back`, gives every mark.
+-- The bit map: what the reader finds in it is what the writer put there. One law,
+-- `mark-back`, gives every mark.
 use Prim.Native.Nat.{ℕ, _+_, _*_, _/_, _%_, _^_, _≤_}
 use native.Mathlib.Nat.{div-one, div-div-eq-div-mul, pow-succ'}
 use native.Mathlib.Omega.{arith}
@@ -22,17 +23,23 @@ module _ (b : Bool) (n : ℕ) where
 
   lowest : eqb ((oneIf b + 2 * n) % 2) 1 ≡ b
   lowest =
-      by-test b (λ t. let one : (1 + 2 * n) % 2 ≡ 1 = omega arith in rw (t, one)) (λ t. let no : (0 + 2 * n) % 2 ≡ 0 = omega arith in rw (t, no))
+      by-test b (λ t. let one : (1 + 2 * n) % 2 ≡ 1 = omega arith in rw (t, one))
+      (λ t. let no : (0 + 2 * n) % 2 ≡ 0 = omega arith in rw (t, no))
 
 marks-under : (above : ℕ) (bs : List Bool) → bitsUnder above bs / 2 ^ length bs ≡ above
 unfolding bitsUnder
 marks-under above [] = div-one above
 marks-under above (b ∷ bs) =
-    rw (pow-succ' 2 (length bs), ← div-div-eq-div-mul (oneIf b + 2 * bitsUnder above bs) 2 (2 ^ length bs), halved b (bitsUnder above bs))
+    rw (
+      pow-succ' 2 (length bs),
+      ← div-div-eq-div-mul (oneIf b + 2 * bitsUnder above bs) 2 (2 ^ length bs),
+      halved b (bitsUnder above bs),
+    )
     (marks-under above bs)
 
 -- the mark behind bs
-mark-back : (above : ℕ) (bs : List Bool) (b : Bool) → bit (2 ^ length bs) (bitsUnder (oneIf b + 2 * above) bs) ≡ b
+mark-back : (above : ℕ) (bs : List Bool) (b : Bool)
+    → bit (2 ^ length bs) (bitsUnder (oneIf b + 2 * above) bs) ≡ b
 mark-back above bs b = rw (marks-under (oneIf b + 2 * above) bs) (lowest b above)
 
 pub carried-small : (n : ℕ) → kindBits n ≤ 2
@@ -56,7 +63,8 @@ module _ (m r g b : Option (List Point)) (k : CurveInterpolation) where
   map-back =
       let n = namesKind k in
       let c = kindBits (kindNumber k) in
-      let high : mapOf m r g b k / 32 ≡ c = marks-under c (there m ∷ there r ∷ there g ∷ there b ∷ n ∷ []) in
+      let high : mapOf m r g b k / 32 ≡ c =
+      marks-under c (there m ∷ there r ∷ there g ∷ there b ∷ n ∷ []) in
       let none : mapOf m r g b k / 128 % 2 ≡ 0 = omega (arith, carried-small (kindNumber k)) in
       record {
         master = mark-back (bitsUnder c (there r ∷ there g ∷ there b ∷ n ∷ [])) [] (there m);

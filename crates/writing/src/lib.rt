@@ -1,5 +1,6 @@
 // Writes the record of a set, edition 1, into a lent buffer.
-// The record is made by value, so that its length is known before the first byte of the buffer changes.
+// The record is made by value, so that its length is known before the first
+// byte of the buffer changes.
 ghost use mathlib.Core.Path.{_≡_};
 ghost use mathlib.Core.List.{[], _∷_, _++_};
 ghost use mathlib.Core.Bool.{cond};
@@ -10,7 +11,18 @@ ghost use Rattle.points.specs.Points.{listOf};
 ghost use Rattle.sets.specs.Sets.{viewOf, channelOf, curveAnswer, channelAnswer, setAnswer};
 ghost use Rattle.tables.specs.Kinds.{LegalKind};
 ghost use Rattle.points.specs.Points.{limit};
-ghost use Rattle.writing.specs.Encode.{pairBytes, fieldBytes, masterField, namesKind, kindBytes, unsigned16, slopeBytes, carriedBytes, mapOf, encode};
+ghost use Rattle.writing.specs.Encode.{
+  pairBytes,
+  fieldBytes,
+  masterField,
+  namesKind,
+  kindBytes,
+  unsigned16,
+  slopeBytes,
+  carriedBytes,
+  mapOf,
+  encode,
+};
 ghost use Rattle.writing.specs.Contracts.{bytesMade, Room, Appended, Holds, WriteRecordCall};
 ghost use Rattle.records.specs.Format.{longest};
 use answers::Answer;
@@ -24,7 +36,8 @@ use tables::carries_slopes;
 use tables::carries_tension;
 use tables::kind_bits;
 
-// The most bytes that a record has: the map, four lists of a count and 64 points, the kind, two slopes.
+// The most bytes that a record has: the map, four lists of a count and 64
+// points, the kind, two slopes.
 pub const LONGEST_RECORD: usize = 1 + 4 * (1 + 2 * Curve::LIMIT) + 1 + 4;
 
 // A record in the making: the first length bytes.
@@ -168,7 +181,9 @@ fn master_field(curve: Curve) -> Channel
 
 // The bit map. Bits 5 and 6 go with the kind.
 fn map_byte(master: Channel, set: Curves) -> u8
-    ensures { λ r. ⌜ r ≡ mapOf (channelOf master) (channelOf (set .red)) (channelOf (set .green)) (channelOf (set .blue)) (set .interpolation) ⌝ }
+    ensures { λ r. ⌜
+        r ≡ mapOf (channelOf master) (channelOf (set .red)) (channelOf (set .green))
+        (channelOf (set .blue)) (set .interpolation) ⌝ }
 {
     let k = set.interpolation;
     mark(master.present, 1)
@@ -199,7 +214,8 @@ fn record_of(set: Curves) -> Draft
 // The bytes of a draft to the front of a buffer.
 fn copy_out(draft: Draft, buffer: &mut [u8])
     requires { ⌜ (draft .length ≤ longest) × (draft .length ≤ length (now buffer)) ⌝ }
-    ensures { λ _. ⌜ now (buffer .exit) ≡ bytesMade draft ++ drop (draft .length) (now (buffer .entry)) ⌝ }
+    ensures { λ _. ⌜
+        now (buffer .exit) ≡ bytesMade draft ++ drop (draft .length) (now (buffer .entry)) ⌝ }
 {
     let length = draft.length;
     let mut i: usize = 0;
@@ -209,7 +225,8 @@ fn copy_out(draft: Draft, buffer: &mut [u8])
     }
 }
 
-// Writes the record of a set. A refusal leaves the buffer as it was, and no byte past the length is changed.
+// Writes the record of a set. A refusal leaves the buffer as it was, and no byte
+// past the length is changed.
 pub fn write_record(set: Curves, buffer: &mut [u8]) -> Written
     ensures { λ r. ⌜ WriteRecordCall set (now (buffer .entry)) r (now (buffer .exit)) ⌝ }
 {

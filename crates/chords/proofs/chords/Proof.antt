@@ -19,7 +19,8 @@ loop-again c =
     let b = c .before in
     let a = b .before in (
       search needs,
-      stored-next (a .before .before .loop .inv .1) (rw (← a .knot-at .ensures, ← b .knot-at2 .ensures) (c .chord .ensures)),
+      stored-next (a .before .before .loop .inv .1)
+          (rw (← a .knot-at .ensures, ← b .knot-at2 .ensures) (c .chord .ensures)),
     )
 
 returns : tie.Need-returns Inv-loop μ-loop
@@ -32,6 +33,7 @@ chords-spec =
     Inv-loop
     μ-loop
     (λ c. (search needs, stored-none))
-    (omega arith) (omega arith) (omega arith) (omega arith) (omega arith) (omega arith) (omega arith) (omega arith) (omega arith)
+    (omega arith) (omega arith) (omega arith) (omega arith) (omega arith) (omega arith) (omega arith) (omega arith)
+    (omega arith)
     loop-again
     returns)

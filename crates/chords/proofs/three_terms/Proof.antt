@@ -7,12 +7,22 @@ use Rattle.chords.proofs.three_terms.Tie as tie
 returns : tie.Need-returns
 unfolding threeTerms
 returns c =
-    rw (← c .before .before .before .tiny .ensures, ← c .before .before .tiny2 .ensures, ← c .before .tiny3 .ensures, c .if1 .taken)
+    rw (
+      ← c .before .before .before .tiny .ensures,
+      ← c .before .before .tiny2 .ensures,
+      ← c .before .tiny3 .ensures,
+      c .if1 .taken,
+    )
 
 returns-2 : tie.Need-returns-2
 unfolding threeTerms
 returns-2 c =
-    rw (← c .before .before .before .tiny .ensures, ← c .before .before .tiny2 .ensures, ← c .before .tiny3 .ensures, c .if1 .left)
+    rw (
+      ← c .before .before .before .tiny .ensures,
+      ← c .before .before .tiny2 .ensures,
+      ← c .before .tiny3 .ensures,
+      c .if1 .left,
+    )
 
 pub three-terms-spec : {M : Type 1} → statement M
 three-terms-spec =

@@ -1,4 +1,5 @@
--- `lookup::lookup` meets its contract: the blocks are replaced one after another, and what a block finds is as the call found it.
+-- `lookup::lookup` meets its contract: the blocks are replaced one after another, and what a block
+-- finds is as the call found it.
 use mathlib.Core.Path.{refl}
 use Prim.Native.Nat.{_≤_, _-_}
 use native.Mathlib.Omega.{arith}
@@ -30,8 +31,10 @@ loop-holds c = (search needs, stored-none)
 loop-again : tie.Need-loop-again Inv-loop μ-loop
 unfolding looked
 loop-again c =
-    let r = c .before .before .before .before .before .before .before .before .before .loop .inv .1 in
-    (search needs, stored-then r (stored-as (c .before .before .replace .ensures) (λ w low high. rw (stored-above r w nan low))))
+    let r = c .before .before .before .before .before .before .before .before .before .loop .inv .1 in (
+      search needs,
+      stored-then r (stored-as (c .before .before .replace .ensures) (λ w low high. rw (stored-above r w nan low))),
+    )
 
 -- all blocks are replaced
 returns-2 : tie.Need-returns-2 Inv-loop μ-loop

@@ -1,4 +1,5 @@
--- `lookup::replace` meets its contract: the loop replaces one value after another; the place it reads is as it was when the loop began.
+-- `lookup::replace` meets its contract: the loop replaces one value after another; the place it
+-- reads is as it was when the loop began.
 use Prim.Native.Nat.{_≤_, _-_, _+_}
 use native.Mathlib.Omega.{arith}
 use borrow.Author.Needs.{needs}
@@ -21,8 +22,11 @@ blend-requires : tie.Need-blend-requires Inv-loop μ-loop
 unfolding indexFrom
 blend-requires c κs =
     let k = c .before .before .before in
-    let found = k .before .before .before .pre .1 in
-    (search needs, rw (stored-here (k .loop .inv .1) nan) (stored-inside found (k .loop .j) 0 (omega arith) (omega arith) (omega arith)))
+    let found = k .before .before .before .pre .1 in (
+      search needs,
+      rw (stored-here (k .loop .inv .1) nan)
+          (stored-inside found (k .loop .j) 0 (omega arith) (omega arith) (omega arith)),
+    )
 
 loop-again : tie.Need-loop-again Inv-loop μ-loop
 unfolding looked

@@ -10,7 +10,13 @@ returns c = rw (← c .before .before .before .before .pre, c .before .if1 .take
 
 returns-2 : tie.Need-returns-2
 unfolding circled
-returns-2 c = rw (← c .before .before .before .pre, c .if1 .left, c .before .before .nonnegative .ensures, c .before .nonnegative2 .ensures)
+returns-2 c =
+    rw (
+      ← c .before .before .before .pre,
+      c .if1 .left,
+      c .before .before .nonnegative .ensures,
+      c .before .nonnegative2 .ensures,
+    )
 
 pub by-circle-spec : {M : Type 1} → statement M
 by-circle-spec =

@@ -24,7 +24,8 @@ returns : tie.Need-returns Inv-loop μ-loop
 unfolding rightMean
 returns c =
     let b = c .before .before in
-    stored-end (stored-next (b .loop .inv .1) (rw (eq-eqb (b .loop .i + 2) (b .before .args .n) (omega arith)))) (omega arith)
+    stored-end (stored-next (b .loop .inv .1) (rw (eq-eqb (b .loop .i + 2) (b .before .args .n) (omega arith))))
+    (omega arith)
 
 pub means-spec : {M : Type 1} → statement M
 means-spec =
@@ -33,7 +34,8 @@ means-spec =
     Inv-loop
     μ-loop
     (λ c. (search needs, stored-none))
-    (omega arith) (omega arith) (omega arith) (omega arith) (omega arith) (omega arith) (omega arith) (omega arith) (omega arith) (omega arith)
+    (omega arith) (omega arith) (omega arith) (omega arith) (omega arith) (omega arith) (omega arith) (omega arith)
+    (omega arith) (omega arith)
     loop-again
     (omega arith) (omega arith) (omega arith) (omega arith)
     returns)

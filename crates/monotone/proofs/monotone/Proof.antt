@@ -1,4 +1,5 @@
--- `monotone`: a turn adjusts the tangents at both ends of a segment. The left one is then done, the right one is carried.
+-- `monotone`: a turn adjusts the tangents at both ends of a segment. The left one is then done,
+-- the right one is carried.
 use mathlib.Core.Path.{_≡_, _∙_}
 use mathlib.Core.Bool.{Bool}
 use mathlib.Core.List.{List}
@@ -26,7 +27,8 @@ record Turn (box : Bool) (xs ys : List Float) (n i : ℕ) (tangents₀ tangents 
   pub tangent : m ≡ reached box xs ys n i
 
 -- ---- what is in the rows
-module _ (xs ys : List Float) (n : ℕ) (most : n ≤ 66) {ds : List Float} (ds-is : Stored (secantAt xs ys) 0 (n - 1) (replicate 66 𝟎) ds) where
+module _ (xs ys : List Float) (n : ℕ) (most : n ≤ 66) {ds : List Float}
+    (ds-is : Stored (secantAt xs ys) 0 (n - 1) (replicate 66 𝟎) ds) where
   secant : (i : ℕ) → i + 1 < n → at ds i ≡ secantAt xs ys i
   secant i h = stored-inside ds-is i nan (omega arith) (omega arith) (omega arith)
 
@@ -40,22 +42,27 @@ module _ (xs ys : List Float) (n : ℕ) (most : n ≤ 66) {ds : List Float} (ds-
         | no inner ↦ rw (ne-eqb (i + 2) n inner, secant (i + 1) (omega arith))
       ])
 
-  mean : {rs : List Float} → Stored (rightMean ds n) 0 (n - 1) (replicate 66 𝟎) rs → (i : ℕ) → i + 1 < n → at rs i ≡ meanAt xs ys n (i + 1)
+  mean : {rs : List Float} → Stored (rightMean ds n) 0 (n - 1) (replicate 66 𝟎) rs → (i : ℕ) → i + 1 < n
+      → at rs i ≡ meanAt xs ys n (i + 1)
   mean rs-is i h = stored-inside rs-is i nan (omega arith) (omega arith) (omega arith) ∙ right-mean i h
 
-quotient : (n : ℕ) (ds rs : List Float) {bs : List Float} → Stored (quotientOf rs ds) 0 (n - 1) (replicate 66 𝟎) bs → n ≤ 66 → (i : ℕ) → i + 1 < n
+quotient : (n : ℕ) (ds rs : List Float) {bs : List Float} → Stored (quotientOf rs ds) 0 (n - 1) (replicate 66 𝟎) bs
+    → n ≤ 66 → (i : ℕ) → i + 1 < n
     → at bs i ≡ at rs i ⊘ at ds i
 unfolding quotientOf
 quotient n ds rs bs-is most i h = stored-inside bs-is i nan (omega arith) (omega arith) (omega arith)
 
 -- ---- the turns
 reached-next : (box : Bool) (xs ys : List Float) (n i : ℕ)
-    → reached box xs ys n (i + 1) ≡ adjusted box (secantAt xs ys i) (reached box xs ys n i) (meanAt xs ys n (i + 1)) .right
+    → reached box xs ys n (i + 1)
+    ≡ adjusted box (secantAt xs ys i) (reached box xs ys n i) (meanAt xs ys n (i + 1)) .right
 unfolding reached
 reached-next box xs ys n i = rw add-one
 
-module _ {box : Bool} {xs ys : List Float} {n i : ℕ} {tangents₀ tangents : List Float} {m : Float} (t : Turn box xs ys n i tangents₀ tangents m) where
-  next-turn : {d r : Float} {p : Tangents} → i + 1 < n → d ≡ secantAt xs ys i → r ≡ meanAt xs ys n (i + 1) → p ≡ adjusted box d m r
+module _ {box : Bool} {xs ys : List Float} {n i : ℕ} {tangents₀ tangents : List Float} {m : Float}
+    (t : Turn box xs ys n i tangents₀ tangents m) where
+  next-turn : {d r : Float} {p : Tangents} → i + 1 < n → d ≡ secantAt xs ys i → r ≡ meanAt xs ys n (i + 1)
+      → p ≡ adjusted box d m r
       → Turn box xs ys n (i + 1) tangents₀ (set tangents i (p .left)) (p .right)
   unfolding monotoneAt
   next-turn h secant mean made = record {
@@ -78,7 +85,11 @@ loop-holds : tie.Need-loop-holds Inv-loop μ-loop
 unfolding reached meanAt
 loop-holds c =
     let s = c .before .before .before .before .before .before .before in
-    record { room = omega arith; stored = stored-none; tangent = secant _ _ _ (s .before .before .pre .1) (s .secants .ensures) 0 (omega arith) }
+    record {
+      room = omega arith;
+      stored = stored-none;
+      tangent = secant _ _ _ (s .before .before .pre .1) (s .secants .ensures) 0 (omega arith);
+    }
 
 adjusted-requires : tie.Need-adjusted-requires Inv-loop μ-loop
 adjusted-requires c κs = quotient _ _ _ (c .before .before .quotients .ensures) (search needs) _ (omega arith)

@@ -28,6 +28,7 @@ quotients-spec =
     Inv-loop
     μ-loop
     (λ c. (search needs, stored-none))
-    (omega arith) (omega arith) (omega arith) (omega arith) (omega arith) (omega arith) (omega arith) (omega arith) (omega arith)
+    (omega arith) (omega arith) (omega arith) (omega arith) (omega arith) (omega arith) (omega arith) (omega arith)
+    (omega arith)
     loop-again
     returns)

@@ -54,7 +54,8 @@ accepted : (c : tie.Else1) → Accepted (run (c .before .before))
 accepted c = accepted-run (run (c .before .before)) (sym (answered (c .before .before)) ∙ done-is _ (is-done c))
 
 -- where there is chroma
-is-yuv : (c : tie.Then2) → hasChroma (run (c .before .before .before .before .before .before .before .before .before)) ≡ true
+is-yuv : (c : tie.Then2)
+    → hasChroma (run (c .before .before .before .before .before .before .before .before .before)) ≡ true
 is-yuv c = eq-eqb _ 3 (sym (c .before .planes-read .ensures) ∙ c .if2 .taken)
 
 returns : tie.Need-returns

@@ -12,13 +12,16 @@ use Rattle.pictures.proofs.apply_tone_lut.Tie as tie
 good : (c : tie.Then1)
     → let A = c .before .before .before .before .args in
     GoodPlane (A .format) (A .width) (A .height) (A .step) (length (A .plane .now))
-good c = lut-done _ _ _ _ _ (sym (c .before .before .lut-answer .ensures) ∙ done-is _ (sym (c .before .is-done .ensures) ∙ c .if1 .taken))
+good c = lut-done _ _ _ _ _
+    (sym (c .before .before .lut-answer .ensures) ∙ done-is _ (sym (c .before .is-done .ensures) ∙ c .if1 .taken))
 
 tone-rows-requires : tie.Need-tone-rows-requires
 tone-rows-requires c κs =
     let p-is = c .before .before .bytes-a-pixel .ensures in
-    let k = c .before .before .before .before in
-    (rw (p-is, c .before .alpha .ensures) (in-place (k .before .before .before .before .args .format)), rw p-is (good k .rows))
+    let k = c .before .before .before .before in (
+      rw (p-is, c .before .alpha .ensures) (in-place (k .before .before .before .before .args .format)),
+      rw p-is (good k .rows),
+    )
 
 returns : tie.Need-returns
 returns c =

@@ -14,13 +14,16 @@ passed : (c : tie.After-by-colour) → Passed (c .before .before .before .before
 passed c = passed-set _ (c .before .before .before .before .pre .0 .0)
 
 own-table-requires : tie.Need-own-table-requires
-own-table-requires c κs = let by = c .before .before .before .before in used-count (by .by-colour .result) _ (passed by .red)
+own-table-requires c κs = let by = c .before .before .before .before in
+    used-count (by .by-colour .result) _ (passed by .red)
 
 own-table-requires-2 : tie.Need-own-table-requires-2
-own-table-requires-2 c κs = let by = c .before .before .before .before .before in used-count (by .by-colour .result) _ (passed by .green)
+own-table-requires-2 c κs = let by = c .before .before .before .before .before in
+    used-count (by .by-colour .result) _ (passed by .green)
 
 own-table-requires-3 : tie.Need-own-table-requires-3
-own-table-requires-3 c κs = let by = c .before .before .before .before .before .before in used-count (by .by-colour .result) _ (passed by .blue)
+own-table-requires-3 c κs = let by = c .before .before .before .before .before .before in
+    used-count (by .by-colour .result) _ (passed by .blue)
 
 tone-rows-into-requires : tie.Need-tone-rows-into-requires
 tone-rows-into-requires c κs =
@@ -49,8 +52,10 @@ returns c =
     tight-rows-by (start .args .job .format) (viewOf set) _ _ _ _ _ (start .pre .0 .1) (by .by-colour .ensures)
     (k .bytes-a-pixel .ensures)
     (chosen-is _ (set .red) _ built (by .by-colour .result) (own-red .own-table .ensures) (red .chosen-table .ensures))
-    (chosen-is _ (set .green) _ built (by .by-colour .result) (own-green .own-table2 .ensures) (green .chosen-table2 .ensures))
-    (chosen-is _ (set .blue) _ built (by .by-colour .result) (own-blue .own-table3 .ensures) (blue .chosen-table3 .ensures))
+    (chosen-is _ (set .green) _ built (by .by-colour .result) (own-green .own-table2 .ensures)
+    (green .chosen-table2 .ensures))
+    (chosen-is _ (set .blue) _ built (by .by-colour .result) (own-blue .own-table3 .ensures)
+    (blue .chosen-table3 .ensures))
     (tight-rows .tone-rows-into .ensures)
 
 pub tone-first-spec : {M : Type 1} → statement M

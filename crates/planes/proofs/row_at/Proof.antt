@@ -32,7 +32,8 @@ returns : tie.Need-returns
 unfolding rowOf
 returns c =
     let A = c .before .before .before .before .args in
-    part-is (A .bytes .now) (A .y * A .step) (A .n) _ _ (c .before .before .row-start .ensures) (c .before .row-end .ensures)
+    part-is (A .bytes .now) (A .y * A .step) (A .n) _ _ (c .before .before .row-start .ensures)
+    (c .before .row-end .ensures)
 
 pub row-at-spec : {M : Type 1} → statement M
 row-at-spec = tie.close (tie.spec (omega arith) (omega arith) (omega arith) (omega arith) (omega arith) returns)

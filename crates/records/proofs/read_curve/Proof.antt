@@ -29,7 +29,8 @@ returns-2 c =
     let k = c .before .before .before in
     let w = k .before .wide in
     let a = k .before .before .before .before .before .args in
-    let refusal = told-refused (k .check-stored-count .result) (c .before .before .is-done .ensures) (c .before .if2 .taken) in
+    let refusal =
+    told-refused (k .check-stored-count .result) (c .before .before .is-done .ensures) (c .before .if2 .taken) in
     record {
       list =
           parsed-refused _ (a .s .now) (c .no-curve2 .result .next) (c .no-curve2 .ensures .0) refusal
@@ -49,7 +50,8 @@ counted c =
 few : (c : tie.Else2) → c .before .before .before .wide .result ≤ limit
 few c =
     let w = c .before .before .before in
-    few-points (w .wide .result) (PointCount when ltb (w .wide .result) (w .before .before .before .before .args .least) ∷ []) (counted c)
+    few-points (w .wide .result)
+    (PointCount when ltb (w .wide .result) (w .before .before .before .before .args .least) ∷ []) (counted c)
 
 returns-3 : tie.Need-returns-3
 returns-3 c =
@@ -70,7 +72,9 @@ whole : (c : tie.After-is-rising) →
     let a = w .before .before .before .before .args in
     let n = w .wide .result in
     readList (a .least) (drop (a .at) (a .s .now))
-    ≡ cond (c .is-rising .result) (good (listOf (c .before .read-points .result)) (drop (a .at + 1 + n * pointBytes) (a .s .now))) (refused PointsNotRising)
+    ≡ cond (c .is-rising .result)
+    (good (listOf (c .before .read-points .result)) (drop (a .at + 1 + n * pointBytes) (a .s .now)))
+    (refused PointsNotRising)
 whole c =
     let p = c .before .read-points in
     let b = c .before .before .before in

@@ -14,7 +14,10 @@ returns c = rw (c .before .if1 .taken) (c .read-curve .ensures)
 returns-2 : tie.Need-returns-2
 returns-2 c =
     let long : length (c .empty .result .points) ≡ 64 = search (needs, length-told) in
-    record { list = rw (c .before .if1 .left, c .empty .ensures); legal = empty-passes (c .empty .result) long (c .empty .ensures) }
+    record {
+      list = rw (c .before .if1 .left, c .empty .ensures);
+      legal = empty-passes (c .empty .result) long (c .empty .ensures);
+    }
 
 pub read-field-spec : {M : Type 1} → statement M
 read-field-spec = tie.close (tie.spec (omega arith) (omega arith) returns returns-2)

@@ -1,4 +1,5 @@
--- `read_fields` meets its contract: the fields one after the other, each keeping the set within the check.
+-- `read_fields` meets its contract: the fields one after the other, each keeping
+-- the set within the check.
 use native.Mathlib.Omega.{arith}
 use mathlib.Core.Path.{_≡_, ap}
 use borrow.Author.Needs.{needs}
@@ -25,7 +26,8 @@ end-requires c κs =
     let master = red .before in
     c .kind .ensures .legal
     (blue .colour3 .ensures .legal
-    (green .colour2 .ensures .legal (red .colour .ensures .legal (master .master .ensures .legal (start-passes (master .before))))))
+    (green .colour2 .ensures .legal
+    (red .colour .ensures .legal (master .master .ensures .legal (start-passes (master .before))))))
 
 returns : tie.Need-returns
 returns c =
@@ -37,8 +39,10 @@ returns c =
     let a = start .before .before .args in
     let s = drop (a .at) (a .s .now) in
     handed
-    (fields-by (a .unnamed) (a .map) s _ _ _ _ _ _ (ap (λ (v : View). good v s) (start .empty .ensures)) (master .master .ensures .field)
-    (red .colour .ensures .field) (green .colour2 .ensures .field) (blue .colour3 .ensures .field) (c .before .kind .ensures .field))
+    (fields-by (a .unnamed) (a .map) s _ _ _ _ _ _ (ap (λ (v : View). good v s) (start .empty .ensures))
+    (master .master .ensures .field)
+    (red .colour .ensures .field) (green .colour2 .ensures .field) (blue .colour3 .ensures .field)
+    (c .before .kind .ensures .field))
     (c .end .ensures)
 
 pub read-fields-spec : {M : Type 1} → statement M

@@ -13,7 +13,9 @@ use Rattle.records.proofs.read_kind.Tie as tie
 goes : (c : tie.After-is-done) →
     let a = c .before .before .before .before .args in
     let n = c .before .read-number .result in
-    c .is-done .result ≡ true → readKind (a .unnamed) (a .map) (drop (a .at) (a .s .now)) ≡ readAgreed (a .map) (n .number) (drop (n .next) (a .s .now))
+    c .is-done .result ≡ true
+    → readKind (a .unnamed) (a .map) (drop (a .at) (a .s .now))
+    ≡ readAgreed (a .map) (n .number) (drop (n .next) (a .s .now))
 goes c =
     let a = c .before .before .before .before .args in
     let n = c .before .read-number in
@@ -22,7 +24,8 @@ goes c =
 
 stops : (c : tie.After-is-done) →
     let a = c .before .before .before .before .args in
-    c .is-done .result ≡ false → readKind (a .unnamed) (a .map) (drop (a .at) (a .s .now)) ≡ refused (c .before .read-number .result .answer)
+    c .is-done .result ≡ false
+    → readKind (a .unnamed) (a .map) (drop (a .at) (a .s .now)) ≡ refused (c .before .read-number .result .answer)
 stops c =
     let a = c .before .before .before .before .args in
     let n = c .before .read-number in
@@ -33,7 +36,8 @@ returns : tie.Need-returns
 returns c =
     sym
     (goes (c .before .before .before .before) (c .before .before .before .if1 .taken)
-    ∙ rw (sym (c .before .before .kind-bits .ensures), eq-eqb _ _ (c .before .if2 .taken)) (sym (c .read-carried .ensures)))
+    ∙ rw (sym (c .before .before .kind-bits .ensures), eq-eqb _ _ (c .before .if2 .taken))
+    (sym (c .read-carried .ensures)))
 
 returns-2 : tie.Need-returns-2
 returns-2 c =
@@ -44,7 +48,8 @@ returns-2 c =
 
 returns-3 : tie.Need-returns-3
 returns-3 c =
-    rw (c .no-kind2 .ensures, sym (c .before .before .is-done .ensures), c .before .if1 .left) (sym (stops (c .before .before) (c .before .if1 .left)))
+    rw (c .no-kind2 .ensures, sym (c .before .before .is-done .ensures), c .before .if1 .left)
+    (sym (stops (c .before .before) (c .before .if1 .left)))
 
 pub read-kind-spec : {M : Type 1} → statement M
 read-kind-spec =

@@ -26,7 +26,8 @@ returns-3 c =
     let y = c .before .stored-slope2 in
     let start : toZ w16 (ofZ w16 (x .result)) ≡ x .result = search needs in
     let end : toZ w16 (ofZ w16 (y .result)) ≡ y .result = search needs in
-    rw (c .kind-of .ensures, start, end, x .ensures, y .ensures) (sym (slopes-at (a .k) (a .at) (a .s .now) (omega arith)))
+    rw (c .kind-of .ensures, start, end, x .ensures, y .ensures)
+    (sym (slopes-at (a .k) (a .at) (a .s .now) (omega arith)))
 
 pub read-slopes-spec : {M : Type 1} → statement M
 read-slopes-spec =
@@ -36,5 +37,6 @@ read-slopes-spec =
     returns
     (omega arith) (omega arith)
     returns-2
-    (omega arith) (omega arith) (omega arith) (omega arith) (omega arith) (omega arith) (omega arith) (omega arith) (omega arith) (omega arith) (omega arith)
+    (omega arith) (omega arith) (omega arith) (omega arith) (omega arith) (omega arith) (omega arith) (omega arith)
+    (omega arith) (omega arith) (omega arith)
     returns-3)

@@ -1,4 +1,5 @@
--- `stored_slope` meets its contract: below 32,768 the bits are the slope; from there on it is −1 less what they lack to 65,535.
+-- `stored_slope` meets its contract: below 32,768 the bits are the slope; from there on it is −1
+-- less what they lack to 65,535.
 use Prim.Native.Nat.{_+_, _*_}
 use native.Mathlib.Omega.{arith}
 use Rattle.records.proofs.Kind.{signed-low, signed-fits, signed-high}

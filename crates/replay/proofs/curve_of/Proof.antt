@@ -16,5 +16,6 @@ curve-of-spec =
     (tie.spec
     Inv-loop
     μ-loop
-    (omega arith) (omega arith) (omega arith) (omega arith) (omega arith) (omega arith) (omega arith) (omega arith) (omega arith) (omega arith)
+    (omega arith) (omega arith) (omega arith) (omega arith) (omega arith) (omega arith) (omega arith) (omega arith)
+    (omega arith) (omega arith)
     (omega arith) (omega arith) (omega arith) (omega arith) (omega arith))

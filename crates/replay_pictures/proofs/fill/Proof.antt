@@ -19,4 +19,5 @@ fill-spec =
     (tie.spec
     Inv-loop
     μ-loop
-    (omega arith) (omega arith) (omega arith) (omega arith) (omega arith) (omega arith) (λ c. search needs) (omega arith) (omega arith))
+    (omega arith) (omega arith) (omega arith) (omega arith) (omega arith) (omega arith) (λ c. search needs)
+    (omega arith) (omega arith))

@@ -11,5 +11,6 @@ tone-front-spec =
     (tie.spec
     (omega arith)
     (λ c. sym (length-take-le _ _ (omega arith)))
-    (omega arith) (omega arith) (omega arith) (omega arith) (omega arith) (omega arith) (omega arith) (omega arith) (omega arith) (omega arith)
+    (omega arith) (omega arith) (omega arith) (omega arith) (omega arith) (omega arith) (omega arith) (omega arith)
+    (omega arith) (omega arith)
     (omega arith) (omega arith) (omega arith))

@@ -18,5 +18,6 @@ put-points-spec =
     (tie.spec
     Inv-loop
     μ-loop
-    (omega arith) (omega arith) (omega arith) (omega arith) (omega arith) (omega arith) (omega arith) (omega arith) (omega arith) (omega arith)
+    (omega arith) (omega arith) (omega arith) (omega arith) (omega arith) (omega arith) (omega arith) (omega arith)
+    (omega arith) (omega arith)
     (omega arith) (omega arith))

@@ -16,5 +16,6 @@ walk-spec =
     (tie.spec
     Inv-loop
     μ-loop
-    (omega arith) (omega arith) (omega arith) (omega arith) (omega arith) (omega arith) (omega arith) (omega arith) (omega arith) (omega arith)
+    (omega arith) (omega arith) (omega arith) (omega arith) (omega arith) (omega arith) (omega arith) (omega arith)
+    (omega arith) (omega arith)
     (omega arith) (omega arith) (omega arith) (omega arith) (omega arith))

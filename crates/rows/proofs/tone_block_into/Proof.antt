@@ -17,7 +17,8 @@ returns c =
     let given = copy .before .before .before .before .args in
     let tables = three (given .red .now) (given .green .now) (given .blue .now) in
     rw (test .if1 .taken)
-    (copied-each (plainByte (given .red .now)) (given .src .now) (given .dst .now) (omega arith) (copy .copy-bytes .ensures) (k .tone-bytes .ensures)
+    (copied-each (plainByte (given .red .now)) (given .src .now) (given .dst .now) (omega arith)
+    (copy .copy-bytes .ensures) (k .tone-bytes .ensures)
     ∙ plain-row 1 1 tables (given .red .now) (given .src .now) (omega arith) (omega arith) (λ x. rw (mod-one x)))
 
 tone-colours-requires : tie.Need-tone-colours-requires
@@ -41,7 +42,8 @@ returns-2 c =
     let given = copy .before .before .before .before .args in
     let tables = three (given .red .now) (given .green .now) (given .blue .now) in
     rw (test .if2 .taken)
-    (copied-each (rowByte 3 3 tables) (given .src .now) (given .dst .now) (omega arith) (copy .copy-bytes .ensures) (k .tone-colours .ensures))
+    (copied-each (rowByte 3 3 tables) (given .src .now) (given .dst .now) (omega arith) (copy .copy-bytes .ensures)
+    (k .tone-colours .ensures))
 
 returns-3 : tie.Need-returns-3
 unfolding tightAlpha
@@ -53,7 +55,8 @@ returns-3 c =
     let given = start .args in
     let tables = three (given .red .now) (given .green .now) (given .blue .now) in
     rw (four (start .pre .0) (test .before .if1 .left) (test .if2 .left))
-    (copied-each (rowByte 4 3 tables) (given .src .now) (given .dst .now) (omega arith) (copy .copy-bytes .ensures) (k .tone-colours-alpha .ensures))
+    (copied-each (rowByte 4 3 tables) (given .src .now) (given .dst .now) (omega arith) (copy .copy-bytes .ensures)
+    (k .tone-colours-alpha .ensures))
 
 pub tone-block-into-spec : {M : Type 1} → statement M
 tone-block-into-spec =

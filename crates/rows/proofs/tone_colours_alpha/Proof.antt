@@ -1,4 +1,5 @@
--- `rows::tone_colours_alpha` meets its contract: the pairs, and the last pixel if their number is odd.
+-- `rows::tone_colours_alpha` meets its contract: the pairs, and the last
+-- pixel if their number is odd.
 use native.Mathlib.Omega.{arith}
 use mathlib.Core.Path.{refl}
 use Prim.Native.Nat.{_-_}
@@ -16,7 +17,8 @@ returns c =
     let x = given .w - 1 in
     let tables = three (given .red .now) (given .green .now) (given .blue .now) in
     replaced-each
-    (colours-next 4 tables x (omega arith) (omega arith) refl (replaced-end (pairs .tone-pairs .ensures) (omega arith)) (last .tone-pixel .ensures))
+    (colours-next 4 tables x (omega arith) (omega arith) refl (replaced-end (pairs .tone-pairs .ensures) (omega arith))
+    (last .tone-pixel .ensures))
     (omega arith)
 
 returns-2 : tie.Need-returns-2
@@ -24,4 +26,5 @@ returns-2 c = replaced-each (c .before .before .before .tone-pairs .ensures) (om
 
 pub tone-colours-alpha-spec : {M : Type 1} → statement M
 tone-colours-alpha-spec =
-    tie.close (tie.spec (omega arith) (omega arith) (omega arith) (omega arith) (omega arith) returns (omega arith) returns-2)
+    tie.close
+    (tie.spec (omega arith) (omega arith) (omega arith) (omega arith) (omega arith) returns (omega arith) returns-2)

@@ -7,7 +7,8 @@ use Rattle.rows.proofs.tone_eight.Tie as tie
 returns : tie.Need-returns
 returns c =
     let k = c .before .before in
-    replaced-end (replaced-then (k .before .before .before .before .tone-four .ensures) (k .tone-four2 .ensures)) (omega arith)
+    replaced-end (replaced-then (k .before .before .before .before .tone-four .ensures) (k .tone-four2 .ensures))
+    (omega arith)
 
 pub tone-eight-spec : {M : Type 1} → statement M
 tone-eight-spec =

@@ -28,4 +28,5 @@ returns c = replaced-end (c .before .loop .inv .2) (omega arith)
 
 pub tone-eights-spec : {M : Type 1} → statement M
 tone-eights-spec =
-    tie.close (tie.spec Inv-loop μ-loop loop-holds (omega arith) (omega arith) (omega arith) loop-again (omega arith) returns)
+    tie.close
+    (tie.spec Inv-loop μ-loop loop-holds (omega arith) (omega arith) (omega arith) loop-again (omega arith) returns)

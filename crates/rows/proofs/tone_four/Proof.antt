@@ -7,7 +7,8 @@ use Rattle.rows.proofs.tone_four.Tie as tie
 returns : tie.Need-returns
 returns c =
     let k = c .before .before in
-    replaced-end (replaced-then (k .before .before .before .before .tone-two .ensures) (k .tone-two2 .ensures)) (omega arith)
+    replaced-end (replaced-then (k .before .before .before .before .tone-two .ensures) (k .tone-two2 .ensures))
+    (omega arith)
 
 pub tone-four-spec : {M : Type 1} → statement M
 tone-four-spec =

@@ -23,7 +23,8 @@ loop-again c =
     let k = c .before .before in
     let start = k .before .before .before in
     let r =
-    pixel-next 2 1 (same (start .before .before .args .table .now)) (start .loop .x) refl (start .loop .inv .1) (k .tone-one .ensures)
+    pixel-next 2 1 (same (start .before .before .args .table .now)) (start .loop .x) refl (start .loop .inv .1)
+    (k .tone-one .ensures)
     (omega arith) (omega arith) (λ j low high. omega arith) (λ j lt b. refl) in
     (omega arith, replaced-end r (omega arith))
 

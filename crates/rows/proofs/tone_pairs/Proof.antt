@@ -26,8 +26,11 @@ loop-again c =
     let given = start .before .before .args in
     let x = given .w - start .loop .left in
     let tables = three (given .red .now) (given .green .now) (given .blue .now) in
-    let one = colours-next 4 tables x (omega arith) (omega arith) (start .loop .inv .1) (start .loop .inv .3) (first .tone-pixel .ensures) in
-    let two = colours-next 4 tables (x + 1) (omega arith) (omega arith) (omega arith) one (second .tone-pixel2 .ensures) in
+    let one =
+    colours-next 4 tables x (omega arith) (omega arith) (start .loop .inv .1) (start .loop .inv .3)
+    (first .tone-pixel .ensures) in
+    let two =
+    colours-next 4 tables (x + 1) (omega arith) (omega arith) (omega arith) one (second .tone-pixel2 .ensures) in
     (omega arith, omega arith, omega arith, replaced-end two (omega arith))
 
 returns : tie.Need-returns Inv-loop μ-loop

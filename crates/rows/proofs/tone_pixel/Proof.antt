@@ -15,8 +15,12 @@ returns c =
     let start = red .before .before .before .args in
     let i = start .i in
     let tables = three (start .red .now) (start .green .now) (start .blue .now) in
-    let two = replaced-then (pixel-byte i 0 tables (omega arith) (red .tone-one .ensures)) (pixel-byte i 1 tables refl (green .tone-one2 .ensures)) in
-    replaced-end (replaced-then (replaced-end two (omega arith)) (pixel-byte i 2 tables refl (blue .tone-one3 .ensures))) (omega arith)
+    let two =
+    replaced-then (pixel-byte i 0 tables (omega arith) (red .tone-one .ensures))
+    (pixel-byte i 1 tables refl (green .tone-one2 .ensures)) in
+    replaced-end
+    (replaced-then (replaced-end two (omega arith)) (pixel-byte i 2 tables refl (blue .tone-one3 .ensures)))
+    (omega arith)
 
 pub tone-pixel-spec : {M : Type 1} → statement M
 tone-pixel-spec =

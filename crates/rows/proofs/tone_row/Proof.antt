@@ -35,7 +35,8 @@ returns-3 c =
     let k = c .before .before in
     let start = k .before .before .before .before .before in
     let last = last-of-four (start .pre .0) (k .before .before .before .if1 .left) (k .before .before .if2 .left) in
-    rw (last .0, last .1) (k .tone-colours-alpha .ensures ∙ one-table 4 3 (start .args .table .now) (start .args .s .now))
+    rw (last .0, last .1)
+    (k .tone-colours-alpha .ensures ∙ one-table 4 3 (start .args .table .now) (start .args .s .now))
 
 pub tone-row-spec : {M : Type 1} → statement M
 tone-row-spec =

@@ -46,7 +46,8 @@ loop-again c =
     let tables = three (given .red .now) (given .green .now) (given .blue .now) in
     let start = here .before .before .loop in (
       omega arith,
-      block-next (given .p) (tightAlpha (given .p)) tables (given .src .now) (start .x) (here .block-size .result) (part-tone-block-into-end here)
+      block-next (given .p) (tightAlpha (given .p)) tables (given .src .now) (start .x) (here .block-size .result)
+          (part-tone-block-into-end here)
           (part-tone-block-into-end-2 (k .before .before)) (start .inv .1) (k .tone-block-into .ensures),
     )
 
@@ -54,7 +55,8 @@ returns : tie.Need-returns Inv-loop μ-loop
 returns c =
     let given = c .before .before .before .before .args in
     let all = mul-last (c .before .loop .x) (given .w) (given .p) (omega arith) (omega arith) in
-    let rule = rowByte (given .p) (tightAlpha (given .p)) (three (given .red .now) (given .green .now) (given .blue .now)) in
+    let rule =
+    rowByte (given .p) (tightAlpha (given .p)) (three (given .red .now) (given .green .now) (given .blue .now)) in
     block-done rule (given .src .now) (c .before .loop .inv .1) (omega arith) (omega arith)
 
 pub tone-row-into-spec : {M : Type 1} → statement M

@@ -14,7 +14,8 @@ use Rattle.rows.proofs.tone_rows.Tie as tie
 
 abbrev Inv-loop : tie.InvT-loop
 Inv-loop plane₀ step w h p kept table row y₀ plane y =
-    (y ≤ h) × (row ≡ w * p) × Replaced 0 (planeByte (w * p) h step (rowByte p kept (same table))) 0 (y * step) plane₀ plane
+    (y ≤ h) × (row ≡ w * p)
+    × Replaced 0 (planeByte (w * p) h step (rowByte p kept (same table))) 0 (y * step) plane₀ plane
 
 abbrev μ-loop : tie.MeasureT-loop
 μ-loop plane₀ step w h p kept table row y₀ plane y = h - y
@@ -22,7 +23,8 @@ abbrev μ-loop : tie.MeasureT-loop
 returns : tie.Need-returns Inv-loop μ-loop
 returns c =
     let given = c .before .before .args in
-    plane-narrow (given .w * given .p) (given .h) (given .step) (rowByte (given .p) (given .kept) (same (given .table .now))) (given .plane .now)
+    plane-narrow (given .w * given .p) (given .h) (given .step)
+    (rowByte (given .p) (given .kept) (same (given .table .now))) (given .plane .now)
     (rw (c .if1 .taken) (zero-mul _))
 
 loop-holds : tie.Need-loop-holds Inv-loop μ-loop
@@ -31,7 +33,11 @@ loop-holds c = (omega arith, omega arith, replaced-end replaced-none (omega arit
 -- the row lies in the plane, so its bounds fit too
 part-tone-row-end : tie.Need-part-tone-row-end Inv-loop μ-loop
 part-tone-row-end c =
-    omega (arith, rows-inside (c .before .loop .y) (c .before .before .before .before .pre .1) (c .before .before .if1 .left) (c .loop-test .taken))
+    omega (
+      arith,
+      rows-inside (c .before .loop .y) (c .before .before .before .before .pre .1) (c .before .before .if1 .left)
+          (c .loop-test .taken),
+    )
 
 mul-at : tie.Need-mul-at Inv-loop μ-loop
 mul-at c = omega (arith, part-tone-row-end c)
@@ -48,7 +54,8 @@ loop-again c =
     let rule = rowByte (given .p) (given .kept) (same (given .table .now)) in (
       omega arith,
       omega arith,
-      plane-next (given .w * given .p) (given .h) (given .step) rule (here .before .loop .y) (start .pre .1 .stepped) (here .loop-test .taken)
+      plane-next (given .w * given .p) (given .h) (given .step) rule (here .before .loop .y) (start .pre .1 .stepped)
+          (here .loop-test .taken)
           (part-tone-row-end here) (here .before .loop .inv .2) (k .tone-row .ensures),
     )
 
@@ -59,7 +66,8 @@ returns-2 c =
     let some = step-some (c .before .before .if1 .left) (some-bytes (start .pre .0)) (start .pre .1 .stepped) in
     let rule = rowByte (given .p) (given .kept) (same (given .table .now)) in
     plane-done (given .w * given .p) (given .h) (given .step) rule some
-    (replaced-end (c .before .loop .inv .2) (mul-last (c .before .loop .y) (given .h) (given .step) (omega arith) (omega arith)))
+    (replaced-end (c .before .loop .inv .2)
+    (mul-last (c .before .loop .y) (given .h) (given .step) (omega arith) (omega arith)))
 
 pub tone-rows-spec : {M : Type 1} → statement M
 tone-rows-spec =

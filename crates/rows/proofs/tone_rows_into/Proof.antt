@@ -1,4 +1,5 @@
--- `rows::tone_rows_into` meets its contract: row after row, at the step out of the plane and tight into the destination.
+-- `rows::tone_rows_into` meets its contract: row after row, at the step out of the plane and
+-- tight into the destination.
 use native.Mathlib.Omega.{arith}
 use mathlib.Core.Path.{_≡_}
 use Prim.Native.Nat.{_≤_, _-_, _*_}
@@ -23,8 +24,10 @@ abbrev μ-loop : tie.MeasureT-loop
 returns : tie.Need-returns Inv-loop μ-loop
 returns c =
     let given = c .before .before .before .args in
-    let rule = rowByte (given .p) (tightAlpha (given .p)) (three (given .red .now) (given .green .now) (given .blue .now)) in
-    filled-none (given .h * (given .w * given .p)) (tightByte (given .w * given .p) (given .step) rule (given .plane .now)) (given .dst .now)
+    let rule =
+    rowByte (given .p) (tightAlpha (given .p)) (three (given .red .now) (given .green .now) (given .blue .now)) in
+    filled-none (given .h * (given .w * given .p))
+    (tightByte (given .w * given .p) (given .step) rule (given .plane .now)) (given .dst .now)
     (rw (c .if1 .taken, zero-mul) (mul-zero _))
 
 loop-holds : tie.Need-loop-holds Inv-loop μ-loop
@@ -33,7 +36,11 @@ loop-holds c = (omega arith, omega arith, stored-end stored-none (omega arith))
 -- the row lies in the plane, so its bounds fit too
 part-tone-row-into-end : tie.Need-part-tone-row-into-end Inv-loop μ-loop
 part-tone-row-into-end c =
-    omega (arith, rows-inside (c .before .loop .y) (c .before .before .before .before .before .pre .1) (c .before .before .if1 .left) (c .loop-test .taken))
+    omega (
+      arith,
+      rows-inside (c .before .loop .y) (c .before .before .before .before .before .pre .1)
+          (c .before .before .if1 .left) (c .loop-test .taken),
+    )
 
 mul-from : tie.Need-mul-from Inv-loop μ-loop
 mul-from c = omega (arith, part-tone-row-into-end c)
@@ -59,10 +66,12 @@ loop-again c =
     let k = c .before .before in
     let here = k .before .before .before in
     let given = here .before .before .before .before .before .args in
-    let rule = rowByte (given .p) (tightAlpha (given .p)) (three (given .red .now) (given .green .now) (given .blue .now)) in (
+    let rule =
+    rowByte (given .p) (tightAlpha (given .p)) (three (given .red .now) (given .green .now) (given .blue .now)) in (
       omega arith,
       omega arith,
-      tight-next (given .w * given .p) (given .step) rule (given .plane .now) (here .before .loop .y) (part-tone-row-into-end here)
+      tight-next (given .w * given .p) (given .step) rule (given .plane .now) (here .before .loop .y)
+          (part-tone-row-into-end here)
           (part-tone-row-into-end-2 (k .before .before)) (here .before .loop .inv .2) (k .tone-row-into .ensures),
     )
 

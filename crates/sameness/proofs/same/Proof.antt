@@ -9,9 +9,13 @@ returns c =
     let blue = c .before in
     let green = blue .before in
     let red = green .before in
-    decides-as (λ e. record { master = e .0 .0 .0 .0; red = e .0 .0 .0 .1; green = e .0 .0 .1; blue = e .0 .1; kind = e .1 })
+    decides-as
+    (λ e. record { master = e .0 .0 .0 .0; red = e .0 .0 .0 .1; green = e .0 .0 .1; blue = e .0 .1; kind = e .1 })
     (λ s. ((((s .master, s .red), s .green), s .blue), s .kind))
-    (decides-both (decides-both (decides-both (decides-both (red .before .same-curve .ensures) (red .same-channel .ensures)) (green .same-channel2 .ensures))
+    (decides-both
+    (decides-both
+    (decides-both (decides-both (red .before .same-curve .ensures) (red .same-channel .ensures))
+    (green .same-channel2 .ensures))
     (blue .same-channel3 .ensures)) (c .same-kind .ensures))
 
 pub same-spec : {M : Type 1} → statement M

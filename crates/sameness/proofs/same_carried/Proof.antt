@@ -15,7 +15,8 @@ same-parts p q e =
     ∙ ap (λ d. record { tension = q .tension; start = q .start; end = d }) (e .1)
 
 parts-same : (p q : Carried) → p ≡ q → ((p .tension ≡ q .tension) × (p .start ≡ q .start)) × (p .end ≡ q .end)
-parts-same p q e = ((ap (λ (r : Carried). r .tension) e, ap (λ (r : Carried). r .start) e), ap (λ (r : Carried). r .end) e)
+parts-same p q e =
+    ((ap (λ (r : Carried). r .tension) e, ap (λ (r : Carried). r .start) e), ap (λ (r : Carried). r .end) e)
 
 returns : tie.Need-returns
 returns c =

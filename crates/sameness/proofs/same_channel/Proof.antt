@@ -9,7 +9,8 @@ use Rattle.sameness.proofs.same_channel.Tie as tie
 returns : tie.Need-returns
 returns c =
     let there = c .before .before .if1 .taken in
-    decides-as (λ e. record { present = there ∙ sym (e .0); curve = λ t. e .1 }) (λ s. (sym (s .present) ∙ there, s .curve there))
+    decides-as (λ e. record { present = there ∙ sym (e .0); curve = λ t. e .1 })
+    (λ s. (sym (s .present) ∙ there, s .curve there))
     (decides-both (decides-on _) (c .before .same-curve .ensures))
 
 returns-2 : tie.Need-returns-2

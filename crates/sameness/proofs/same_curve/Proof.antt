@@ -15,7 +15,8 @@ use Rattle.sameness.proofs.Deciding.{no, decides-as}
 use Rattle.sameness.proofs.same_curve.Statement.{statement}
 use Rattle.sameness.proofs.same_curve.Tie as tie
 
-by-points : {r : Bool} (a b : Curve) (n : ℕ) → a .count ≡ b .count → take n (a .points) ≡ listOf a → take n (b .points) ≡ listOf b
+by-points : {r : Bool} (a b : Curve) (n : ℕ) → a .count ≡ b .count → take n (a .points) ≡ listOf a
+    → take n (b .points) ≡ listOf b
     → Decides (take n (a .points) ≡ take n (b .points)) r → Decides (SameCurve a b) r
 by-points a b n e p q d = decides-as (λ t. record { count = e; points = sym p ∙ t ∙ q }) (λ s. p ∙ s .points ∙ sym q) d
 
@@ -36,8 +37,10 @@ returns-3 c =
     let b = k .before .args .b in
     let a-long : length (a .points) ≡ 64 = search (needs, length-told) in
     let b-long : length (b .points) ≡ 64 = search (needs, length-told) in
-    by-points a b 64 (k .if1 .left) (take-all 64 (a .points) (omega arith) ∙ sym (take-all (a .count) (a .points) (omega arith)))
-    (take-all 64 (b .points) (omega arith) ∙ sym (take-all (b .count) (b .points) (omega arith))) (c .same-points2 .ensures)
+    by-points a b 64 (k .if1 .left)
+    (take-all 64 (a .points) (omega arith) ∙ sym (take-all (a .count) (a .points) (omega arith)))
+    (take-all 64 (b .points) (omega arith) ∙ sym (take-all (b .count) (b .points) (omega arith)))
+    (c .same-points2 .ensures)
 
 pub same-curve-spec : {M : Type 1} → statement M
 same-curve-spec = tie.close (tie.spec returns (omega arith) (omega arith) returns-2 returns-3)

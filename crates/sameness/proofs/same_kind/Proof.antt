@@ -14,7 +14,8 @@ returns c =
     let m = c .before .before .before .number2 .ensures in
     let n = c .before .before .before .before .number .ensures in
     decides-as (λ e. kind-unique _ _ (sym n ∙ e .0 ∙ m) (sym p ∙ e .1 ∙ q))
-    (λ e. (n ∙ ap kindNumber e ∙ sym m, p ∙ ap carriedOf e ∙ sym q)) (decides-both (decides-equal _ _) (c .same-carried .ensures))
+    (λ e. (n ∙ ap kindNumber e ∙ sym m, p ∙ ap carriedOf e ∙ sym q))
+    (decides-both (decides-equal _ _) (c .same-carried .ensures))
 
 pub same-kind-spec : {M : Type 1} → statement M
 same-kind-spec = tie.close (tie.spec (omega arith) (omega arith) (omega arith) (omega arith) (omega arith) returns)

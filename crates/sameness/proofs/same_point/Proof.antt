@@ -11,7 +11,8 @@ same-parts p q e = ap (λ x. pt x (p .y)) (e .0) ∙ ap (pt (q .x)) (e .1)
 
 returns : tie.Need-returns
 returns c =
-    decides-as (same-parts _ _) (λ e. (ap (λ (p : Point). p .x) e, ap (λ (p : Point). p .y) e)) (decides-both (decides-equal _ _) (decides-equal _ _))
+    decides-as (same-parts _ _) (λ e. (ap (λ (p : Point). p .x) e, ap (λ (p : Point). p .y) e))
+    (decides-both (decides-equal _ _) (decides-equal _ _))
 
 pub same-point-spec : {M : Type 1} → statement M
 same-point-spec = tie.close (tie.spec returns)

@@ -21,7 +21,8 @@ Inv-loop n a b i₀ i = (i ≤ n) × (take i (a .points) ≡ take i (b .points))
 abbrev μ-loop : tie.MeasureT-loop
 μ-loop n a b i₀ i = n - i
 
-one-more : (k l : List Point) (i : ℕ) → i < length k → i < length l → take i k ≡ take i l → nth k i ≡ nth l i → take (i + 1) k ≡ take (i + 1) l
+one-more : (k l : List Point) (i : ℕ) → i < length k → i < length l → take i k ≡ take i l → nth k i ≡ nth l i
+    → take (i + 1) k ≡ take (i + 1) l
 one-more k l i h g e p = rw (add-one i, take-suc k i (pt 0 0) h, take-suc l i (pt 0 0) g, e, p)
 
 at-one : (k l : List Point) (n i : ℕ) → i < n → take n k ≡ take n l → nth k i ≡ nth l i

@@ -17,7 +17,8 @@ pub draw-spec : {M : Type 1} → statement M
 draw-spec =
     tie.close
     (tie.spec
-    (omega arith) (λ c κs. search needs) (omega arith) (λ c κs. search needs) (omega arith) (λ c κs. search needs) (omega arith)
+    (omega arith) (λ c κs. search needs) (omega arith) (λ c κs. search needs) (omega arith) (λ c κs. search needs)
+    (omega arith)
     returns
     (omega arith)
     returns-2

@@ -8,8 +8,10 @@ rest-requires : tie.Need-rest-requires
 rest-requires c κs =
     let b = c .before .before .before in
     let call = b .before .before .before .before in
-    let state = b .begin .ensures in
-    ((call .pre .0 .1, omega (arith, state .long), rw (state .long) (b .before .before .step-of .ensures)), rw (state .long) state)
+    let state = b .begin .ensures in (
+      (call .pre .0 .1, omega (arith, state .long), rw (state .long) (b .before .before .step-of .ensures)),
+      rw (state .long) state,
+    )
 
 returns : tie.Need-returns
 returns c =

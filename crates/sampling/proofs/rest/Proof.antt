@@ -26,7 +26,8 @@ loop-again c =
     let start = b .before .before in (
       search needs,
       done-next _ _ _ _ _ _ (b .loop .inv .1) (omega arith)
-          (one-sample _ _ _ _ _ _ (start .pre .1) (omega arith) (omega arith) (start .pre .0 .2) (q .position .ensures) (a .advance .ensures .0)
+          (one-sample _ _ _ _ _ _ (start .pre .1) (omega arith) (omega arith) (start .pre .0 .2) (q .position .ensures)
+          (a .advance .ensures .0)
           (g .piece-at .ensures) (h .height .ensures) (c .clamp .ensures)),
     )
 
@@ -40,7 +41,8 @@ rest-spec =
     Inv-loop
     μ-loop
     loop-holds
-    (omega arith) (omega arith) (omega arith) (omega arith) (omega arith) (omega arith) (omega arith) (omega arith) (omega arith)
+    (omega arith) (omega arith) (omega arith) (omega arith) (omega arith) (omega arith) (omega arith) (omega arith)
+    (omega arith)
     loop-again
     (omega arith)
     returns)

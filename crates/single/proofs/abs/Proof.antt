@@ -1,4 +1,5 @@
--- `single::abs` meets its contract: a float above zero is its own size, and zero less any other is exact, since the format holds it.
+-- `single::abs` meets its contract: a float above zero is its own size, and zero less any other is
+-- exact, since the format holds it.
 use mathlib.Core.Path.{_≡_, refl, sym, subst}
 use mathlib.Core.Bool.{true, false, true≢false}
 use Prim.Native.Nat.{ℕ, _+_, _-_, _*_, _≤_}
@@ -29,10 +30,12 @@ zero-less (inf true) t h = refl
 zero-less (inf false) t h = absurd (true≢false h)
 zero-less (fin true m e) t h =
     let fit = neg-fits binary32 (fin true m e) t in
-    rounds-to binary32 (fin false m e) (0 * down e + m * up e * 1) (1 * down e) tt fit (omega (arith, down-pos e)) (omega arith)
+    rounds-to binary32 (fin false m e) (0 * down e + m * up e * 1) (1 * down e) tt fit (omega (arith, down-pos e))
+    (omega arith)
 zero-less (fin false m e) t h =
     let none = nothing (m * up e) (down e) (ltb-false (0 * down e) (m * up e * 1) h) in
-    rw h (rounds-to binary32 (fin false m e) (0 * down e - m * up e * 1) (1 * down e) tt t (omega (arith, down-pos e)) none)
+    rw h (rounds-to binary32 (fin false m e) (0 * down e - m * up e * 1) (1 * down e) tt t (omega (arith, down-pos e))
+    none)
   where
     nothing : (a d : ℕ) → a * 1 ≤ 0 * d → (0 * d - a * 1) * d ≡ a * (1 * d)
     nothing a d l =

@@ -1,4 +1,5 @@
--- `single::clamp` meets its contract: each return is what `clamped` picks at the tests that led there.
+-- `single::clamp` meets its contract: each return is what `clamped` picks at
+-- the tests that led there.
 use Rattle.single.specs.Rules.{clamped}
 use Rattle.single.proofs.clamp.Statement.{statement}
 use Rattle.single.proofs.clamp.Tie as tie

@@ -1,4 +1,5 @@
--- `single::count_to_float` meets its contract: the count is the same signed, and a float holds it exactly.
+-- `single::count_to_float` meets its contract: the count is the same signed, and
+-- a float holds it exactly.
 use native.Mathlib.Omega.{arith}
 use mathlib.Core.Path.{_≡_, ap}
 use Prim.Native.Nat.{ℕ, _≤_, _^_}

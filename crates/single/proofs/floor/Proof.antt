@@ -1,4 +1,5 @@
--- `single::floor` meets its contract: the nearest whole number, or one less where it lies above x (`proofs/Nearest.antt`).
+-- `single::floor` meets its contract: the nearest whole number, or one less where it lies above x
+-- (`proofs/Nearest.antt`).
 use mathlib.Core.Path.{_≡_, sym, ap, _∙_}
 use Prim.Native.Nat.{ℕ, _+_, _-_, _/_}
 use native.Mathlib.Nat.{lt-of-le-of-lt}

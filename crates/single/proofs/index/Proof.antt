@@ -11,7 +11,8 @@ use Rattle.single.proofs.index.Statement.{statement}
 use Rattle.single.proofs.index.Tie as tie
 
 cast : (x w : Float) → w ≡ float (floorOf x) → T (inUnsigned binary32 16 w) × (toUnsigned 16 w ≡ floorOf x)
-cast x w e = cast-back 16 (floorOf x) w (lt-of-le-of-lt (floor-small x) (lit< tt)) (le-trans (floor-small x) (lit≤ tt)) e
+cast x w e =
+    cast-back 16 (floorOf x) w (lt-of-le-of-lt (floor-small x) (lit< tt)) (le-trans (floor-small x) (lit≤ tt)) e
 
 float-to-int-result : tie.Need-float-to-int-result
 float-to-int-result c = cast _ _ (c .before .floor .ensures) .0

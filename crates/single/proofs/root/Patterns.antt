@@ -3,7 +3,17 @@ use mathlib.Core.Path.{_≡_, refl, sym, ap, _∙_, subst}
 use mathlib.Core.Logic.{inl, inr}
 use mathlib.Core.Bool.{Bool, true, false, not, cond}
 use Prim.Native.Nat.{ℕ, zero, suc, _+_, _-_, _*_, _/_, _%_, _^_, _≤_, _<_}
-use native.Mathlib.Nat.{mod-eq-of-lt, mul-assoc, mul-one, add-comm, mul-pos, mul-div-cancel, zero-mul, lt-irrefl, eq-or-lt-of-le}
+use native.Mathlib.Nat.{
+  mod-eq-of-lt,
+  mul-assoc,
+  mul-one,
+  add-comm,
+  mul-pos,
+  mul-div-cancel,
+  zero-mul,
+  lt-irrefl,
+  eq-or-lt-of-le,
+}
 use native.Mathlib.Omega.{arith}
 use lib.IntN.{ℤ}
 use lib.Dec.{T, leb, eqb}
@@ -28,7 +38,9 @@ nan-root x e = subst (λ (y : Float). y ≡ rootOf y) (sym (differs-from-itself 
 
 -- ---- the root of a float by its value
 nonzero : (c : ℕ) (e : ℤ) (a : ℕ) → 0 < a → zero * up e * c ≡ a * down e → ⊥
-nonzero c e a p h = lt-irrefl 0 (subst (λ (x : ℕ). 0 < x) (sym h ∙ ap (λ (x : ℕ). x * c) (zero-mul (up e)) ∙ zero-mul c) (mul-pos p (down-pos e)))
+nonzero c e a p h =
+    lt-irrefl 0
+    (subst (λ (x : ℕ). 0 < x) (sym h ∙ ap (λ (x : ℕ). x * c) (zero-mul (up e)) ∙ zero-mul c) (mul-pos p (down-pos e)))
 
 below-zero : (y : Float) (a c : ℕ) → HasValue y true a c → 0 < a → nan ≡ rootOf y
 unfolding rootOf
@@ -61,7 +73,8 @@ subnormal : (s : Bool) (t : ℕ) → ofFields binary32 s 0 t ≡ odd 24 s t 0 14
 unfolding ofFields
 subnormal s t = refl
 
-normal : (s : Bool) (x t : ℕ) → ofFields binary32 s (suc x) t ≡ cond (eqb (suc x) 255) (cond (eqb t 0) (inf s) nan) (odd 24 s (8388608 + t) x 149)
+normal : (s : Bool) (x t : ℕ)
+    → ofFields binary32 s (suc x) t ≡ cond (eqb (suc x) 255) (cond (eqb t 0) (inf s) nan) (odd 24 s (8388608 + t) x 149)
 unfolding ofFields
 normal s x t = refl
 
@@ -103,7 +116,8 @@ pub negative-root : (b : ℕ) → 2147483648 < b → b < 2 ^ 32 → nan ≡ root
 negative-root b low high =
     by-fields (b % 2147483648 / 8388608) (b % 8388608) (omega arith)
     ∙ ap rootOf (sym (fields b
-    ∙ ap (λ (s : Bool). ofFields binary32 s (b % 2147483648 / 8388608) (b % 8388608)) (le-leb 2147483648 b (omega arith))))
+    ∙ ap (λ (s : Bool). ofFields binary32 s (b % 2147483648 / 8388608) (b % 8388608))
+    (le-leb 2147483648 b (omega arith))))
   where
     by-fields : (x t : ℕ) → 0 < x + t → nan ≡ rootOf (ofFields binary32 true x t)
     by-fields zero t p =
@@ -112,7 +126,8 @@ negative-root b low high =
     by-fields (suc x) t p =
         let y = odd 24 true (8388608 + t) x 149 in
         negative-top (eqb (suc x) 255) (eqb t 0) y
-        (below-zero y ((8388608 + t) * 2 ^ x) (2 ^ 149) (odd-sign 24 true (8388608 + t) x 149) (mul-pos (omega arith) (pow-pos x)))
+        (below-zero y ((8388608 + t) * 2 ^ x) (2 ^ 149) (odd-sign 24 true (8388608 + t) x 149)
+        (mul-pos (omega arith) (pow-pos x)))
         ∙ ap rootOf (sym (normal true x t))
 
 -- ---- the positive ones
@@ -157,7 +172,10 @@ normal-root b low high = by-fields (b / 8388608 - 1) (b % 8388608) (omega arith)
         let power : b / 8388608 + 23 + 125 ≡ x + 149 = omega arith in
         ap (λ (n : ℕ). rootOfUnits (n * 2 ^ (b / 8388608 + 23 + 125))) (add-comm t 8388608)
         ∙ ap (λ (n : ℕ). rootOfUnits ((8388608 + t) * 2 ^ n)) power
-        ∙ ap rootOfUnits (ap (λ (n : ℕ). (8388608 + t) * n) (pow-add 2 x 149) ∙ sym (mul-assoc (8388608 + t) (2 ^ x) (2 ^ 149)))
-        ∙ above-zero y ((8388608 + t) * 2 ^ x) (odd-sign 24 false (8388608 + t) x 149) (mul-pos (omega arith) (pow-pos x))
-        ∙ ap (λ (s : Bool). rootOf (cond s (cond (eqb t 0) (inf false) nan) y)) (sym (ne-eqb (suc x) 255 (λ (g : suc x ≡ 255). omega arith)))
+        ∙ ap rootOfUnits
+        (ap (λ (n : ℕ). (8388608 + t) * n) (pow-add 2 x 149) ∙ sym (mul-assoc (8388608 + t) (2 ^ x) (2 ^ 149)))
+        ∙ above-zero y ((8388608 + t) * 2 ^ x) (odd-sign 24 false (8388608 + t) x 149)
+        (mul-pos (omega arith) (pow-pos x))
+        ∙ ap (λ (s : Bool). rootOf (cond s (cond (eqb t 0) (inf false) nan) y))
+        (sym (ne-eqb (suc x) 255 (λ (g : suc x ≡ 255). omega arith)))
         ∙ ap rootOf (sym (normal false x t))

@@ -1,9 +1,20 @@
--- What the code's whole numbers have to do with `rootOfUnits`: p is the nearest root by two comparisons, and its digits are the result's bit pattern.
+-- What the code's whole numbers have to do with `rootOfUnits`: p is the nearest root by two
+-- comparisons, and its digits are the result's bit pattern.
 use mathlib.Core.Path.{_≡_, refl, sym, ap, _∙_, subst}
 use mathlib.Core.Logic.{_⊎_, inl, inr}
 use mathlib.Core.Bool.{Bool, false, not, cond}
 use Prim.Native.Nat.{ℕ, zero, suc, _+_, _-_, _*_, _/_, _%_, _^_, _≤_, _<_}
-use native.Mathlib.Nat.{le-trans, le-of-lt, le-of-eq, lt-of-le-of-lt, lt-of-lt-of-le, lt-of-not-le, not-le-of-lt, le-of-suc-le-suc, mul-assoc}
+use native.Mathlib.Nat.{
+  le-trans,
+  le-of-lt,
+  le-of-eq,
+  lt-of-le-of-lt,
+  lt-of-lt-of-le,
+  lt-of-not-le,
+  not-le-of-lt,
+  le-of-suc-le-suc,
+  mul-assoc,
+}
 use native.Mathlib.Nat.{mul-div-cancel, mul-pos, mul-le-mul-left, mul-le-mul-right, mul-lt-mul-of-pos-right}
 use native.Mathlib.Omega.{arith}
 use lib.Dec.{T, ltb, ltb→lt, not-T}
@@ -22,7 +33,8 @@ use Rattle.single.specs.RootUnits.{even-power, dropped, units-nearest, u
 module _ (q k : ℕ) (low : 2 ^ 23 ≤ q) (high : q < 2 ^ 24) where
   size-units : size (q * 2 ^ k) - 24 ≡ k
   size-units =
-      let a : 23 + k < size (q * 2 ^ k) = size-above (q * 2 ^ k) (23 + k) (le-trans (le-of-eq (pow-add 2 23 k)) (mul-le-mul-right (2 ^ k) low)) in
+      let a : 23 + k < size (q * 2 ^ k) =
+      size-above (q * 2 ^ k) (23 + k) (le-trans (le-of-eq (pow-add 2 23 k)) (mul-le-mul-right (2 ^ k) low)) in
       let b : size (q * 2 ^ k) ≤ 24 + k = size-le (q * 2 ^ k) (24 + k) (shl-lt 24 k high) in
       omega arith
 
@@ -44,11 +56,13 @@ module _ (q k : ℕ) (low : 2 ^ 23 ≤ q) (high : q < 2 ^ 24) where
 
   units-bits : k ≤ 200 → units binary32 false q k ≡ ofBits binary32 (k * 8388608 + q)
   units-bits h =
-      let under : q * 2 ^ k < 2 ^ 277 = lt-of-lt-of-le (shl-lt 24 k high) (pow-mono {i = 24 + k} {j = 277} (omega arith)) in
+      let under : q * 2 ^ k < 2 ^ 277 =
+      lt-of-lt-of-le (shl-lt 24 k high) (pow-mono {i = 24 + k} {j = 277} (omega arith)) in
       sym (ofBits-toBits binary32 (units binary32 false q k) (units-fits q k high under))
       ∙ ap (ofBits binary32) (bits-of (units binary32 false q k) (units-val binary32 false q k under))
 
--- ---- p is nearest to the root of m, and so of m * 2 ^ (2 * k). There is no tie: 4 * m is even, and the squares of 2 * p - 1 and 2 * p + 1 are odd.
+-- ---- p is nearest to the root of m, and so of m * 2 ^ (2 * k). There is no tie: 4 * m is even,
+-- and the squares of 2 * p - 1 and 2 * p + 1 are odd.
 low-square : (m p : ℕ) → p * p < m + p → (2 * p - 1) * (2 * p - 1) < 4 * m
 low-square m zero h = omega arith
 low-square m (suc q) h = subst (λ (a : ℕ). a * a < 4 * m) (odd q) (omega arith)
@@ -76,12 +90,14 @@ module _ (m k p : ℕ) (above : p * p < m + p) (below : m ≤ p * p + p) where
   nearest-by-tests : NearestRoot (m * (2 ^ k * 2 ^ k)) k p
   nearest-by-tests = record { low = le-of-lt low; high = le-of-lt high; even = no-tie }
     where
-      no-tie : (4 * (m * (2 ^ k * 2 ^ k)) ≡ square k (2 * p - 1)) ⊎ (4 * (m * (2 ^ k * 2 ^ k)) ≡ square k (2 * p + 1)) → p % 2 ≡ 0
+      no-tie : (4 * (m * (2 ^ k * 2 ^ k)) ≡ square k (2 * p - 1)) ⊎ (4 * (m * (2 ^ k * 2 ^ k)) ≡ square k (2 * p + 1))
+          → p % 2 ≡ 0
       no-tie (inl e) = absurd (not-le-of-lt low (le-of-eq e))
       no-tie (inr e) = absurd (not-le-of-lt high (le-of-eq (sym e)))
 
 -- ---- its pattern
--- between the least and the most of 47 or 48 digits that end in 23 zeros or 24: what the code's m is
+-- between the least and the most of 47 or 48 digits that end in 23 zeros or
+-- 24: what the code's m is
 abbrev pub Wide : ℕ → Type 0
 Wide m = (2 ^ 46 ≤ m) × (m ≤ (2 ^ 24 - 1) * 2 ^ 24)
 
@@ -102,7 +118,8 @@ module _ (m p : ℕ) (wide : Wide m) (above : p * p < m + p) (below : m ≤ p * 
 
     dropped-is : dropped n ≡ k
     dropped-is =
-        let l : 2 ^ (46 + (k + k)) ≤ n = le-trans (le-of-eq (even-power 46 k)) (mul-le-mul-right (2 ^ k * 2 ^ k) (wide .0)) in
+        let l : 2 ^ (46 + (k + k)) ≤ n =
+        le-trans (le-of-eq (even-power 46 k)) (mul-le-mul-right (2 ^ k * 2 ^ k) (wide .0)) in
         let h : n < 2 ^ (48 + (k + k)) = lt-of-lt-of-le under (le-of-eq (sym (even-power 48 k))) in
         let a : 46 + (k + k) < size n = size-above n (46 + (k + k)) l in
         let b : size n ≤ 48 + (k + k) = size-le n (48 + (k + k)) h in
@@ -114,9 +131,11 @@ module _ (m p : ℕ) (wide : Wide m) (above : p * p < m + p) (below : m ≤ p * 
     root-bits : k ≤ 200 → rootOfUnits n ≡ ofBits binary32 (k * 8388608 + p)
     unfolding rootOfUnits
     root-bits h =
-        let is : NearestRoot n k (nearestRoot n k) = subst (λ (j : ℕ). NearestRoot n j (nearestRoot n j)) dropped-is (units-nearest n) in
+        let is : NearestRoot n k (nearestRoot n k) =
+        subst (λ (j : ℕ). NearestRoot n j (nearestRoot n j)) dropped-is (units-nearest n) in
         ap (λ (j : ℕ). units binary32 false (nearestRoot n j) j) dropped-is
-        ∙ ap (λ (q : ℕ). units binary32 false q k) (nearest-root-unique n k (nearestRoot n k) p is (nearest-by-tests m k p above below))
+        ∙ ap (λ (q : ℕ). units binary32 false q k)
+        (nearest-root-unique n k (nearestRoot n k) p is (nearest-by-tests m k p above below))
         ∙ units-bits p k at-least at-most h
 
 -- ---- a * 2 ^ (e + 125), a being of 24 digits, as such a number
@@ -147,7 +166,8 @@ scaled-is a e =
     split e = omega arith
 
     digit : 2 ^ (e % 2 + (51 + e / 2 + (51 + e / 2))) ≡ (1 + e % 2) * (2 ^ (51 + e / 2) * 2 ^ (51 + e / 2))
-    digit = even-power (e % 2) (51 + e / 2) ∙ ap (λ (x : ℕ). x * (2 ^ (51 + e / 2) * 2 ^ (51 + e / 2))) (power-of-digit (e % 2) (omega arith))
+    digit = even-power (e % 2) (51 + e / 2)
+        ∙ ap (λ (x : ℕ). x * (2 ^ (51 + e / 2) * 2 ^ (51 + e / 2))) (power-of-digit (e % 2) (omega arith))
 
 pub root-pattern : (a e p : ℕ) → Wide (scaled a e) → e ≤ 280 → p * p < scaled a e + p → scaled a e ≤ p * p + p
     → ofBits binary32 ((51 + e / 2) * 8388608 + p) ≡ rootOfUnits (a * 2 ^ (e + 125))
@@ -158,4 +178,5 @@ root-pattern a e p w h above below =
 pub no-nan : (b : ℕ) → b < 2139095040 → T (not (nanBits binary32 b))
 no-nan b h =
     subst (λ (x : Bool). T (not x)) (sym (nanBits-above binary32 b))
-    (not-T (ltb 2139095040 (b % 2147483648)) (λ t. let g : 2139095040 < b % 2147483648 = ltb→lt 2139095040 (b % 2147483648) t in omega arith))
+    (not-T (ltb 2139095040 (b % 2147483648))
+    (λ t. let g : 2139095040 < b % 2147483648 = ltb→lt 2139095040 (b % 2147483648) t in omega arith))

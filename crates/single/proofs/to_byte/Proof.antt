@@ -1,4 +1,5 @@
--- `single::to_byte` meets its contract: the nearest whole number, put right at a half (`proofs/Nearest.antt`).
+-- `single::to_byte` meets its contract: the nearest whole number, put right at a half
+-- (`proofs/Nearest.antt`).
 use mathlib.Core.Path.{_≡_, sym, ap, _∙_}
 use Prim.Native.Nat.{_+_}
 use native.Mathlib.Nat.{lt-of-le-of-lt, le-trans}

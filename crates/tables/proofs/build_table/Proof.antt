@@ -33,7 +33,9 @@ sample-curve-requires c κs =
     let k = c .before .before in
     let A = k .before .before .before .before .before .args in
     let room = lengthCheck (length (A .samples .now)) ∷ [] in
-    let passed = done-append (listChecks (A .curve)) room (sym (answered (k .before)) ∙ done-is _ (sym (k .is-done .ensures) ∙ c .before .if1 .taken)) in
+    let passed =
+    done-append (listChecks (A .curve)) room
+    (sym (answered (k .before)) ∙ done-is _ (sym (k .is-done .ensures) ∙ c .before .if1 .taken)) in
     two-to-4096 _ (not-false _ (all-passed room (passed .1) .0))
 
 returns : tie.Need-returns
@@ -46,7 +48,8 @@ returns c =
     }
 
 returns-2 : tie.Need-returns-2
-returns-2 c = record { answer = answered (c .before .before); table = rw (sym (c .before .is-done .ensures) ∙ c .if1 .left) }
+returns-2 c =
+    record { answer = answered (c .before .before); table = rw (sym (c .before .is-done .ensures) ∙ c .if1 .left) }
 
 pub build-table-spec : {M : Type 1} → statement M
 build-table-spec =

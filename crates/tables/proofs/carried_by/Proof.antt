@@ -11,7 +11,8 @@ pub carried-by-spec : {M : Type 1} → statement M
 carried-by-spec =
     tie.close
     (tie.spec
-    (omega arith) (omega arith) (omega arith) (omega arith) (omega arith) (omega arith) (omega arith) (omega arith) (omega arith) (omega arith)
+    (omega arith) (omega arith) (omega arith) (omega arith) (omega arith) (omega arith) (omega arith) (omega arith)
+    (omega arith) (omega arith)
     (λ c. rw (c .enum-told .given .1)
     (search needs))
     (λ c. rw (c .enum-told2 .given .1)

@@ -29,18 +29,23 @@ returns-8 : tie.Need-returns-8
 returns-8 c = let e : c .before .args .k ≡ 7 = c .match .keys8 in rw e
 
 returns-9 : tie.Need-returns-9
-returns-9 c = let e : c .before .args .k ≡ 8 = c .match .keys9 in rw (e, toZ-ofZ (c .before .fits .start-slope-q8), toZ-ofZ (c .before .fits .end-slope-q8))
+returns-9 c = let e : c .before .args .k ≡ 8 = c .match .keys9 in
+    rw (e, toZ-ofZ (c .before .fits .start-slope-q8), toZ-ofZ (c .before .fits .end-slope-q8))
 
 returns-10 : tie.Need-returns-10
 returns-10 c =
     let r = c .match .rest in
     from-last (c .before .args .k) _ _ _
-    (past 8 (past 7 (past 6 (past 5 (past 4 (past 3 (past 2 (past 1 (past 0 zero-le (r .0 .0 .0 .0 .0 .0 .0 .0 .1)) (r .0 .0 .0 .0 .0 .0 .0 .1))
-    (r .0 .0 .0 .0 .0 .0 .1)) (r .0 .0 .0 .0 .0 .1)) (r .0 .0 .0 .0 .1)) (r .0 .0 .0 .1)) (r .0 .0 .1)) (r .0 .1)) (r .1))
+    (past 8 (past 7
+    (past 6 (past 5
+    (past 4 (past 3 (past 2 (past 1 (past 0 zero-le (r .0 .0 .0 .0 .0 .0 .0 .0 .1)) (r .0 .0 .0 .0 .0 .0 .0 .1))
+    (r .0 .0 .0 .0 .0 .0 .1)) (r .0 .0 .0 .0 .0 .1)) (r .0 .0 .0 .0 .1)) (r .0 .0 .0 .1)) (r .0 .0 .1)) (r .0 .1))
+    (r .1))
 
 pub kind-of-spec : {M : Type 1} → statement M
 kind-of-spec =
     tie.close
     (tie.spec
-    (λ c. search needs) (λ c. search needs) (λ c. search needs) (λ c. search needs) (λ c. search needs) (λ c. search needs) (λ c. search needs)
+    (λ c. search needs) (λ c. search needs) (λ c. search needs) (λ c. search needs) (λ c. search needs)
+    (λ c. search needs) (λ c. search needs)
     returns-8 returns-9 returns-10)

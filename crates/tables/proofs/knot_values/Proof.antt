@@ -28,7 +28,8 @@ made r given = stored-front (rw (given .2) at r) refl (given .1)
 none : {n : ℕ} {l : List Float} → Given n l → l ≡ filled n (λ i. 𝟎) (replicate 66 𝟎)
 none given =
     made
-    (stored-kept {b = 0} stored-none 𝟎 (omega arith) (λ w low high. rw (given .2) (sym (getD-replicate 66 w 𝟎 𝟎 (omega arith)))))
+    (stored-kept {b = 0} stored-none 𝟎 (omega arith)
+    (λ w low high. rw (given .2) (sym (getD-replicate 66 w 𝟎 𝟎 (omega arith)))))
     given
 
 second-derivatives-requires : tie.Need-second-derivatives-requires
@@ -44,25 +45,32 @@ returns : tie.Need-returns
 returns c = rw (c .enum-told .given .1) (none (c .before .before .pre))
 
 returns-2 : tie.Need-returns-2
-returns-2 c = let k = c .before .before in rw (k .enum-told2 .given .1) (made (c .catmull-rom .ensures) (k .before .before .pre))
+returns-2 c = let k = c .before .before in
+    rw (k .enum-told2 .given .1) (made (c .catmull-rom .ensures) (k .before .before .pre))
 
 returns-3 : tie.Need-returns-3
-returns-3 c = let k = c .before .before in rw (k .enum-told3 .given .1) (made (c .monotone .ensures) (k .before .before .pre))
+returns-3 c = let k = c .before .before in
+    rw (k .enum-told3 .given .1) (made (c .monotone .ensures) (k .before .before .pre))
 
 returns-4 : tie.Need-returns-4
-returns-4 c = let k = c .before .before in rw (k .enum-told4 .given .1) (made (c .monotone2 .ensures) (k .before .before .pre))
+returns-4 c = let k = c .before .before in
+    rw (k .enum-told4 .given .1) (made (c .monotone2 .ensures) (k .before .before .pre))
 
 returns-5 : tie.Need-returns-5
-returns-5 c = let k = c .before .before in rw (k .enum-told5 .given .1) (made (c .second-derivatives .ensures) (k .before .before .pre))
+returns-5 c = let k = c .before .before in
+    rw (k .enum-told5 .given .1) (made (c .second-derivatives .ensures) (k .before .before .pre))
 
 returns-6 : tie.Need-returns-6
-returns-6 c = let k = c .before .before in rw (k .enum-told6 .given .1) (made (c .alpha .ensures) (k .before .before .pre))
+returns-6 c = let k = c .before .before in
+    rw (k .enum-told6 .given .1) (made (c .alpha .ensures) (k .before .before .pre))
 
 returns-7 : tie.Need-returns-7
-returns-7 c = let k = c .before .before in rw (k .enum-told7 .given .1) (made (c .alpha2 .ensures) (k .before .before .pre))
+returns-7 c = let k = c .before .before in
+    rw (k .enum-told7 .given .1) (made (c .alpha2 .ensures) (k .before .before .pre))
 
 returns-8 : tie.Need-returns-8
-returns-8 c = let k = c .before .before .before in rw (k .kind .given .1) (made (c .cardinal .ensures) (k .before .before .pre))
+returns-8 c = let k = c .before .before .before in
+    rw (k .kind .given .1) (made (c .cardinal .ensures) (k .before .before .pre))
 
 returns-9 : tie.Need-returns-9
 returns-9 c =
@@ -74,7 +82,8 @@ returns-9 c =
     rw (k .1) (made (rw (start, end) at (c .second-derivatives2 .ensures)) (b .before .before .pre))
 
 returns-10 : tie.Need-returns-10
-returns-10 c = let k = c .before .before in rw (k .enum-told8 .given .1) (made (c .second-derivatives3 .ensures) (k .before .before .pre))
+returns-10 c = let k = c .before .before in
+    rw (k .enum-told8 .given .1) (made (c .second-derivatives3 .ensures) (k .before .before .pre))
 
 pub knot-values-spec : {M : Type 1} → statement M
 knot-values-spec =
@@ -82,7 +91,8 @@ knot-values-spec =
     (tie.spec
     (omega arith) (omega arith) (omega arith) (omega arith) (omega arith) (omega arith) (omega arith) (omega arith)
     second-derivatives-requires
-    (omega arith) (omega arith) (omega arith) (omega arith) (omega arith) (omega arith) (omega arith) (omega arith) (omega arith)
+    (omega arith) (omega arith) (omega arith) (omega arith) (omega arith) (omega arith) (omega arith) (omega arith)
+    (omega arith)
     second-derivatives-requires-2
     (omega arith)
     second-derivatives-requires-3

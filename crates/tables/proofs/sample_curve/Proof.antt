@@ -40,7 +40,8 @@ module _ (given sorted : Curve) {k : Knots}
 
   table : (kind : CurveInterpolation) (S : ℕ) {form : Form} {ms new : List Float} → form ≡ formOf kind
       → ms ≡ knotValueRow kind (k .xs) (k .ys) (k .count)
-      → new ≡ tabulate S (sampled (heightAt form (k .xs) (k .ys) ms (k .count)) S) → new ≡ fineTable kind (listOf given) S
+      → new ≡ tabulate S (sampled (heightAt form (k .xs) (k .ys) ms (k .count)) S)
+      → new ≡ fineTable kind (listOf given) S
   unfolding sampleOf unclampedAt
   table kind S f m e = rw (f, m, rows .xs, rows .ys, rows .count) at e
 

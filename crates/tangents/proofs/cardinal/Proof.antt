@@ -23,7 +23,8 @@ loop-again c =
     let r = c .before .knot-at2 .ensures in (
       search needs,
       stored-next (b .loop .inv .1)
-          (rw (← b .before .looseness .ensures, ← left .before2 .ensures, ← right .after .ensures, ← l, ← r) (c .loose-slope .ensures)),
+          (rw (← b .before .looseness .ensures, ← left .before2 .ensures, ← right .after .ensures, ← l, ← r)
+          (c .loose-slope .ensures)),
     )
 
 returns : tie.Need-returns Inv-loop μ-loop
@@ -37,6 +38,7 @@ cardinal-spec =
     μ-loop
     (omega arith)
     (λ c. (search needs, stored-none))
-    (omega arith) (omega arith) (omega arith) (omega arith) (omega arith) (omega arith) (omega arith) (omega arith) (omega arith)
+    (omega arith) (omega arith) (omega arith) (omega arith) (omega arith) (omega arith) (omega arith) (omega arith)
+    (omega arith)
     loop-again
     returns)

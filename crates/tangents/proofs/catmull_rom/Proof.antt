@@ -36,6 +36,7 @@ catmull-rom-spec =
     Inv-loop
     μ-loop
     (λ c. (search needs, stored-none))
-    (omega arith) (omega arith) (omega arith) (omega arith) (omega arith) (omega arith) (omega arith) (omega arith) (omega arith)
+    (omega arith) (omega arith) (omega arith) (omega arith) (omega arith) (omega arith) (omega arith) (omega arith)
+    (omega arith)
     loop-again
     returns)

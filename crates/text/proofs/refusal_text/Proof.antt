@@ -15,7 +15,8 @@ pub refusal-text-spec : {M : Type 1} → statement M
 refusal-text-spec =
     tie.close
     (tie.spec
-    (omega arith) (omega arith) (omega arith) (omega arith) (omega arith) (omega arith) (omega arith) (omega arith) (omega arith) (omega arith)
+    (omega arith) (omega arith) (omega arith) (omega arith) (omega arith) (omega arith) (omega arith) (omega arith)
+    (omega arith) (omega arith)
     (omega arith)
     returns
     (omega arith) (omega arith) (omega arith) (omega arith) (omega arith)

@@ -42,7 +42,8 @@ loop-again c =
           (stored-next
           (stored-end
           (stored-next
-          (stored-next (loop .inv .1) (high .high-digit .ensures ∙ sym (place table i 0 (i * 3) (omega arith) (omega arith))))
+          (stored-next (loop .inv .1)
+          (high .high-digit .ensures ∙ sym (place table i 0 (i * 3) (omega arith) (omega arith))))
           (c .before .low-digit .ensures ∙ sym (place table i 1 (i * 3 + 1) (omega arith) (omega arith))))
           (omega arith))
           (c .after .ensures ∙ sym (place table i 2 (i * 3 + 2) (omega arith) (omega arith))))
@@ -59,6 +60,7 @@ pub table-text-spec : {M : Type 1} → statement M
 table-text-spec =
     tie.close
     (tie.spec Inv-loop μ-loop loop-holds
-    (omega arith) (omega arith) (omega arith) (omega arith) (omega arith) (omega arith) (omega arith) (omega arith) (omega arith) (omega arith)
+    (omega arith) (omega arith) (omega arith) (omega arith) (omega arith) (omega arith) (omega arith) (omega arith)
+    (omega arith) (omega arith)
     (omega arith) (omega arith)
     loop-again returns)

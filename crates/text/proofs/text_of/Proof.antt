@@ -55,7 +55,8 @@ two-digits TableLength = lit< tt
 
 -- the text of what is handed back
 module _ (s : List ℕ) (r : RecordRead) (h : ReadRecordCall s r) where
-  read-text : isDone (r .answer) ≡ true → tableText (byteTable (r .set .interpolation) (listOf (r .set .master))) ≡ printed s
+  read-text : isDone (r .answer) ≡ true
+      → tableText (byteTable (r .set .interpolation) (listOf (r .set .master))) ≡ printed s
   unfolding printed
   read-text e = rw (← h .answer, e, ← h .set)
 
@@ -74,12 +75,14 @@ returns c =
     let passed = passed-set (r .result .set) (r .ensures .legal) in
     let few = passed-count (r .result .set .master) (passed .master) in (
       t .0 ∙ ap tableText (b .byte-table .ensures ∙ table-of-few _ _ few)
-          ∙ read-text (read .before .before .args .bytes .now) (read .read-record .result) (read .read-record .ensures) (sym (done .is-done .ensures) ∙ test .if1 .taken),
+          ∙ read-text (read .before .before .args .bytes .now) (read .read-record .result) (read .read-record .ensures)
+          (sym (done .is-done .ensures) ∙ test .if1 .taken),
       t .1,
     )
 
 refusal-text-requires : tie.Need-refusal-text-requires
-refusal-text-requires c κs = rw (c .number .ensures) (two-digits (c .before .before .before .read-record .result .answer))
+refusal-text-requires c κs =
+    rw (c .number .ensures) (two-digits (c .before .before .before .read-record .result .answer))
 
 returns-2 : tie.Need-returns-2
 returns-2 c =
@@ -88,7 +91,8 @@ returns-2 c =
     let done = test .before in
     let read = done .before in (
       t .0 ∙ ap refusalText (c .before .number .ensures)
-          ∙ refused-text (read .before .before .args .bytes .now) (read .read-record .result) (read .read-record .ensures) (sym (done .is-done .ensures) ∙ test .if1 .left),
+          ∙ refused-text (read .before .before .args .bytes .now) (read .read-record .result)
+          (read .read-record .ensures) (sym (done .is-done .ensures) ∙ test .if1 .left),
       t .1,
     )
 

@@ -1,4 +1,5 @@
--- `tone_fine_table`: 3 and 5 first, with the table as it was; the rest is the fine table's own call.
+-- `tone_fine_table`: 3 and 5 first, with the table as it was; the rest is
+-- the fine table's own call.
 use native.Mathlib.Omega.{arith}
 use mathlib.Core.Path.{_≡_, sym, ap, _∙_}
 use mathlib.Core.List.{[], _∷_}
@@ -14,7 +15,8 @@ use Rattle.tone_c.proofs.Passed.{given-points}
 use Rattle.tone_c.proofs.tone_fine_table.Statement.{statement}
 use Rattle.tone_c.proofs.tone_fine_table.Tie as tie
 
-accepted : (c : tie.Else1) → let A = c .before .before .before .before .before .args in firstRefusal (givenChecks (A .points .now) (A .kind)) ≡ Done
+accepted : (c : tie.Else1) → let A = c .before .before .before .before .before .args in
+    firstRefusal (givenChecks (A .points .now) (A .kind)) ≡ Done
 accepted c = sym (c .before .before .check .ensures) ∙ told-done _ (c .before .is-done .ensures) (c .if1 .left)
 
 returns : tie.Need-returns
@@ -23,7 +25,10 @@ returns c =
     let no = told-refused (k .before .check .result) (k .is-done .ensures) (c .before .if1 .taken) in
     let A = k .before .before .before .before .args in
     record {
-      number = c .number .ensures ∙ ap numberOf (first-stops (givenChecks (A .points .now) (A .kind)) (lengthCheck (length (A .table .now)) ∷ []) (k .before .check .ensures) no);
+      number = c .number .ensures
+          ∙ ap numberOf
+          (first-stops (givenChecks (A .points .now) (A .kind)) (lengthCheck (length (A .table .now)) ∷ [])
+          (k .before .check .ensures) no);
       table = rw (c .number .ensures, no);
     }
 
@@ -44,11 +49,18 @@ returns-2 c =
       number =
           c .number2 .ensures
           ∙ ap numberOf
-          (first-goes-on (givenChecks (s .args .points .now) (s .args .kind)) (lengthCheck (length (s .args .table .now)) ∷ []) (accepted (p .before))
+          (first-goes-on (givenChecks (s .args .points .now) (s .args .kind))
+          (lengthCheck (length (s .args .table .now)) ∷ []) (accepted (p .before))
           (rw (le-ltb _ _ (p .curve-of .ensures .1)) at (built .answer)));
       table =
           rw (c .number2 .ensures)
-          (built .table ∙ rw (k .kind-of .ensures, p .curve-of .ensures .0, toZ-ofZ (s .fits .start-slope), toZ-ofZ (s .fits .end-slope)));
+          (built .table
+          ∙ rw (
+            k .kind-of .ensures,
+            p .curve-of .ensures .0,
+            toZ-ofZ (s .fits .start-slope),
+            toZ-ofZ (s .fits .end-slope),
+          ));
     }
 
 pub tone-fine-table-spec : {M : Type 1} → statement M

@@ -1,5 +1,5 @@
--- `tone_picture`: the record's refusals and an unknown format first, with the outputs as they were; the rest is the set call, whose set the record's
--- reader has checked.
+-- `tone_picture`: the record's refusals and an unknown format first, with the outputs as they were;
+-- the rest is the set call, whose set the record's reader has checked.
 use native.Mathlib.Omega.{arith}
 use Prim.Native.Nat.{ℕ}
 use mathlib.Core.Path.{_≡_, refl, sym, ap, _∙_}
@@ -77,7 +77,8 @@ answered : (c : tie.After-first-of)
 answered c =
     let A = c .before .before .before .before .before .before .before .before .before .before .args in
     first-then (recordChecks (A .«record» .now)) (formatCheck (A .format) ∷ [])
-    (c .before .before .read-record .ensures .answer ∙ read-answer (A .«record» .now)) (c .before .format-answer .ensures) (c .first-of .ensures)
+    (c .before .before .read-record .ensures .answer ∙ read-answer (A .«record» .now))
+    (c .before .format-answer .ensures) (c .first-of .ensures)
 
 accepted : (c : tie.Else1)
     → let A = c .before .before .before .before .before .before .before .before .before .before .before .before .args in

@@ -24,7 +24,8 @@ returns c =
       number =
           c .number .ensures
           ∙ ap numberOf
-          (first-stops (formatCheck (A .format) ∷ []) (lutChecks (formatOf (A .format)) (A .width) (A .height) (A .step) (length (A .plane .now)))
+          (first-stops (formatCheck (A .format) ∷ [])
+          (lutChecks (formatOf (A .format)) (A .width) (A .height) (A .step) (length (A .plane .now)))
           (k .before .format-answer .ensures) no);
       plane = rw (c .number .ensures, no);
     }

@@ -1,5 +1,5 @@
--- `tone_record_copy`: the record's refusals first, with the output and the length as they were; the rest is the writer, whose set the record's reader
--- has checked.
+-- `tone_record_copy`: the record's refusals first, with the output and the length as they were; the
+-- rest is the writer, whose set the record's reader has checked.
 use native.Mathlib.Omega.{arith}
 use Prim.Native.Nat.{ℕ}
 use mathlib.Core.Path.{_≡_, refl, sym, ap, _∙_}
@@ -28,37 +28,48 @@ record Left (bytes old : List ℕ) (w : Write) : Type 0 where
   length-is : w .length ≡ cond (isDone (w .answer)) (length bytes) 0
   buffer-is : w .buffer ≡ cond (isDone (w .answer)) (bytes ++ drop (length bytes) old) old
 
-left-by : (bytes old : List ℕ) (short : Bool) → ltb (length old) (length bytes) ≡ short → Left bytes old (outcome (cond short OutputTooSmall Done) bytes old)
+left-by : (bytes old : List ℕ) (short : Bool) → ltb (length old) (length bytes) ≡ short
+    → Left bytes old (outcome (cond short OutputTooSmall Done) bytes old)
 left-by bytes old true e = record { answer-is = rw e; length-is = refl; buffer-is = refl }
 left-by bytes old false e = record { answer-is = rw e; length-is = refl; buffer-is = refl }
 
 -- the writer on the set that the reader handed back, said of the record
-left : (stored old : List ℕ) {handed : RecordRead} → ReadRecordCall stored handed → Left (copyOf stored) old (writeRecord (handed .set) old)
+left : (stored old : List ℕ) {handed : RecordRead} → ReadRecordCall stored handed
+    → Left (copyOf stored) old (writeRecord (handed .set) old)
 left stored old {handed} read =
     rw (
       write-passed (handed .set) old (read .legal),
-      ap (λ (set : View). outcome (firstRefusal (roomCheck (length (encode set)) (length old) ∷ [])) (encode set) old) (read .set),
+      ap (λ (set : View). outcome (firstRefusal (roomCheck (length (encode set)) (length old) ∷ [])) (encode set) old)
+          (read .set),
     )
     (left-by (copyOf stored) old (ltb (length old) (length (copyOf stored))) refl)
 
-accepted : (c : tie.Else1) → firstRefusal (recordChecks (c .before .before .before .before .before .args .«record» .now)) ≡ Done
-accepted c = sym (c .before .before .read-record .ensures .answer ∙ read-answer _) ∙ told-done _ (c .before .is-done .ensures) (c .if1 .left)
+accepted : (c : tie.Else1)
+    → firstRefusal (recordChecks (c .before .before .before .before .before .args .«record» .now)) ≡ Done
+accepted c =
+    sym (c .before .before .read-record .ensures .answer ∙ read-answer _)
+    ∙ told-done _ (c .before .is-done .ensures) (c .if1 .left)
 
 copied : (c : tie.After-write-record)
     → let A = c .before .before .before .before .before .before .before .before .args in
     let written = c .write-record .result in
-    Left (copyOf (A .«record» .now)) (A .out .now) (record { answer = written .answer; length = written .length; buffer = c .write-record .last .1 .0 })
+    Left (copyOf (A .«record» .now)) (A .out .now)
+    (record { answer = written .answer; length = written .length; buffer = c .write-record .last .1 .0 })
 copied c =
     let A = c .before .before .before .before .before .before .before .before .args in
     let wrote = c .write-record .ensures in
-    rw (wrote .answer, wrote .length, wrote .buffer) (left (A .«record» .now) (A .out .now) (c .before .before .before .before .before .read-record .ensures))
+    rw (wrote .answer, wrote .length, wrote .buffer)
+    (left (A .«record» .now) (A .out .now) (c .before .before .before .before .before .read-record .ensures))
 
 returns : tie.Need-returns
 returns c =
     let k = c .before .before in
     let no = told-refused (k .before .read-record .result .answer) (k .is-done .ensures) (c .before .if1 .taken) in
     record {
-      number = c .number .ensures ∙ ap numberOf (first-stops (recordChecks (k .before .before .before .before .args .«record» .now)) _ (k .before .read-record .ensures .answer ∙ read-answer _) no);
+      number = c .number .ensures
+          ∙ ap numberOf
+          (first-stops (recordChecks (k .before .before .before .before .args .«record» .now)) _
+          (k .before .read-record .ensures .answer ∙ read-answer _) no);
       out = rw (c .number .ensures, no);
       written = rw (c .number .ensures, no);
     }
@@ -69,7 +80,8 @@ copied-number : (c : tie.After-write-record)
     c .write-record .result .answer ≡ firstRefusal (toneRecordCopyChecks (A .«record» .now) (length (A .out .now)))
 copied-number c =
     let A = c .before .before .before .before .before .before .before .before .args in
-    first-goes-on (recordChecks (A .«record» .now)) (roomCheck (length (copyOf (A .«record» .now))) (length (A .out .now)) ∷ [])
+    first-goes-on (recordChecks (A .«record» .now))
+    (roomCheck (length (copyOf (A .«record» .now))) (length (A .out .now)) ∷ [])
     (accepted (c .before .before .before)) (copied c .answer-is)
 
 returns-2 : tie.Need-returns-2

@@ -1,4 +1,5 @@
--- `tone_record_table`: refused, with the output as it was; else the table of the record's master is written.
+-- `tone_record_table`: refused, with the output as it was; else the table of the
+-- record's master is written.
 use native.Mathlib.Omega.{arith}
 use mathlib.Core.Path.{_≡_, sym, ap, _∙_}
 use mathlib.Core.List.{[], _∷_}
@@ -23,7 +24,8 @@ answered : (c : tie.After-first-of)
 answered c =
     let A = c .before .before .before .before .before .args in
     first-then (recordChecks (A .«record» .now)) (roomCheck 256 (length (A .table .now)) ∷ [])
-    (c .before .before .read-record .ensures .answer ∙ read-answer (A .«record» .now)) (c .before .room-for .ensures) (c .first-of .ensures)
+    (c .before .before .read-record .ensures .answer ∙ read-answer (A .«record» .now)) (c .before .room-for .ensures)
+    (c .first-of .ensures)
 
 -- past the refusal
 accepted : (c : tie.Else1)
@@ -31,14 +33,18 @@ accepted : (c : tie.Else1)
     firstRefusal (roomCheck 256 (length (A .table .now)) ∷ []) ≡ Done
 accepted c =
     let A = c .before .before .before .before .before .before .before .args in
-    done-append (recordChecks (A .«record» .now)) _ (sym (answered (c .before .before)) ∙ told-done _ (c .before .is-done .ensures) (c .if1 .left)) .1
+    done-append (recordChecks (A .«record» .now)) _
+    (sym (answered (c .before .before)) ∙ told-done _ (c .before .is-done .ensures) (c .if1 .left)) .1
 
 returns : tie.Need-returns
 returns c =
     let k = c .before .before in
     record {
       number = c .number .ensures ∙ ap numberOf (answered (k .before));
-      table = rw (c .number .ensures, told-refused (k .before .first-of .result) (k .is-done .ensures) (c .before .if1 .taken));
+      table = rw (
+        c .number .ensures,
+        told-refused (k .before .first-of .result) (k .is-done .ensures) (c .before .if1 .taken),
+      );
     }
 
 copy-bytes-requires : tie.Need-copy-bytes-requires
@@ -58,7 +64,10 @@ returns-2 c =
     record {
       number = c .number2 .ensures ∙ ap numberOf (answered (k .before .before));
       table =
-          rw (c .number2 .ensures, told-done (k .before .before .first-of .result) (k .before .is-done .ensures) (k .if1 .left))
+          rw (
+            c .number2 .ensures,
+            told-done (k .before .before .first-of .result) (k .before .is-done .ensures) (k .if1 .left),
+          )
           (rw (long, b .byte-table .ensures ∙ few ∙ master) at (t .copy-bytes .ensures));
     }
 

@@ -25,7 +25,8 @@ answered c =
 -- past the refusal
 accepted : (c : tie.Else1)
     → let A = c .before .before .before .before .before .before .before .args in
-    (firstRefusal (givenChecks (A .points .now) (A .kind)) ≡ Done) × (firstRefusal (roomCheck 256 (length (A .table .now)) ∷ []) ≡ Done)
+    (firstRefusal (givenChecks (A .points .now) (A .kind)) ≡ Done)
+    × (firstRefusal (roomCheck 256 (length (A .table .now)) ∷ []) ≡ Done)
 accepted c =
     let A = c .before .before .before .before .before .before .before .args in
     done-append (givenChecks (A .points .now) (A .kind)) (roomCheck 256 (length (A .table .now)) ∷ [])
@@ -36,12 +37,16 @@ returns c =
     let k = c .before .before in
     record {
       number = c .number .ensures ∙ ap numberOf (answered (k .before));
-      table = rw (c .number .ensures, told-refused (k .before .first-of .result) (k .is-done .ensures) (c .before .if1 .taken));
+      table = rw (
+        c .number .ensures,
+        told-refused (k .before .first-of .result) (k .is-done .ensures) (c .before .if1 .taken),
+      );
     }
 
 curve-of-requires : tie.Need-curve-of-requires
 curve-of-requires c κs =
-    let A = c .before .before .before .before .before .before .before .args in given-points (A .points .now) (A .kind) (accepted c .0)
+    let A = c .before .before .before .before .before .before .before .args in
+    given-points (A .points .now) (A .kind) (accepted c .0)
 
 copy-bytes-requires : tie.Need-copy-bytes-requires
 copy-bytes-requires c κs =
@@ -61,8 +66,18 @@ returns-2 c =
     record {
       number = c .number2 .ensures ∙ ap numberOf (answered (k .before .before));
       table =
-          rw (c .number2 .ensures, told-done (k .before .before .first-of .result) (k .before .is-done .ensures) (k .if1 .left))
-          (rw (long, b .byte-table .ensures ∙ few, b .before .kind-of .ensures, b .before .before .curve-of .ensures .0, start, end)
+          rw (
+            c .number2 .ensures,
+            told-done (k .before .before .first-of .result) (k .before .is-done .ensures) (k .if1 .left),
+          )
+          (rw (
+            long,
+            b .byte-table .ensures ∙ few,
+            b .before .kind-of .ensures,
+            b .before .before .curve-of .ensures .0,
+            start,
+            end,
+          )
           at (t .copy-bytes .ensures));
     }
 

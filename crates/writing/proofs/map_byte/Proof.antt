@@ -49,7 +49,8 @@ pub map-byte-spec : {M : Type 1} → statement M
 map-byte-spec =
     tie.close
     (tie.spec
-    (omega arith) (omega arith) (omega arith) (omega arith) (omega arith) (omega arith) (omega arith) (omega arith) (omega arith) (omega arith)
+    (omega arith) (omega arith) (omega arith) (omega arith) (omega arith) (omega arith) (omega arith) (omega arith)
+    (omega arith) (omega arith)
     (omega arith) (omega arith)
     mul-result
     add-result-5

@@ -13,7 +13,8 @@ use Rattle.writing.proofs.record_of.Tie as tie
 
 -- the lengths of the fields, the master's channel among them
 lengths : (m : tie.After-master-field)
-    → (length (fieldBytes (channelOf (m .master-field .result))) ≤ longestField) × FieldLengths (viewOf (m .before .args .set))
+    → (length (fieldBytes (channelOf (m .master-field .result))) ≤ longestField)
+    × FieldLengths (viewOf (m .before .args .set))
 lengths m =
     let f = field-lengths (viewOf (m .before .args .set)) (legal-view (m .before .args .set) (m .before .pre)) in
     (rw (m .master-field .ensures .0) (f .master), f)
@@ -47,7 +48,8 @@ field-requires-4 c κs =
     (passes m .blue, record { room = omega arith })
 
 kind-requires : tie.Need-kind-requires
-kind-requires c κs = let f = lengths (c .before .before .before .before .before .before .before) in record { room = omega arith }
+kind-requires c κs = let f = lengths (c .before .before .before .before .before .before .before) in
+    record { room = omega arith }
 
 carried-requires : tie.Need-carried-requires
 carried-requires c κs =
@@ -69,10 +71,14 @@ returns c =
     let k = c .before in
     let p = k .before .before .before .before .before in
     let m = p .before .before .before in
-    let lists = appended-then (appended-then (appended-then (appended-then (p .push .ensures) (k .before .before .before .before .field .ensures))
+    let lists =
+    appended-then
+    (appended-then
+    (appended-then (appended-then (p .push .ensures) (k .before .before .before .before .field .ensures))
     (k .before .before .before .field2 .ensures)) (k .before .before .field3 .ensures)) (k .before .field4 .ensures) in
     let all = appended-then (appended-then lists (k .kind .ensures)) (c .carried .ensures .0) in (
-      holds (appended-as all (rw (p .before .map-byte .ensures, m .master-field .ensures .0))) (p .before .before .new .ensures)
+      holds (appended-as all (rw (p .before .map-byte .ensures, m .master-field .ensures .0)))
+          (p .before .before .new .ensures)
           (encode-length (viewOf (m .before .args .set)) (legal-view (m .before .args .set) (m .before .pre))),
       c .carried .ensures .1,
     )

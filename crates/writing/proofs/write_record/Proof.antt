@@ -18,11 +18,14 @@ returns c =
     let k = c .before .before in
     let a = k .before .before .args in
     let no = told-refused (k .check .result) (c .before .is-done .ensures) (c .if1 .taken) in
-    wrote-refused (a .set) (a .buffer .now) (k .check .result) (lists-refused (a .set) (a .buffer .now) (k .check .ensures) no) no
+    wrote-refused (a .set) (a .buffer .now) (k .check .result)
+    (lists-refused (a .set) (a .buffer .now) (k .check .ensures) no) no
 
 -- the lists have passed
 passed : (c : tie.Else1) → setAnswer (c .before .before .before .before .args .set) ≡ Done
-passed c = sym (c .before .before .check .ensures) ∙ told-done (c .before .before .check .result) (c .before .is-done .ensures) (c .if1 .left)
+passed c =
+    sym (c .before .before .check .ensures)
+    ∙ told-done (c .before .before .check .result) (c .before .is-done .ensures) (c .if1 .left)
 
 returns-2 : tie.Need-returns-2
 returns-2 c =
@@ -58,7 +61,8 @@ returns-3 c =
       green = search (own .1 .1 .0 .1 .1 .1 .0, length-told);
       blue = search (own .1 .1 .1 .0 .1 .1 .1 .0, length-told);
     } in
-    wrote-done (a .set) (a .buffer .now) (passed k) (r .record-of .ensures .0) (accepted e) (fits e) (c .before .before .copy-out .ensures)
+    wrote-done (a .set) (a .buffer .now) (passed k) (r .record-of .ensures .0) (accepted e) (fits e)
+    (c .before .before .copy-out .ensures)
     (record { full = full; kind = r .record-of .ensures .1 })
 
 pub write-record-spec : {M : Type 1} → statement M

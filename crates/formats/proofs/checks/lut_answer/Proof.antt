@@ -29,7 +29,8 @@ returns-2 : tie.Need-returns-2
 unfolding lutAnswer
 returns-2 c =
     let k = c .before in
-    rw (← k .before .before .too-large .ensures, k .before .if1 .left, ← k .bytes-a-pixel .ensures) (c .plane-answer .ensures)
+    rw (← k .before .before .too-large .ensures, k .before .if1 .left, ← k .bytes-a-pixel .ensures)
+    (c .plane-answer .ensures)
 
 pub lut-answer-spec : {M : Type 1} → statement M
 lut-answer-spec =

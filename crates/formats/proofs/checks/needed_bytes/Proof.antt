@@ -20,10 +20,12 @@ small : (h step : ℕ) → h ≤ 4096 → step ≤ 32768 → (h - 1) * step ≤ 
 small h step low narrow = mul-bound (h - 1) step 4096 32768 (omega arith) narrow
 
 mul-result : tie.Need-mul-result
-mul-result c = omega (arith, small (c .before .before .args .h) (c .before .before .args .step) (omega arith) (omega arith))
+mul-result c =
+    omega (arith, small (c .before .before .args .h) (c .before .before .args .step) (omega arith) (omega arith))
 
 add-result : tie.Need-add-result
-add-result c = omega (arith, small (c .before .before .args .h) (c .before .before .args .step) (omega arith) (omega arith))
+add-result c =
+    omega (arith, small (c .before .before .args .h) (c .before .before .args .step) (omega arith) (omega arith))
 
 returns-3 : tie.Need-returns-3
 unfolding needed

@@ -16,7 +16,8 @@ returns c =
     let cr = roomCheck (A .held .cr) (A .held .«out_cr») in
     rw (eq-eqb _ 3 (sym (k .planes-read .ensures) ∙ chroma .before .before .if1 .taken))
     (first-then (roomCheck (A .size) (A .held .out) ∷ []) (cb ∷ cr ∷ []) (k .before .room-for .ensures)
-    (first-then (cb ∷ []) (cr ∷ []) (chroma .before .room-for2 .ensures) (chroma .room-for3 .ensures) (c .before .first-of .ensures))
+    (first-then (cb ∷ []) (cr ∷ []) (chroma .before .room-for2 .ensures) (chroma .room-for3 .ensures)
+    (c .before .first-of .ensures))
     (c .first-of2 .ensures))
 
 returns-2 : tie.Need-returns-2
@@ -26,4 +27,5 @@ returns-2 c =
 pub output-answer-spec : {M : Type 1} → statement M
 output-answer-spec =
     tie.close
-    (tie.spec (search needs) (search needs) (search needs) (search needs) (search needs) (search needs) returns returns-2)
+    (tie.spec (search needs) (search needs) (search needs) (search needs) (search needs) (search needs) returns
+    returns-2)

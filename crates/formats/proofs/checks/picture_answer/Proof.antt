@@ -58,7 +58,11 @@ plane-answer-requires c κs = small c .high
 mul-output-answer : tie.Need-mul-output-answer
 mul-output-answer c =
     let s = small (c .before) in
-    omega (arith, mul-bound (c .before .before .before .before .before .before .before .args .h) _ 4096 (4096 * 4) (s .high) (s .row))
+    omega (
+      arith,
+      mul-bound (c .before .before .before .before .before .before .before .args .h) _ 4096 (4096 * 4) (s .high)
+          (s .row),
+    )
 
 returns-4 : tie.Need-returns-4
 unfolding pictureAnswer
@@ -77,7 +81,8 @@ returns-4 c =
       le-ltb _ _ (k .if3 .left),
       read,
     )
-    (first-then (planeChecks (A .w) (A .h) row (A .step) (A .held .plane)) (outputChecks (A .format) (A .h * row) (A .held))
+    (first-then (planeChecks (A .w) (A .h) row (A .step) (A .held .plane))
+    (outputChecks (A .format) (A .h * row) (A .held))
     (rw p-is at (plane .plane-answer .ensures)) (rw p-is at (c .before .output-answer .ensures)) (c .first-of .ensures))
 
 pub picture-answer-spec : {M : Type 1} → statement M

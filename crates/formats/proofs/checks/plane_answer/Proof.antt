@@ -12,17 +12,28 @@ returns c = rw (← c .before .wrong-step .ensures, c .if1 .taken)
 needed-bytes-requires : tie.Need-needed-bytes-requires
 needed-bytes-requires c κs =
     let A = c .before .before .args in
-    let q = steps (A .row) (A .step) (sym (c .before .wrong-step .ensures) ∙ c .if1 .left) in (c .before .before .pre, q .0, q .1)
+    let q = steps (A .row) (A .step) (sym (c .before .wrong-step .ensures) ∙ c .if1 .left) in
+    (c .before .before .pre, q .0, q .1)
 
 returns-2 : tie.Need-returns-2
 returns-2 c =
     let k = c .before in
-    rw (← k .before .before .wrong-step .ensures, k .before .if1 .left, ← k .needed-bytes .ensures, lt-ltb _ _ (c .if2 .taken))
+    rw (
+      ← k .before .before .wrong-step .ensures,
+      k .before .if1 .left,
+      ← k .needed-bytes .ensures,
+      lt-ltb _ _ (c .if2 .taken),
+    )
 
 returns-3 : tie.Need-returns-3
 returns-3 c =
     let k = c .before in
-    rw (← k .before .before .wrong-step .ensures, k .before .if1 .left, ← k .needed-bytes .ensures, le-ltb _ _ (c .if2 .left))
+    rw (
+      ← k .before .before .wrong-step .ensures,
+      k .before .if1 .left,
+      ← k .needed-bytes .ensures,
+      le-ltb _ _ (c .if2 .left),
+    )
 
 pub plane-answer-spec : {M : Type 1} → statement M
 plane-answer-spec = tie.close (tie.spec (search needs) returns needed-bytes-requires returns-2 returns-3)

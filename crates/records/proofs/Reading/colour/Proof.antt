@@ -18,18 +18,23 @@ returns c =
     let d = b .before .before .before .is-done in
     let a = b .before .before .before .before .before .args in
     let k = a .colour in
-    let stands : b .has-bit .result ≡ bit (colourBit k) (a .map) = rw (b .before .colour-bit .ensures .0) at (b .has-bit .ensures) in
+    let stands : b .has-bit .result ≡ bit (colourBit k) (a .map) =
+    rw (b .before .colour-bit .ensures .0) at (b .has-bit .ensures) in
     let channel : Channel = record { present = b .has-bit .result; curve = f .result .curve } in
     member-read (a .s .now) (a .self) (d .result) (d .ensures) (readField (bit (colourBit k) (a .map)) 0)
-    (λ l v. withColour k (colourList (bit (colourBit k) (a .map)) l) v) (f .result .answer) (f .result .next) (c .with-channel .result)
+    (λ l v. withColour k (colourList (bit (colourBit k) (a .map)) l) v) (f .result .answer) (f .result .next)
+    (c .with-channel .result)
     (listOf (f .result .curve)) (b .before .before .if1 .taken) (rw stands at (f .ensures .list))
     (ap viewOf (c .with-channel .ensures) ∙ colour-replaced k channel (a .self .set) ∙ rw stands)
-    (λ passes. rw (c .with-channel .ensures) (colour-passes k channel (a .self .set) (channel-passes channel (f .ensures .legal)) passes))
+    (λ passes.
+    rw (c .with-channel .ensures)
+    (colour-passes k channel (a .self .set) (channel-passes channel (f .ensures .legal)) passes))
 
 returns-2 : tie.Need-returns-2
 returns-2 c =
     let a = c .before .before .before .args in
-    refusal-stays (a .s .now) (a .self) (c .before .is-done .result) (c .before .is-done .ensures) (colourStep (a .colour) (a .map)) (c .if1 .left)
+    refusal-stays (a .s .now) (a .self) (c .before .is-done .result) (c .before .is-done .ensures)
+    (colourStep (a .colour) (a .map)) (c .if1 .left)
 
 pub colour-spec : {M : Type 1} → statement M
 colour-spec =

@@ -14,14 +14,17 @@ returns c =
     let b = c .before .before .before in
     let d = b .before .is-done in
     let a = b .before .before .before .args in
-    member-read (a .s .now) (a .self) (d .result) (d .ensures) (readKind (a .unnamed) (a .map)) withKind (f .result .answer) (f .result .next)
-    (c .with-interpolation .result) (f .result .kind) (b .if1 .taken) (f .ensures) (ap viewOf (c .with-interpolation .ensures))
+    member-read (a .s .now) (a .self) (d .result) (d .ensures) (readKind (a .unnamed) (a .map)) withKind
+    (f .result .answer) (f .result .next)
+    (c .with-interpolation .result) (f .result .kind) (b .if1 .taken) (f .ensures)
+    (ap viewOf (c .with-interpolation .ensures))
     (λ passes. rw (c .with-interpolation .ensures) (kind-passes (f .result .kind) (a .self .set) passes))
 
 returns-2 : tie.Need-returns-2
 returns-2 c =
     let a = c .before .before .before .args in
-    refusal-stays (a .s .now) (a .self) (c .before .is-done .result) (c .before .is-done .ensures) (kindStep (a .unnamed) (a .map)) (c .if1 .left)
+    refusal-stays (a .s .now) (a .self) (c .before .is-done .result) (c .before .is-done .ensures)
+    (kindStep (a .unnamed) (a .map)) (c .if1 .left)
 
 pub kind-spec : {M : Type 1} → statement M
 kind-spec = tie.close (tie.spec (omega arith) (omega arith) (omega arith) returns returns-2)

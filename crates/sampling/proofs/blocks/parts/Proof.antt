@@ -23,7 +23,8 @@ module _ (piece : Piece) (s : Float) (v : ℕ) where
   first : {x t : Float} → x ≡ sampleAt s v → t ≡ part (piece .a) (piece .b) x → t ≡ partFrom piece s v 0
   first e f = one 0 (rw add-zero e) f
 
-  all : {t t₁ t₂ t₃ : Float} → t ≡ partFrom piece s v 0 → t₁ ≡ partFrom piece s v 1 → t₂ ≡ partFrom piece s v 2 → t₃ ≡ partFrom piece s v 3
+  all : {t t₁ t₂ t₃ : Float} → t ≡ partFrom piece s v 0 → t₁ ≡ partFrom piece s v 1 → t₂ ≡ partFrom piece s v 2
+      → t₃ ≡ partFrom piece s v 3
       → _≡_ {A = List Float} (t ∷ t₁ ∷ t₂ ∷ t₃ ∷ []) (partsOf piece s v)
   unfolding partsOf tabulate
   all e f g h = λ i. e i ∷ f i ∷ g i ∷ h i ∷ []
@@ -37,8 +38,10 @@ returns c =
     let e = d .before .before in
     let f = e .before .before in
     rw (← f .before .before .piece-at .ensures)
-    (all _ _ _ (first _ _ _ (f .before .position .ensures) (f .part .ensures)) (one _ _ _ 1 (e .before .position2 .ensures) (e .part2 .ensures))
-    (one _ _ _ 2 (d .before .position3 .ensures) (d .part3 .ensures)) (one _ _ _ 3 (c .before .position4 .ensures) (c .part4 .ensures)))
+    (all _ _ _ (first _ _ _ (f .before .position .ensures) (f .part .ensures))
+    (one _ _ _ 1 (e .before .position2 .ensures) (e .part2 .ensures))
+    (one _ _ _ 2 (d .before .position3 .ensures) (d .part3 .ensures))
+    (one _ _ _ 3 (c .before .position4 .ensures) (c .part4 .ensures)))
 
 pub parts-spec : {M : Type 1} → statement M
 parts-spec =

@@ -9,7 +9,8 @@ use Rattle.sampling.proofs.cubics.four.Statement.{statement}
 use Rattle.sampling.proofs.cubics.four.Tie as tie
 
 abbrev Inv-loop : tie.InvT-loop
-Inv-loop piece v samples₀ t j₀ samples j = (j ≤ 4) × Stored (fromParts (cubicSample piece) t v) v (v + j) samples₀ samples
+Inv-loop piece v samples₀ t j₀ samples j =
+    (j ≤ 4) × Stored (fromParts (cubicSample piece) t v) v (v + j) samples₀ samples
 
 abbrev μ-loop : tie.MeasureT-loop
 μ-loop piece v samples₀ t j₀ samples j = 4 - j

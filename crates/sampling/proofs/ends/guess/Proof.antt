@@ -1,4 +1,5 @@
--- `ends::guess`: the loop stores the rule's element at each place, and all stay right as long as each is.
+-- `ends::guess`: the loop stores the rule's element at each place, and all stay
+-- right as long as each is.
 use mathlib.Core.Path.{_≡_, refl, sym, ap, _∙_}
 use mathlib.Core.Bool.{Bool, true, false, not, _&&_, true≢false}
 use mathlib.Core.List.{List}
@@ -34,8 +35,10 @@ right-start xs s {t} e h = record {
   end = λ k low. absurd (omega arith);
 }
 
-right-next : (xs : List Float) (s : Float) (i : ℕ) {e : ℕ} {r a t : Bool} → (r ≡ true → RightTo xs s i) → e ≡ endAt xs s i
-    → a ≡ isEnd (at xs (i + 1)) s e → t ≡ tooThin (at xs (i + 1)) (at xs (i + 2)) → (r && a && not t) ≡ true → RightTo xs s (i + 1)
+right-next : (xs : List Float) (s : Float) (i : ℕ) {e : ℕ} {r a t : Bool} → (r ≡ true → RightTo xs s i)
+    → e ≡ endAt xs s i
+    → a ≡ isEnd (at xs (i + 1)) s e → t ≡ tooThin (at xs (i + 1)) (at xs (i + 2)) → (r && a && not t) ≡ true
+    → RightTo xs s (i + 1)
 right-next xs s i {r = r} {a} {t} before end is-end is-thin h =
     let last = both-true (r && a) (not t) h in
     let first = both-true r a (last .0) in
@@ -55,7 +58,8 @@ index-most : (x : Float) {k : ℕ} → k ≡ floorOf x → k ≤ 4094
 index-most x e = rw e (floor-small x)
 
 abbrev Inv-loop : tie.InvT-loop
-Inv-loop xs n step ends₀ right₀ i₀ ends right i = (i + 2 ≤ n) × Stored (endAt xs step) 0 i ends₀ ends × (right ≡ true → RightTo xs step i)
+Inv-loop xs n step ends₀ right₀ i₀ ends right i =
+    (i + 2 ≤ n) × Stored (endAt xs step) 0 i ends₀ ends × (right ≡ true → RightTo xs step i)
 
 abbrev μ-loop : tie.MeasureT-loop
 μ-loop xs n step ends₀ right₀ i₀ ends right i = n - i

@@ -35,6 +35,7 @@ coefficients-spec =
     Inv-loop
     μ-loop
     (λ c. (search needs, stored-none, stored-none))
-    (omega arith) (omega arith) (omega arith) (omega arith) (omega arith) (omega arith) (omega arith) (omega arith) (omega arith) (omega arith)
+    (omega arith) (omega arith) (omega arith) (omega arith) (omega arith) (omega arith) (omega arith) (omega arith)
+    (omega arith) (omega arith)
     loop-again
     returns)

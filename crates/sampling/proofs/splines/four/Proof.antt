@@ -9,7 +9,8 @@ use Rattle.sampling.proofs.splines.four.Statement.{statement}
 use Rattle.sampling.proofs.splines.four.Tie as tie
 
 abbrev Inv-loop : tie.InvT-loop
-Inv-loop a c1 c2 c3 step v samples₀ j₀ samples j = (j ≤ 4) × Stored (splineSample a c1 c2 c3 step) v (v + j) samples₀ samples
+Inv-loop a c1 c2 c3 step v samples₀ j₀ samples j =
+    (j ≤ 4) × Stored (splineSample a c1 c2 c3 step) v (v + j) samples₀ samples
 
 abbrev μ-loop : tie.MeasureT-loop
 μ-loop a c1 c2 c3 step v samples₀ j₀ samples j = 4 - j

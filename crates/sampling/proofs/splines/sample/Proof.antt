@@ -8,7 +8,8 @@ use Rattle.sampling.proofs.splines.sample.Tie as tie
 
 returns : tie.Need-returns
 unfolding splineSample
-returns c = rw (← c .before .before .position .ensures) (c .clamp .ensures ∙ ap clamped (c .before .polynomial-from .ensures))
+returns c =
+    rw (← c .before .before .position .ensures) (c .clamp .ensures ∙ ap clamped (c .before .polynomial-from .ensures))
 
 pub sample-spec : {M : Type 1} → statement M
 sample-spec = tie.close (tie.spec (omega arith) (omega arith) (omega arith) returns)

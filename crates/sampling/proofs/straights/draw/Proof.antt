@@ -4,12 +4,23 @@ use native.Mathlib.Omega.{arith}
 use lib.ListN.{length}
 use Rattle.sampling.specs.declared.Form.the-variants.{Straight}
 use Rattle.sampling.proofs.Walk.{start}
-use Rattle.sampling.proofs.Drawing.{left, first-cursor, on-rows, wide-piece, next-cursor, block-room, straight-sample, ByParts, by-parts-next}
+use Rattle.sampling.proofs.Drawing.{
+  left,
+  first-cursor,
+  on-rows,
+  wide-piece,
+  next-cursor,
+  block-room,
+  straight-sample,
+  ByParts,
+  by-parts-next,
+}
 use Rattle.sampling.proofs.straights.draw.Statement.{statement}
 use Rattle.sampling.proofs.straights.draw.Tie as tie
 
 abbrev Inv-loop : tie.InvT-loop
-Inv-loop xs ys ms n ends step samples₀ count p₀ t₀ samples p t = ByParts Straight xs ys ms n ends step (length samples₀) p t samples
+Inv-loop xs ys ms n ends step samples₀ count p₀ t₀ samples p t =
+    ByParts Straight xs ys ms n ends step (length samples₀) p t samples
 
 abbrev μ-loop : tie.MeasureT-loop
 μ-loop xs ys ms n ends step samples₀ count p₀ t₀ samples p t = left n p
@@ -20,7 +31,8 @@ loop-again c =
     let piece = drawn .before .before in
     let parts = piece .before in
     let next = parts .before in
-    by-parts-next (next .before .before .before .loop .inv) straight-sample (omega arith) (next .next .ensures) (parts .parts2 .ensures)
+    by-parts-next (next .before .before .before .loop .inv) straight-sample (omega arith) (next .next .ensures)
+    (parts .parts2 .ensures)
     (piece .piece-at .ensures) (drawn .four .ensures)
 
 pub draw-spec : {M : Type 1} → statement M
@@ -30,12 +42,15 @@ draw-spec =
     Inv-loop
     μ-loop
     (λ c κs. wide-piece (first-cursor (c .before .pre)))
-    (λ c. let given = c .before .before .pre in record { cursor = first-cursor given; state = start _ _ _ _ _ _ refl (given .two); parts = c .parts .ensures })
+    (λ c. let given = c .before .before .pre in
+    record { cursor = first-cursor given; state = start _ _ _ _ _ _ refl (given .two); parts = c .parts .ensures })
     (omega arith)
     (λ c κs. on-rows (c .before .before .loop .inv .cursor))
-    (λ c κs. wide-piece (next-cursor (c .before .before .before .loop .inv .cursor) (omega arith) (c .next .ensures) .0))
+    (λ c κs. wide-piece
+    (next-cursor (c .before .before .before .loop .inv .cursor) (omega arith) (c .next .ensures) .0))
     (λ c κs. on-rows (c .before .before .before .before .loop .inv .cursor) .1)
-    (λ c κs. let inv = c .before .before .before .before .before .before .loop .inv in block-room (inv .cursor) (inv .state) (omega arith))
+    (λ c κs. let inv = c .before .before .before .before .before .before .loop .inv in
+    block-room (inv .cursor) (inv .state) (omega arith))
     (λ c.
     let next = c .before .before .before .before .before .before in
     next-cursor (next .before .before .before .loop .inv .cursor) (omega arith) (next .next .ensures) .1)

@@ -7,7 +7,8 @@ use Rattle.single.proofs.root.falling.Statement.{statement}
 use Rattle.single.proofs.root.falling.Tie as tie
 
 mul-result : tie.Need-mul-result
-mul-result c = let h : c .args .d ≤ 2 ^ 24 = omega arith in fits-below {n = 2 ^ 24 * 2 ^ 23} tt (mul-le-mul h (le-of-lt (c .pre .2)))
+mul-result c = let h : c .args .d ≤ 2 ^ 24 = omega arith in
+    fits-below {n = 2 ^ 24 * 2 ^ 23} tt (mul-le-mul h (le-of-lt (c .pre .2)))
 
 sub-result : tie.Need-sub-result
 sub-result c = omega (arith, mul-le-mul-left (c .args .d) (le-of-lt (c .pre .2)))

@@ -1,4 +1,5 @@
--- `guess` meets its contract, which is its range: every product is bounded by the most that its factors can be.
+-- `guess` meets its contract, which is its range: every product is bounded by the most
+-- that its factors can be.
 use Prim.Native.Nat.{ℕ, _+_, _-_, _*_, _/_, _^_, _≤_}
 use native.Mathlib.Nat.{le-trans, le-of-lt, sub-le, mul-le-mul}
 use native.Mathlib.Omega.{arith}
@@ -7,7 +8,8 @@ use mir.Facts.{fits-below}
 use Rattle.single.proofs.root.guess.Statement.{statement}
 use Rattle.single.proofs.root.guess.Tie as tie
 
--- what is divided to s, and s; what is divided to the inverse, and the inverse; the numerator of the step
+-- what is divided to s, and s; what is divided to the inverse, and the inverse;
+-- the numerator of the step
 abbrev Product : tie.After-inverse-root → ℕ
 Product c = c .before .args .a * (32768 + 13573 * c .before .args .odd) * c .inverse-root .result
 
@@ -21,7 +23,8 @@ abbrev Step : tie.After-inverse-root → ℕ
 Step c = (c .before .args .m - S c * S c) * (Scaled c / 32768)
 
 first-most : (c : tie.After-inverse-root) → c .before .args .a * (32768 + 13573 * c .before .args .odd) ≤ 2 ^ 24 * 46341
-first-most c = let h : 32768 + 13573 * c .before .args .odd ≤ 46341 = omega arith in mul-le-mul (le-of-lt (c .before .pre .1)) h
+first-most c = let h : 32768 + 13573 * c .before .args .odd ≤ 46341 = omega arith in
+    mul-le-mul (le-of-lt (c .before .pre .1)) h
 
 product-most : (c : tie.After-inverse-root) → Product c ≤ 2 ^ 24 * 46341 * (3 * 2 ^ 22)
 product-most c = mul-le-mul (first-most c) (le-of-lt (c .inverse-root .ensures))
@@ -39,7 +42,8 @@ scaled-most c =
 
 step-most : (c : tie.After-inverse-root) → Step c ≤ 2 ^ 48 * 49152
 step-most c =
-    mul-le-mul (le-trans (sub-le (c .before .args .m) (S c * S c)) (le-of-lt (c .before .pre .3))) (go (Scaled c) (scaled-most c))
+    mul-le-mul (le-trans (sub-le (c .before .args .m) (S c * S c)) (le-of-lt (c .before .pre .3)))
+    (go (Scaled c) (scaled-most c))
   where
     go : (x : ℕ) → x ≤ 49152 * 32768 → x / 32768 ≤ 49152
     go x h = omega arith
@@ -72,7 +76,9 @@ add-result c = fits-below {n = 2 ^ 48 * 49152 + 274877906944} tt (go (Step (c .b
     go w h = omega arith
 
 add-result-2 : tie.Need-add-result-2
-add-result-2 c = fits-below {n = 2 ^ 26} tt (sum-most (S (c .before)) (Step (c .before)) (s-most (c .before)) (step-most (c .before)))
+add-result-2 c =
+    fits-below {n = 2 ^ 26} tt
+    (sum-most (S (c .before)) (Step (c .before)) (s-most (c .before)) (step-most (c .before)))
 
 returns-2 : tie.Need-returns-2
 returns-2 c = sum-most (S (c .before)) (Step (c .before)) (s-most (c .before)) (step-most (c .before))

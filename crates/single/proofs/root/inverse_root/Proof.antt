@@ -1,4 +1,5 @@
--- `inverse_root` meets its contract, which is its range: the three lines are at most their first values.
+-- `inverse_root` meets its contract, which is its range: the three lines are at
+-- most their first values.
 use Prim.Native.Nat.{ℕ, _*_, _/_, _^_, _≤_, _<_}
 use native.Mathlib.Nat.{le-of-lt, mul-le-mul}
 use native.Mathlib.Omega.{arith}

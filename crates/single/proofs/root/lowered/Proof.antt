@@ -1,4 +1,5 @@
--- `lowered` meets its contract. That r is not too small stays: where the test holds, m is at most r * r - r, which is (r - 1) * (r - 1) + (r - 1).
+-- `lowered` meets its contract. That r is not too small stays: where the test holds, m is at most r
+-- * r - r, which is (r - 1) * (r - 1) + (r - 1).
 use mathlib.Core.Path.{_≡_, subst}
 use Prim.Native.Nat.{ℕ, zero, suc, _+_, _-_, _*_, _^_, _≤_, _<_}
 use native.Mathlib.Nat.{mul-le-mul}

@@ -1,7 +1,16 @@
--- `missing_digits` meets its contract: t has j + 1 digits, of 23 at most, and z zeros before them, of 32 places; so z - 8 more make 24.
+-- `missing_digits` meets its contract: t has j + 1 digits, of 23 at most, and z zeros before them,
+-- of 32 places; so z - 8 more make 24.
 use mathlib.Core.Path.{_≡_, sym, _∙_, ap}
 use Prim.Native.Nat.{ℕ, suc, _+_, _-_, _*_, _^_, _≤_, _<_}
-use native.Mathlib.Nat.{le-trans, le-of-eq, lt-of-lt-of-le, not-le-of-lt, lt-of-not-le, mul-le-mul-right, mul-lt-mul-of-pos-right}
+use native.Mathlib.Nat.{
+  le-trans,
+  le-of-eq,
+  lt-of-lt-of-le,
+  not-le-of-lt,
+  lt-of-not-le,
+  mul-le-mul-right,
+  mul-lt-mul-of-pos-right,
+}
 use native.Mathlib.Omega.{arith}
 use lib.Pow.{pow-pos, pow-add, pow-mono}
 use lib.Count.{leadingZeros, leading-top}
@@ -17,7 +26,8 @@ lifted t z j e a b l =
     let g : j < 23 = at-most t j a l in (
       omega arith,
       le-trans (le-of-eq (ap (λ (x : ℕ). 2 ^ x) (low g) ∙ pow-add 2 j (z - 8))) (mul-le-mul-right (2 ^ (z - 8)) a),
-      lt-of-lt-of-le (mul-lt-mul-of-pos-right b (pow-pos (z - 8))) (le-of-eq (sym (pow-add 2 (suc j) (z - 8)) ∙ ap (λ (x : ℕ). 2 ^ x) (high g))),
+      lt-of-lt-of-le (mul-lt-mul-of-pos-right b (pow-pos (z - 8)))
+          (le-of-eq (sym (pow-add 2 (suc j) (z - 8)) ∙ ap (λ (x : ℕ). 2 ^ x) (high g))),
       omega arith,
     )
   where
@@ -28,7 +38,8 @@ lifted t z j e a b l =
     high g = omega arith
 
 all : (t : ℕ) → 0 < t → t < 2 ^ 23
-    → (8 ≤ leadingZeros 32 t) × (2 ^ 23 ≤ t * 2 ^ (leadingZeros 32 t - 8)) × (t * 2 ^ (leadingZeros 32 t - 8) < 2 ^ 24) × (leadingZeros 32 t - 8 ≤ 24)
+    → (8 ≤ leadingZeros 32 t) × (2 ^ 23 ≤ t * 2 ^ (leadingZeros 32 t - 8)) × (t * 2 ^ (leadingZeros 32 t - 8) < 2 ^ 24)
+    × (leadingZeros 32 t - 8 ≤ 24)
 all t p l = let h = leading-top 32 t p (omega arith) in lifted t (leadingZeros 32 t) (h .0) (h .1) (h .2) (h .3) l
 
 sub-result : tie.Need-sub-result

@@ -1,4 +1,5 @@
--- `raised` meets its contract: its last test is what it ensures. What is still too small is below 2 ^ 24, so the way to 2 ^ 26 is a measure.
+-- `raised` meets its contract: its last test is what it ensures. What is still too small is below 2
+-- ^ 24, so the way to 2 ^ 26 is a measure.
 use Prim.Native.Nat.{ℕ, _+_, _-_, _*_, _^_, _≤_, _<_}
 use native.Mathlib.Nat.{lt-of-not-le, mul-le-mul}
 use native.Mathlib.Omega.{arith}

@@ -40,7 +40,8 @@ float-from-bits-result c = no-nan _ (omega (arith, top c))
 returns : tie.Need-returns
 returns c =
     let s = c .before .before .before in
-    root-pattern (s .args .a) (s .args .e) (c .lowered .result) (bounds s) (s .pre .2) (c .lowered .ensures .0) (c .lowered .ensures .1)
+    root-pattern (s .args .a) (s .args .e) (c .lowered .result) (bounds s) (s .pre .2) (c .lowered .ensures .0)
+    (c .lowered .ensures .1)
 
 pub root-of-spec : {M : Type 1} → statement M
 root-of-spec =

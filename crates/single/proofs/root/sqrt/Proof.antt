@@ -6,7 +6,15 @@ use lib.Dec.{T}
 use lib.Ieee.{Float, binary32, fits, toBits, div, ofBits, nan}
 use lib.Ieee.Bits.{ofBits-toBits, toBits-lt}
 use Rattle.single.specs.Root.{rootOf}
-use Rattle.single.proofs.root.Patterns.{not-nan, nan-root, zero-root, own-root, negative-root, subnormal-root, normal-root}
+use Rattle.single.proofs.root.Patterns.{
+  not-nan,
+  nan-root,
+  zero-root,
+  own-root,
+  negative-root,
+  subnormal-root,
+  normal-root,
+}
 use Rattle.single.proofs.root.sqrt.Statement.{statement}
 use Rattle.single.proofs.root.sqrt.Tie as tie
 
@@ -35,7 +43,8 @@ returns-2 c =
     made ∙ negative-root (B s) (c .if3 .taken) (toBits-lt binary32 (s .args .x) (held s)) ∙ ap rootOf (is s)
 
 returns-3 : tie.Need-returns-3
-returns-3 c = let s = c .before .before .before in subst (λ (y : Float). y ≡ rootOf y) (is s) (own-root (B s) (c .before .if2 .taken) (c .if3 .left))
+returns-3 c = let s = c .before .before .before in
+    subst (λ (y : Float). y ≡ rootOf y) (is s) (own-root (B s) (c .before .if2 .taken) (c .if3 .left))
 
 returns-4 : tie.Need-returns-4
 returns-4 c =

@@ -1,4 +1,5 @@
--- `second::ends_recovered`: the unknowns are those of the inner knots, and the ends are recovered from them.
+-- `second::ends_recovered`: the unknowns are those of the inner knots, and the ends
+-- are recovered from them.
 use Prim.Native.Nat.{_-_}
 use native.Mathlib.Omega.{arith}
 use Rattle.lists.specs.Stored.{stored-as}
@@ -18,7 +19,8 @@ returns c =
     let a = u .before .before .args in
     let f = unknown (a .xs .now) (a .ys .now) (a .n) NotAKnot in
     let inside = inner-value f (u .thomas-solve .ensures) (omega arith) in
-    stored-as (framed-row f (u .thomas-solve .ensures) (b .recovered .result) (c .recovered2 .result) (omega arith)) (λ w low high. rw (
+    stored-as (framed-row f (u .thomas-solve .ensures) (b .recovered .result) (c .recovered2 .result) (omega arith))
+    (λ w low high. rw (
       b .recovered .ensures,
       s .before .segment-at .ensures,
       s .segment-at2 .ensures,
@@ -35,7 +37,9 @@ pub ends-recovered-spec : {M : Type 1} → statement M
 ends-recovered-spec =
     tie.close
     (tie.spec
-    (omega arith) (omega arith) (omega arith) (omega arith) (omega arith) (omega arith) (omega arith) (omega arith) (omega arith) (omega arith)
-    (omega arith) (omega arith) (omega arith) (omega arith) (omega arith) (omega arith) (omega arith) (omega arith) (omega arith) (omega arith)
+    (omega arith) (omega arith) (omega arith) (omega arith) (omega arith) (omega arith) (omega arith) (omega arith)
+    (omega arith) (omega arith)
+    (omega arith) (omega arith) (omega arith) (omega arith) (omega arith) (omega arith) (omega arith) (omega arith)
+    (omega arith) (omega arith)
     (omega arith) (omega arith)
     returns)

@@ -13,4 +13,5 @@ returns c =
     framed-row (unknown (a .xs .now) (a .ys .now) (a .n) Natural) (c .thomas-solve .ensures) _ _ (omega arith)
 
 pub natural-spec : {M : Type 1} → statement M
-natural-spec = tie.close (tie.spec (omega arith) (omega arith) (omega arith) (omega arith) (omega arith) (omega arith) returns)
+natural-spec =
+    tie.close (tie.spec (omega arith) (omega arith) (omega arith) (omega arith) (omega arith) (omega arith) returns)

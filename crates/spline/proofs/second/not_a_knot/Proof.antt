@@ -22,7 +22,8 @@ returns-3 : tie.Need-returns-3
 unfolding notAKnotAt
 returns-3 c =
     let b = c .before .before in
-    stored-as (c .ends-recovered .ensures) (λ w low high. rw (le-ltb _ _ (b .before .if1 .left), ne-eqb _ _ (b .if2 .left)))
+    stored-as (c .ends-recovered .ensures)
+    (λ w low high. rw (le-ltb _ _ (b .before .if1 .left), ne-eqb _ _ (b .if2 .left)))
 
 pub not-a-knot-spec : {M : Type 1} → statement M
 not-a-knot-spec =

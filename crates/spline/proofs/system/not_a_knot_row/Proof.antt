@@ -9,22 +9,31 @@ returns : tie.Need-returns
 unfolding rowAt
 returns c =
     let b = c .before .before in
-    rw (eq-eqb _ _ (c .before .if1 .taken), ← b .before .segment-at .ensures, ← b .segment-at2 .ensures) (c .not-a-knot-first .ensures)
+    rw (eq-eqb _ _ (c .before .if1 .taken), ← b .before .segment-at .ensures, ← b .segment-at2 .ensures)
+    (c .not-a-knot-first .ensures)
 
 returns-2 : tie.Need-returns-2
 unfolding rowAt
 returns-2 c =
     let b = c .before .before .before in
-    rw
-    (ne-eqb _ _ (c .before .before .if1 .left), eq-eqb _ _ (c .before .if2 .taken), ← b .before .segment-at .ensures, ← b .segment-at2 .ensures)
+    rw (
+      ne-eqb _ _ (c .before .before .if1 .left),
+      eq-eqb _ _ (c .before .if2 .taken),
+      ← b .before .segment-at .ensures,
+      ← b .segment-at2 .ensures,
+    )
     (c .not-a-knot-last .ensures)
 
 returns-3 : tie.Need-returns-3
 unfolding rowAt
 returns-3 c =
     let b = c .before .before .before in
-    rw
-    (ne-eqb _ _ (c .before .before .if1 .left), ne-eqb _ _ (c .before .if2 .left), ← b .before .segment-at .ensures, ← b .segment-at2 .ensures)
+    rw (
+      ne-eqb _ _ (c .before .before .if1 .left),
+      ne-eqb _ _ (c .before .if2 .left),
+      ← b .before .segment-at .ensures,
+      ← b .segment-at2 .ensures,
+    )
     (c .inner .ensures)
 
 pub not-a-knot-row-spec : {M : Type 1} → statement M

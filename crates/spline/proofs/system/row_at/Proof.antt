@@ -19,7 +19,8 @@ clamped-row-requires c κs =
     (search needs, search needs, rw (c .before .boundary .given .1) at (c .before .before .before .pre .2))
 
 not-a-knot-row-requires : tie.Need-not-a-knot-row-requires
-not-a-knot-row-requires c κs = (search needs, omega (arith, rw (c .enum-told2 .given .1) at (c .before .before .pre .2)))
+not-a-knot-row-requires c κs =
+    (search needs, omega (arith, rw (c .enum-told2 .given .1) at (c .before .before .pre .2)))
 
 returns : tie.Need-returns
 unfolding rowAt

@@ -63,7 +63,8 @@ push-slope-requires-2 c κs =
     let by = j .before .before .before .before in
     let r = by .carried-by .result in
     rw (end-back by)
-    (room-rest (slopeBytes (r .start)) (slopeBytes (r .end)) (both-room j) (rw (start-back by) at (f .push-slope .ensures)))
+    (room-rest (slopeBytes (r .start)) (slopeBytes (r .end)) (both-room j)
+    (rw (start-back by) at (f .push-slope .ensures)))
 
 returns-2 : tie.Need-returns-2
 returns-2 c =
@@ -71,7 +72,9 @@ returns-2 c =
     let j = f .before .before in
     let i = j .before .before in
     let by = i .before .before in
-    let both = appended-then (rw (start-back by) at (f .push-slope .ensures)) (rw (end-back by) at (c .push-slope2 .ensures)) in (
+    let both =
+    appended-then (rw (start-back by) at (f .push-slope .ensures))
+    (rw (end-back by) at (c .push-slope2 .ensures)) in (
       rw (
         tension-test (i .before) (i .if1 .left),
         slopes-test (j .before) (j .if2 .taken),

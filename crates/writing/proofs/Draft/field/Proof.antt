@@ -1,9 +1,18 @@
--- `Draft::field`: the count and the points of a list that is present; nothing else of one that is absent.
+-- `Draft::field`: the count and the points of a list that is present; nothing
+-- else of one that is absent.
 use mathlib.Core.Path.{_≡_}
 use mathlib.Core.List.{[], _∷_}
 use lib.ListN.{length}
 use Rattle.points.specs.Owned.{length-told}
-use Rattle.writing.proofs.Laws.{appended-none, appended-then, appended-as, room-first, room-rest, present-count, present-bytes}
+use Rattle.writing.proofs.Laws.{
+  appended-none,
+  appended-then,
+  appended-as,
+  room-first,
+  room-rest,
+  present-count,
+  present-bytes,
+}
 use borrow.Author.Needs.{needs}
 use Rattle.writing.proofs.Draft.field.Statement.{statement}
 use Rattle.writing.proofs.Draft.field.Tie as tie
@@ -17,15 +26,18 @@ push-requires : tie.Need-push-requires
 push-requires c κs =
     let m = c .before .before .args .channel in
     let long : length (m .curve .points) ≡ 64 = search (needs, length-told) in
-    room-first (m .curve .count ∷ []) _ (rw (← present-bytes m (c .before .if1 .taken) (c .before .before .pre .0) long) at (c .before .before .pre .1))
+    room-first (m .curve .count ∷ []) _
+    (rw (← present-bytes m (c .before .if1 .taken) (c .before .before .pre .0) long) at (c .before .before .pre .1))
 
 pairs-requires : tie.Need-pairs-requires
 pairs-requires c κs =
     let s = c .before .before .before in
     let m = s .args .channel in
     let long : length (m .curve .points) ≡ 64 = search (needs, length-told) in
-    let room = rw (← present-bytes m (c .before .before .if1 .taken) (s .pre .0) long) at (s .pre .1) in
-    (present-count m (c .before .before .if1 .taken) (s .pre .0), room-rest (m .curve .count ∷ []) _ room (c .push .ensures))
+    let room = rw (← present-bytes m (c .before .before .if1 .taken) (s .pre .0) long) at (s .pre .1) in (
+      present-count m (c .before .before .if1 .taken) (s .pre .0),
+      room-rest (m .curve .count ∷ []) _ room (c .push .ensures),
+    )
 
 returns : tie.Need-returns
 returns c =

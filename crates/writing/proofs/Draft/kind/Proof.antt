@@ -6,11 +6,13 @@ use Rattle.writing.proofs.Draft.kind.Tie as tie
 
 push-requires : tie.Need-push-requires
 push-requires c κs =
-    rw (← c .before .before .names-kind .ensures, c .before .if1 .taken, ← c .number .ensures) at (c .before .before .before .pre)
+    rw (← c .before .before .names-kind .ensures, c .before .if1 .taken, ← c .number .ensures) at
+    (c .before .before .before .pre)
 
 returns : tie.Need-returns
 returns c =
-    rw (← c .before .before .before .names-kind .ensures, c .before .before .if1 .taken, ← c .before .number .ensures) (c .push .ensures)
+    rw (← c .before .before .before .names-kind .ensures, c .before .before .if1 .taken, ← c .before .number .ensures)
+    (c .push .ensures)
 
 returns-2 : tie.Need-returns-2
 returns-2 c = rw (← c .before .names-kind .ensures, c .if1 .left) appended-none

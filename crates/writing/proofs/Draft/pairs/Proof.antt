@@ -37,7 +37,9 @@ loop-again c =
     let a = b .before .before .args .t2 in
     let long : length (a .points) ≡ 64 = search (needs, length-told) in
     let n : length (listOf a) ≡ a .count = length-take-le (a .count) (a .points) (omega arith) in
-    let next = rw (getD-take (a .count) (a .points) (b .loop .i) (pt 0 0) (omega arith)) at (pairs-next (listOf a) (b .loop .i) (omega arith)) in (
+    let next =
+    rw (getD-take (a .count) (a .points) (b .loop .i) (pt 0 0) (omega arith)) at
+    (pairs-next (listOf a) (b .loop .i) (omega arith)) in (
       search needs,
       omega arith,
       search needs,
