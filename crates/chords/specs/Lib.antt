@@ -1,1 +1,2 @@
+-- the tangents of CentripetalCatmullRom and ChordalCatmullRom
 pub mod Alpha

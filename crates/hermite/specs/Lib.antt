@@ -1,1 +1,2 @@
+-- the cubic piece between two knots
 pub mod Hermite

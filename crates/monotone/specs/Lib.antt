@@ -1,1 +1,2 @@
+-- the tangents of MonotoneCubic and MonotoneCubicBox
 pub mod Monotone

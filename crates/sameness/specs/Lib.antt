@@ -1,1 +1,2 @@
+-- an answer that decides a proposition
 pub mod Decides

@@ -1,1 +1,2 @@
+-- the tangents of CatmullRom and Cardinal
 pub mod CatmullRom

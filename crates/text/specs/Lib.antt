@@ -1,2 +1,4 @@
+-- what `tonetable` prints
 pub mod Text
+-- texts, computed
 pub mod Examples
