@@ -84,7 +84,7 @@ pub fn spline_piece(a: Knot, b: Knot, ma: f32, mb: f32, x: f32) -> f32
 }
 
 // A slope of a clamped curve, a signed 16-bit number over 256, as a float, in this one place.
-pub fn slope(q: i16) -> f32
+pub fn clamped_slope(q: i16) -> f32
     ensures { λ r. ⌜ r ≡ slopeOf q ⌝ }
 {
     (q as f32) / 256.0

@@ -30,8 +30,8 @@ use answers::first_of;
 use points::Curve;
 use sampling::Form;
 use spline::SplineBoundary;
+use spline::clamped_slope;
 use spline::second::second_derivatives;
-use spline::slope;
 
 // The kinds, in the order of document 01's numbers.
 pub enum CurveInterpolation {
@@ -224,8 +224,8 @@ fn knot_values(
             start_slope_q8,
             end_slope_q8,
         } => {
-            let s0 = slope(start_slope_q8);
-            let s1 = slope(end_slope_q8);
+            let s0 = clamped_slope(start_slope_q8);
+            let s1 = clamped_slope(end_slope_q8);
             second_derivatives(xs, ys, n, SplineBoundary::Clamped { s0, s1 }, row)
         }
         CurveInterpolation::NotAKnotCubic => {

@@ -77,8 +77,10 @@ returns-9 c =
     let e = c .before .before in
     let b = e .before .before .before in
     let k = b .kind2 .given in
-    let start : e .before .slope .result ≡ slopeOf (k .0 .0) = e .before .slope .ensures ∙ ap slopeOf (search needs) in
-    let end : e .slope2 .result ≡ slopeOf (k .0 .1 .0) = e .slope2 .ensures ∙ ap slopeOf (search needs) in
+    let start : e .before .clamped-slope .result ≡ slopeOf (k .0 .0) =
+    e .before .clamped-slope .ensures ∙ ap slopeOf (search needs) in
+    let end : e .clamped-slope2 .result ≡ slopeOf (k .0 .1 .0) =
+    e .clamped-slope2 .ensures ∙ ap slopeOf (search needs) in
     rw (k .1) (made (rw (start, end) at (c .second-derivatives2 .ensures)) (b .before .before .pre))
 
 returns-10 : tie.Need-returns-10
