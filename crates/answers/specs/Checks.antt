@@ -33,6 +33,13 @@ firstRefusal (c ∷ cs) = cond (refuses c) (c .answer) (firstRefusal cs)
 abbrev pub roomCheck : ℕ → ℕ → Check
 roomCheck count held = OutputTooSmall when ltb held count
 
+-- 14: the lengths of a float table, "256 or 4,096"
+abbrev pub tableLength : ℕ
+tableLength = 256
+
+abbrev pub fineTableLength : ℕ
+fineTableLength = 4096
+
 -- ---- one check
 module _ (c : Check) where
   by-answer : (done : Bool) → isDone (c .answer) ≡ done → cond done false (c .fails) ≡ true

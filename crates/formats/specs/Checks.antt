@@ -19,13 +19,20 @@ use Rattle.formats.specs.declared.PixelFormat.{PixelFormat}
 use Rattle.formats.specs.declared.Lengths.{Lengths}
 use Rattle.formats.specs.Formats.{bytesAPixel, planesRead}
 
+-- the limits of 9 and 11
+abbrev pub largestSide : ℕ
+largestSide = 4096
+
+abbrev pub largestStep : ℕ
+largestStep = 32768
+
 -- "Width or height is above 4,096"
 abbrev pub tooLarge : ℕ → ℕ → Bool
-tooLarge w h = ltb 4096 w || ltb 4096 h
+tooLarge w h = ltb largestSide w || ltb largestSide h
 
 -- "row step is below the row bytes or above 32,768"
 abbrev pub wrongStep : ℕ → ℕ → Bool
-wrongStep row step = ltb step row || ltb 32768 step
+wrongStep row step = ltb step row || ltb largestStep step
 
 -- a first plane of len bytes
 abbrev pub planeChecks : ℕ → ℕ → ℕ → ℕ → ℕ → List Check

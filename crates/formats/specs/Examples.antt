@@ -2,7 +2,7 @@
 -- tables alike, so that a slip in one would pass every proof. Each value here is document 01's, of
 -- its sections "Pictures" and "When a call says no": the sentence is quoted above it.
 use mathlib.Core.Path.{_≡_, refl}
-use mathlib.Core.Bool.{Bool, true, false}
+use mathlib.Core.Bool.{true, false}
 use mathlib.Core.List.{List, [], _∷_, _++_}
 use Prim.Native.Nat.{ℕ, _+_}
 use lib.ListN.{length, replicate}
@@ -24,7 +24,6 @@ use Rattle.formats.specs.declared.PixelFormat.the-variants.{
   YuvJ422P,
   YuvJ444P,
 }
-use Rattle.formats.specs.declared.Lengths.{Lengths}
 use Rattle.formats.specs.Formats.{inOrder, lastFormat, formatOf}
 use Rattle.formats.specs.Formats.{bytesAPixel, alphaOf, planesRead, byColour}
 use Rattle.formats.specs.Checks.{lutAnswer, pictureAnswer}

@@ -11,7 +11,7 @@ use Rattle.lists.specs.Tabulate.{tabulate}
 use Rattle.answers.specs.declared.Answer.{Answer}
 use Rattle.answers.specs.declared.Answer.the-variants.{TableLength}
 use Rattle.answers.specs.Numbers.{isDone}
-use Rattle.answers.specs.Checks.{Check, _when_, firstRefusal}
+use Rattle.answers.specs.Checks.{Check, _when_, firstRefusal, fineTableLength}
 use Rattle.floats.specs.Notation.{_⊕_, _⊖_, _⊗_, _⊘_}
 use Rattle.single.specs.Constants.{𝟎, 𝟏, 𝟐𝟓𝟓, 𝟒𝟎𝟗𝟓}
 use Rattle.single.specs.Rules.{float, floorOf}
@@ -43,7 +43,7 @@ indexFrom values at j = floorOf (position (getD values (at + j) nan))
 -- the checks of the lookup in a table of S samples: 14, "A float table's length
 -- isn't .. 4,096 (lookup)"
 abbrev pub lookupChecks : ℕ → List Check
-lookupChecks S = TableLength when not (eqb S 4096) ∷ []
+lookupChecks S = TableLength when not (eqb S fineTableLength) ∷ []
 
 -- the values after the call: "Each lent value is replaced by its result",
 -- unless the table is refused

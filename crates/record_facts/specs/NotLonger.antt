@@ -1,9 +1,8 @@
 -- The writer's record of a set that was read is never longer than the record that was read.
-use Prim.Native.Nat.{ℕ, suc, _≤_}
+use Prim.Native.Nat.{ℕ, _≤_}
 use native.Mathlib.Omega.{arith}
 use mathlib.Core.Path.{_≡_}
 use mathlib.Core.List.{List}
-use mathlib.Core.Bool.{cond}
 use lib.ListN.{length}
 use Rattle.lists.specs.Test.{by-test}
 use Rattle.answers.specs.declared.Answer.the-variants.{Done}

@@ -6,17 +6,16 @@ use native.Mathlib.Omega.{arith}
 use mathlib.Core.Path.{_≡_, refl, sym, ap, _∙_}
 use mathlib.Core.List.{List, [], _∷_, _++_, append-assoc, append-nil}
 use mathlib.Core.Bool.{Bool, true, false, cond, true≢false}
-use mathlib.Core.Option.{Option, none, some}
+use mathlib.Core.Option.{none, some}
 use lib.Dec.{ltb, eqb}
 use lib.IntN.{pos}
-use lib.ListN.{length, getD, drop, length-append}
+use lib.ListN.{length, drop, length-append}
 use lib.Seq.{getD-append-add}
 use borrow.Author.Tests.{ltb-false, le-ltb, eqb-true, eqb-false, not-false}
 use Rattle.lists.specs.Test.{by-test}
-use Rattle.answers.specs.declared.Answer.the-variants.{Done, ReservedBit}
+use Rattle.answers.specs.declared.Answer.the-variants.{Done}
 use Rattle.answers.specs.Numbers.{isDone}
 use Rattle.points.specs.declared.Point.{Point}
-use Rattle.points.specs.Points.{pt}
 use Rattle.tables.specs.declared.CurveInterpolation.{CurveInterpolation}
 use Rattle.tables.specs.declared.Carried.{Carried}
 use Rattle.tables.specs.Kinds.{kindNumber, lastKind, carriesTension, carriesSlopes, kindBits}
@@ -58,7 +57,6 @@ use Rattle.writing.specs.Encode.{
   pairBytes,
   fieldBytes,
   masterField,
-  unsigned16,
   slopeBytes,
   carriedBytes,
   oneIf,

@@ -7,10 +7,8 @@ use Prim.Native.Nat.{ℕ}
 use lib.IntN.{ℤ, pos}
 use Rattle.answers.specs.Numbers.{numberOf}
 use Rattle.answers.specs.Checks.{firstRefusal}
-use Rattle.points.specs.declared.Curve.{Curve}
 use Rattle.points.specs.Points.{straightCurve}
 use Rattle.sampling.specs.declared.Form.the-variants.{Straight, Cubic, Spline}
-use Rattle.tables.specs.declared.CurveInterpolation.{CurveInterpolation}
 use Rattle.tables.specs.declared.CurveInterpolation.the-variants.{
   Linear,
   CatmullRom,

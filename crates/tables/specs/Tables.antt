@@ -11,7 +11,7 @@ use Rattle.lists.specs.Tabulate.{tabulate}
 use Rattle.answers.specs.declared.Answer.{Answer}
 use Rattle.answers.specs.declared.Answer.the-variants.{TableLength}
 use Rattle.answers.specs.Numbers.{isDone}
-use Rattle.answers.specs.Checks.{Check, _when_, firstRefusal}
+use Rattle.answers.specs.Checks.{Check, _when_, firstRefusal, tableLength, fineTableLength}
 use Rattle.single.specs.Rules.{byteOf}
 use Rattle.points.specs.declared.Point.{Point}
 use Rattle.points.specs.declared.Curve.{Curve}
@@ -56,7 +56,7 @@ byteTable kind l = tabulate 256 (entryOf kind l)
 -- ---- the calls
 -- the lengths of a fine table
 abbrev pub isTableLength : ℕ → Bool
-isTableLength S = eqb S 256 || eqb S 4096
+isTableLength S = eqb S tableLength || eqb S fineTableLength
 
 -- 14: "A float table's length isn't 256 or 4,096 (build)"
 abbrev pub lengthCheck : ℕ → Check

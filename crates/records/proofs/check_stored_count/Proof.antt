@@ -1,5 +1,4 @@
 -- `check_stored_count`: a count below the least is refused with 3 whatever its size.
-use mathlib.Core.Path.{refl}
 use native.Mathlib.Omega.{arith}
 use lib.Dec.{ltb}
 use borrow.Author.Tests.{lt-ltb, le-ltb}

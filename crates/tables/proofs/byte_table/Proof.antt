@@ -1,6 +1,6 @@
 -- `tables::byte_table`: refused, or the bytes of the 256 samples of the fine table.
 use native.Mathlib.Omega.{arith}
-use mathlib.Core.Path.{sym, ap, _∙_}
+use mathlib.Core.Path.{ap, _∙_}
 use lib.Ieee.{nan}
 use Rattle.lists.specs.Tabulate.{getD-tabulate, tabulate-same}
 use Rattle.answers.specs.Numbers.{told-refused, told-done}

@@ -29,7 +29,6 @@ use Rattle.tables.specs.Tables.{byteTable}
 use Rattle.tables.specs.TableLaws.{table-of-few}
 use Rattle.sets.specs.Legal.{passed-set, passed-count}
 use Rattle.records.specs.declared.RecordRead.{RecordRead}
-use Rattle.records.specs.Format.{readRecord}
 use Rattle.records.specs.Views.{ReadRecordCall}
 use Rattle.text.specs.Text.{tableText, refusalText, printed}
 use Rattle.text.proofs.text_of.Statement.{statement}

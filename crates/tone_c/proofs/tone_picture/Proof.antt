@@ -12,7 +12,6 @@ use Rattle.answers.specs.Checks.{Check, firstRefusal, first-then, first-stops, 
 use Rattle.lists.specs.Test.{by-test}
 use Rattle.sets.specs.Sets.{curveChecks, setChecks, setAnswer}
 use Rattle.records.specs.declared.RecordRead.{RecordRead}
-use Rattle.records.specs.Format.{readRecord}
 use Rattle.records.specs.Checks.{recordChecks}
 use Rattle.records.specs.CheckLaws.{read-answer}
 use Rattle.records.specs.Views.{ReadRecordCall}

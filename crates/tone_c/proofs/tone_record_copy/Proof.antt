@@ -12,7 +12,6 @@ use Rattle.answers.specs.Numbers.{numberOf, isDone, told-refused, told-done}
 use Rattle.answers.specs.Checks.{firstRefusal, roomCheck, first-stops, first-goes-on}
 use Rattle.sets.specs.Sets.{View}
 use Rattle.records.specs.declared.RecordRead.{RecordRead}
-use Rattle.records.specs.Format.{readRecord}
 use Rattle.records.specs.Views.{ReadRecordCall}
 use Rattle.records.specs.Checks.{recordChecks}
 use Rattle.records.specs.CheckLaws.{read-answer}
