@@ -103,21 +103,24 @@ fn own_table(present: bool, curve: Curve, kind: CurveInterpolation) -> [u8; 256]
 
 // Tones the first plane of an accepted run: by colour, each by its own table or else the
 // master's; or all by the master.
-fn tone_first(job: Job, plane: &[u8], step: usize, out: &mut [u8])
-    requires { ⌜ (setAnswer (job .set) ≡ Done) × Supported (job .format) ⌝ }
-    requires { ⌜
-        Rows (job .width) (job .height) (job .width * bytesAPixel (job .format)) step
-        (length (now plane))
-        ⌝ }
-    requires { ⌜ job .height * (job .width * bytesAPixel (job .format)) ≤ length (now out) ⌝ }
+fn tone_first(
+    set: Curves,
+    format: PixelFormat,
+    plane: &[u8],
+    step: usize,
+    w: usize,
+    h: usize,
+    out: &mut [u8],
+)
+    requires { ⌜ (setAnswer set ≡ Done) × Supported format ⌝ }
+    requires { ⌜ Rows w h (w * bytesAPixel format) step (length (now plane)) ⌝ }
+    requires { ⌜ h * (w * bytesAPixel format) ≤ length (now out) ⌝ }
     ensures { λ _. ⌜
         now (out .exit)
-        ≡ tightRows (job .format) (job .width) (job .height) step
-        (tablesOf (job .format) (viewOf (job .set))) (now (plane .entry)) (now (out .entry))
+        ≡ tightRows format w h step (tablesOf format (viewOf set)) (now (plane .entry))
+        (now (out .entry))
         ⌝ }
 {
-    let set = job.set;
-    let format = job.format;
     let kind = set.interpolation;
     let by_colour = format.by_colour();
     let red = by_colour & set.red.present;
@@ -130,8 +133,8 @@ fn tone_first(job: Job, plane: &[u8], step: usize, out: &mut [u8])
     tone_rows_into(
         plane,
         step,
-        job.width as usize,
-        job.height as usize,
+        w,
+        h,
         format.bytes_a_pixel(),
         chosen_table(red, &red_table, &master_table),
         chosen_table(green, &green_table, &master_table),
@@ -193,7 +196,7 @@ pub fn apply_pixels<'a, 'x, 'y, 'z>(
     if !answer.is_done() {
         return Toned::refused(answer);
     }
-    tone_first(job, plane, step, out);
+    tone_first(set, format, plane, step, w, h, out);
     let row = w * format.bytes_a_pixel();
     if format.planes_read() == 3 {
         copy_bytes(cb, out_cb);

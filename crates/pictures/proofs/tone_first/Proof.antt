@@ -10,8 +10,8 @@ use Rattle.pictures.proofs.tone_first.Statement.{statement}
 use Rattle.pictures.proofs.tone_first.Tie as tie
 
 -- the set's lists have passed
-passed : (c : tie.After-by-colour) → Passed (c .before .before .before .before .args .job .set)
-passed c = passed-set _ (c .before .before .before .before .pre .0 .0)
+passed : (c : tie.After-by-colour) → Passed (c .before .before .before .args .set)
+passed c = passed-set _ (c .before .before .before .pre .0 .0)
 
 own-table-requires : tie.Need-own-table-requires
 own-table-requires c κs = let by = c .before .before .before .before in
@@ -28,10 +28,9 @@ own-table-requires-3 c κs = let by = c .before .before .before .before .before 
 tone-rows-into-requires : tie.Need-tone-rows-into-requires
 tone-rows-into-requires c κs =
     let k = c .before .before .before .before .before .before .before .before .before .before in
-    let own-blue = k .before .before .before in
-    let start = own-blue .before .before .before .before .before .before .before .before .before .before .before in
+    let start = k .before .before .before .before .before .before .before .before .before .before .before in
     rw (k .bytes-a-pixel .ensures)
-    (tight (start .args .job .format) (start .pre .0 .1) .0, start .pre .1 .0, start .pre .1 .1)
+    (tight (start .args .format) (start .pre .0 .1) .0, start .pre .1 .0, start .pre .1 .1)
 
 returns : tie.Need-returns
 returns c =
@@ -40,16 +39,16 @@ returns c =
     let green = blue .before .before .before in
     let red = green .before .before .before in
     let k = red .before .before .before in
-    let own-blue = k .before .before .before in
+    let own-blue = k .before in
     let own-green = own-blue .before in
     let own-red = own-green .before in
     let master = own-red .before in
     let by = master .before .before .before .before in
-    let start = by .before .before .before .before in
-    let set = start .args .job .set in
+    let start = by .before .before .before in
+    let set = start .args .set in
     let few = passed-count _ (passed by .master) in
     let built = master .byte-table .ensures ∙ table-of-few _ _ few in
-    tight-rows-by (start .args .job .format) (viewOf set) _ _ _ _ _ (start .pre .0 .1) (by .by-colour .ensures)
+    tight-rows-by (start .args .format) (viewOf set) _ _ _ _ _ (start .pre .0 .1) (by .by-colour .ensures)
     (k .bytes-a-pixel .ensures)
     (chosen-is _ (set .red) _ built (by .by-colour .result) (own-red .own-table .ensures) (red .chosen-table .ensures))
     (chosen-is _ (set .green) _ built (by .by-colour .result) (own-green .own-table2 .ensures)
@@ -66,7 +65,7 @@ tone-first-spec =
     own-table-requires
     own-table-requires-2
     own-table-requires-3
-    (omega arith) (omega arith) (omega arith) (omega arith) (omega arith) (omega arith)
+    (omega arith) (omega arith) (omega arith) (omega arith)
     tone-rows-into-requires
     (omega arith)
     returns)
