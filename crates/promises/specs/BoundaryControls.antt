@@ -22,7 +22,6 @@ use Rattle.tables.specs.Kinds.{carriedOf}
 use Rattle.rows.specs.Rows.{needed}
 use Rattle.formats.specs.Formats.{formatOf, bytesAPixel}
 use Rattle.records.specs.declared.RecordRead.{RecordRead}
-use Rattle.records.specs.Format.{readRecord}
 use Rattle.records.specs.Views.{ReadRecordCall}
 use Rattle.pictures.specs.Runs.{Run, InTypes, first, chroma}
 use Rattle.pictures.specs.Examples.{answered}

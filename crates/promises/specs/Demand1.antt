@@ -27,7 +27,6 @@ use Rattle.lookup.specs.Lookup.{lookupChecks, lookedUp, LookupCall}
 use Rattle.sets.specs.declared.Curves.{Curves}
 use Rattle.sets.specs.Sets.{viewOf, emptyView, curveChecks, setChecks, setAnswer}
 use Rattle.records.specs.declared.RecordRead.{RecordRead}
-use Rattle.records.specs.Format.{readRecord}
 use Rattle.records.specs.Checks.{recordChecks}
 use Rattle.records.specs.CheckLaws.{read-answer, read-empty}
 use Rattle.records.specs.Views.{ReadRecordCall}

@@ -29,11 +29,19 @@ use Rattle.promises.specs.Words.{
   AlikeInChroma,
   WriteTheSame,
 }
-use Rattle.promises.specs.PictureFacts as Fact
+use Rattle.promises.specs.PictureFacts.{as-defined, alpha-and-chroma}
+use Rattle.promises.specs.TonedFacts.{
+  has-line,
+  toned-nearest,
+  through-point,
+  by-input-alone,
+  in-order,
+}
+use Rattle.promises.specs.RowFacts.{same-bytes, alike-but-padding}
 
 -- "each gives exactly the picture they define."
 pub exact : (a : Call) → Accepted a → ExactPicture a
-exact = Fact.as-defined
+exact = as-defined
 
 -- "If the kind is Linear, no list in the set has a point lower than the one before it,
 -- and no toned input byte of A is above B's at the same place, then no toned output byte
@@ -43,30 +51,30 @@ pub order : (a b : Call) → Share a b → Accepted a → Accepted b → IsLinea
     → ((p : Place) → TonedAt (a .given) p → input a p ≤ input b p)
     → (p : Place) → TonedAt (a .given) p → output a p ≤ output b p
 order a b share a-ok b-ok linear rising below p toned =
-    Fact.in-order a b share a-ok b-ok linear rising p toned (below p toned)
+    in-order a b share a-ok b-ok linear rising p toned (below p toned)
 
 -- "Under Linear each toned output byte is the whole number nearest the exact broken line of the
 -- list that tones it, at its input byte; at an exact half it is one of the two nearest."
 pub near : (a : Call) → Accepted a → IsLinear (a .given) → (p : Place) → TonedAt (a .given) p
     → (n d : ℕ) → OnLine (listThatTones (a .given) p) (input a p) n d → Nearest n d (output a p)
-near = Fact.toned-nearest
+near = toned-nearest
 
 -- where that line is there, and has one height, in every run
 pub line : (a : Call) (p : Place) → HasLine (listThatTones (a .given) p) (input a p)
-line = Fact.line
+line = has-line
 
 -- "Under any kind but the three splines, a toned byte equal to the x of a point in the list that
 -- tones it comes out as that point's y."
 pub through-points : (a : Call) → Accepted a → (IsSpline (kindIn (a .given)) → ⊥) → (p : Place)
     → TonedAt (a .given) p
     → (q : Point) → List·Memᴰ q (listThatTones (a .given) p) → input a p ≡ q .x → output a p ≡ q .y
-through-points = Fact.through-point
+through-points = through-point
 
 -- "Runs alike in their rows and chroma write the same bytes, whatever the padding holds and
 -- whatever the row steps are."
 pub rows-alone : (a b : Call) → Share a b → Accepted a → Accepted b → AlikeInRows a b
     → AlikeInChroma a b → WriteTheSame a b
-rows-alone = Fact.same-bytes
+rows-alone = same-bytes
 
 -- where planes of one row step that differ in their padding alone are alike in their rows
 pub padding-apart : (a b : Call) → Share a b → Accepted a
@@ -74,11 +82,11 @@ pub padding-apart : (a b : Call) → Share a b → Accepted a
     → ((k : ℕ) → (IsPadding (a .given) k → ⊥)
     → getD (a .given .lent .plane .bytes) k 0 ≡ getD (b .given .lent .plane .bytes) k 0)
     → AlikeInRows a b
-padding-apart = Fact.alike-but-padding
+padding-apart = alike-but-padding
 
 -- "Alpha and chroma come out as they went in."
 pub passed-through : (a : Call) → Accepted a → PassedThrough a
-passed-through = Fact.alpha-and-chroma
+passed-through = alpha-and-chroma
 
 -- "Dithering would break this order and has no part in the work": a toned output byte is a matter
 -- of the kind, the list that tones it and its input byte alone. a and b may be one run, at two
@@ -88,4 +96,4 @@ pub no-dithering : (a b : Call) → Accepted a → Accepted b → kindIn (a .giv
     → TonedAt (a .given) p → TonedAt (b .given) q
     → listThatTones (a .given) p ≡ listThatTones (b .given) q
     → input a p ≡ input b q → output a p ≡ output b q
-no-dithering = Fact.by-input-alone
+no-dithering = by-input-alone

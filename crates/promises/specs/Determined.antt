@@ -35,7 +35,7 @@ use Rattle.promises.specs.Words.{
   WriteTheSame,
 }
 use Rattle.promises.specs.Results.{at, ExactPlane}
-use Rattle.promises.specs.PictureFacts.{split-index, place-of}
+use Rattle.promises.specs.PlaceFacts.{split-index, place-of}
 
 -- ---- a chroma output
 pub one-copy : (plane before a b : List ℕ) → Copied plane before a → Copied plane before b → a ≡ b

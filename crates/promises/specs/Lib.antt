@@ -12,13 +12,23 @@
 -- in Pixels; the first on kinds, lists, rows and chroma, the other on what runs share and refusals.
 -- BoundaryControls: the same of the C boundary's words.
 -- P1 to P12 are a table of their own, Marked of the crate `examples`.
--- Proofs of the second demand: Drawn, ResultFacts; of the third: ListFacts, PictureFacts.
+-- Proofs of the second demand: Drawn, ResultFacts. Of the third, in this order: PlaceFacts, the
+-- places of a picture; ListFacts, the list that tones a byte; RunFacts, what a run that is not
+-- refused has at each place; ChromaFacts, its chroma outputs; PictureFacts, its whole picture;
+-- ShareFacts, what two runs have in common; TonedFacts and RowFacts, the clauses on toned bytes and
+-- on rows alone.
 pub mod Checks
 pub mod Demand1
 pub mod Boundary
 pub mod Words
+pub mod PlaceFacts
 pub mod ListFacts
+pub mod RunFacts
+pub mod ChromaFacts
 pub mod PictureFacts
+pub mod ShareFacts
+pub mod TonedFacts
+pub mod RowFacts
 pub mod Results
 pub mod Drawn
 pub mod ResultFacts
