@@ -1,6 +1,5 @@
--- The chroma outputs of a run that is not refused: for YUV each plane is copied whole and its step
--- handed back, and the chroma outputs of other formats stay. Two runs alike in chroma write the
--- same of it.
+-- The chroma outputs of a run that is not refused: for YUV each plane is copied whole, and the
+-- chroma outputs of other formats stay. Two runs alike in chroma write the same of it.
 use Prim.Native.Nat.{ℕ, _+_, _-_, _≤_}
 use native.Mathlib.Omega.{arith}
 use mathlib.Core.Path.{_≡_, sym, _∙_}
@@ -9,7 +8,7 @@ use mathlib.Core.List.{List, _++_}
 use lib.ListN.{length, getD, take, drop, length-append, length-drop}
 use lib.Seq.{take-append-seam, getD-append-add, getD-drop}
 use Rattle.lists.specs.Test.{by-test}
-use Rattle.pictures.specs.Runs.{PlaneOf, hasChroma, chroma, stepOf}
+use Rattle.pictures.specs.Runs.{PlaneOf, hasChroma, chroma}
 use Rattle.promises.specs.Words.{Call, Accepted, Share, IsYuv, Copied, writtenChroma}
 use Rattle.promises.specs.RunFacts.{not-refused}
 
@@ -21,11 +20,11 @@ front-rest l m k h =
     ∙ rw past at (getD-drop (length l) m (k - length l) 0)
 
 module _ (c : Call) (ok : Accepted c) where
-  pub chroma-copied : (plane : PlaneOf) (before after : List ℕ) → IsYuv (c .given)
+  pub chroma-copied : (plane : PlaneOf) {before after : List ℕ} → IsYuv (c .given)
       → after ≡ chroma (c .given) plane before
       → length (plane .bytes) ≤ length before → Copied (plane .bytes) before after
   unfolding chroma
-  chroma-copied plane before after yuv e room =
+  chroma-copied plane {before} {after} yuv e room =
       let n = length (plane .bytes) in
       let is : after ≡ plane .bytes ++ drop n before = rw (not-refused c ok, yuv) at e in
       record {
@@ -34,24 +33,20 @@ module _ (c : Call) (ok : Accepted c) where
         long = rw is (simp (length-append, length-drop) (omega arith));
       }
 
-  pub chroma-stays : (plane : PlaneOf) (before after : List ℕ) → (IsYuv (c .given) → ⊥)
+  pub chroma-stays : (plane : PlaneOf) {before after : List ℕ} → (IsYuv (c .given) → ⊥)
       → after ≡ chroma (c .given) plane before → after ≡ before
   unfolding chroma
-  chroma-stays plane before after other e =
+  chroma-stays plane other e =
       by-test (hasChroma (c .given)) (λ t. absurd (other t)) (λ t. rw (not-refused c ok, t) at e)
-
-  pub chroma-step : (plane : PlaneOf) (step : ℕ) → IsYuv (c .given) → step ≡ stepOf (c .given) plane
-      → step ≡ plane .step
-  chroma-step plane step yuv e = rw (not-refused c ok, yuv) at e
 
 -- ---- two runs
 module _ (a b : Call) (share : Share a b) where
-  pub same-chroma : (a-plane b-plane a-out b-out : List ℕ)
+  pub same-chroma : {a-plane b-plane : List ℕ} (a-out b-out : List ℕ)
       → (IsYuv (a .given) → take (length a-plane) a-out ≡ a-plane)
       → (IsYuv (b .given) → take (length b-plane) b-out ≡ b-plane)
       → (IsYuv (a .given) → a-plane ≡ b-plane)
       → writtenChroma a a-plane a-out ≡ writtenChroma b b-plane b-out
-  same-chroma a-plane b-plane a-out b-out a-whole b-whole alike =
+  same-chroma a-out b-out a-whole b-whole alike =
       let format : hasChroma (a .given) ≡ hasChroma (b .given) = rw (share .format) in
       by-test (hasChroma (a .given))
       (λ t. let u : hasChroma (b .given) ≡ true = sym format ∙ t in

@@ -16,12 +16,14 @@ use Rattle.promises.specs.RunFacts.{
   toned-entry,
   alpha-copied,
 }
-use Rattle.promises.specs.ChromaFacts.{chroma-copied, chroma-stays, chroma-step}
+use Rattle.promises.specs.ChromaFacts.{chroma-copied, chroma-stays}
 
 module _ (c : Call) (ok : Accepted c) where
   pub as-defined : ExactPicture c
   as-defined =
       let is = c .contract in
+      let lent = c .given .lent in
+      let passed = passed-checks c ok in
       record {
         done = is .answer ∙ ok;
         step = rw (not-refused c ok) at (is .step);
@@ -34,20 +36,12 @@ module _ (c : Call) (ok : Accepted c) where
         alpha = alpha-copied c ok;
         past = λ k h.
             rw (out-filled c ok)
-            (getD-filled-rest (size (c .given)) _ (c .given .lent .outputs .first) k 0 h);
+            (getD-filled-rest (size (c .given)) _ (lent .outputs .first) k 0 h);
         long = out-long c ok;
-        cb = λ yuv.
-            chroma-copied c ok (c .given .lent .cb) (c .given .lent .outputs .cb) (c .after .cb) yuv
-            (is .cb) (passed-checks c ok .chroma-room yuv .0);
-        cr = λ yuv.
-            chroma-copied c ok (c .given .lent .cr) (c .given .lent .outputs .cr) (c .after .cr) yuv
-            (is .cr) (passed-checks c ok .chroma-room yuv .1);
-        other-cb = λ other.
-            chroma-stays c ok (c .given .lent .cb) (c .given .lent .outputs .cb) (c .after .cb)
-            other (is .cb);
-        other-cr = λ other.
-            chroma-stays c ok (c .given .lent .cr) (c .given .lent .outputs .cr) (c .after .cr)
-            other (is .cr);
+        cb = λ yuv. chroma-copied c ok (lent .cb) yuv (is .cb) (passed .chroma-room yuv .0);
+        cr = λ yuv. chroma-copied c ok (lent .cr) yuv (is .cr) (passed .chroma-room yuv .1);
+        other-cb = λ other. chroma-stays c ok (lent .cb) other (is .cb);
+        other-cr = λ other. chroma-stays c ok (lent .cr) other (is .cr);
       }
 
   pub alpha-and-chroma : PassedThrough c
@@ -58,8 +52,6 @@ module _ (c : Call) (ok : Accepted c) where
     ];
     cb = λ yuv. as-defined .cb yuv .whole;
     cr = λ yuv. as-defined .cr yuv .whole;
-    cb-step = λ yuv.
-        chroma-step c ok (c .given .lent .cb) (c .answered .«cb_step») yuv (c .contract .cb-step);
-    cr-step = λ yuv.
-        chroma-step c ok (c .given .lent .cr) (c .answered .«cr_step») yuv (c .contract .cr-step);
+    cb-step = λ yuv. rw (not-refused c ok, yuv) at (c .contract .cb-step);
+    cr-step = λ yuv. rw (not-refused c ok, yuv) at (c .contract .cr-step);
   }

@@ -75,17 +75,18 @@ module _ (a b : Call) (share : Share a b) (a-ok : Accepted a) (b-ok : Accepted b
       ∙ sym (getD-take (size (b .given)) (b .after .first) k 0 (omega arith)))
 
   pub same-bytes : AlikeInRows a b → AlikeInChroma a b → WriteTheSame a b
-  same-bytes rows alike = record {
-    out = same-rows rows;
-    cb =
-        same-chroma a b share (a .given .lent .cb .bytes) (b .given .lent .cb .bytes)
-        (a .after .cb) (b .after .cb)
-        (alpha-and-chroma a a-ok .cb) (alpha-and-chroma b b-ok .cb) (alike .cb);
-    cr =
-        same-chroma a b share (a .given .lent .cr .bytes) (b .given .lent .cr .bytes)
-        (a .after .cr) (b .after .cr)
-        (alpha-and-chroma a a-ok .cr) (alpha-and-chroma b b-ok .cr) (alike .cr);
-  }
+  same-bytes rows alike =
+      let a-passed = alpha-and-chroma a a-ok in
+      let b-passed = alpha-and-chroma b b-ok in
+      record {
+        out = same-rows rows;
+        cb =
+            same-chroma a b share (a .after .cb) (b .after .cb)
+            (a-passed .cb) (b-passed .cb) (alike .cb);
+        cr =
+            same-chroma a b share (a .after .cr) (b .after .cr)
+            (a-passed .cr) (b-passed .cr) (alike .cr);
+      }
 
 -- ---- no place is padding
 no-padding : (c : Call) → Accepted c → (p : Place) → Within (c .given) p
