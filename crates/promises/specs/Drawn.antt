@@ -20,7 +20,7 @@ use Rattle.sampling.specs.Pieces.{pieceHeight, heightAt, sampled}
 use Rattle.tables.specs.declared.CurveInterpolation.{CurveInterpolation}
 use Rattle.tables.specs.Kinds.{formOf, knotValueAt, knotValueRow}
 use Rattle.tables.specs.Tables.{unclampedAt, sampleOf}
-use Rattle.promises.specs.Results.{xs, ys, n, x, i, a, b}
+use Rattle.promises.specs.Results.{sampleIn}
 
 -- ---- every list has two knots, and every segment both its ends
 two-knots : (l : List Point) → 1 < length (knots l)
@@ -38,23 +38,33 @@ seek-most xs x (suc k) i =
     by-test (lt (at xs (suc i)) x) (λ t. rw t (omega (arith, seek-most xs x k (suc i))))
     (λ t. rw t (omega arith))
 
+-- the row of the values at the knots has each of them
+value : (kind : CurveInterpolation) (xs ys : List Float) (n k : ℕ) → k < n
+    → at (knotValueRow kind xs ys n) k ≡ knotValueAt kind xs ys n k
+value kind xs ys n k inside =
+    getD-filled n (knotValueAt kind xs ys n) (replicate 66 𝟎) k nan inside
+
 module _ (l : List Point) (S v : ℕ) where
-  right-end : i l S v + 1 < n l
+  right-end : let s = sampleIn l S v in s .segment + 1 < s .count
   unfolding segment
-  right-end = omega (arith, seek-most (xs l) (x l S v) (n l - 2) 0, two-knots (kept l))
+  right-end =
+      let s = sampleIn l S v in
+      omega (arith, seek-most (s .xs) (s .position) (s .count - 2) 0, two-knots (kept l))
 
-  module _ (kind : CurveInterpolation) where
-    value : (k : ℕ) → k < n l
-        → at (knotValueRow kind (xs l) (ys l) (n l)) k ≡ knotValueAt kind (xs l) (ys l) (n l) k
-    value k inside =
-        getD-filled (n l) (knotValueAt kind (xs l) (ys l) (n l)) (replicate 66 𝟎) k nan inside
-
-    pub drawn : sampleOf kind l S v
-        ≡ clamped (pieceHeight (formOf kind) (record {
-          a = a l S v;
-          b = b l S v;
-          p = knotValueAt kind (xs l) (ys l) (n l) (i l S v);
-          q = knotValueAt kind (xs l) (ys l) (n l) (i l S v + 1);
-        }) (x l S v))
-    unfolding sampleOf sampled unclampedAt heightAt
-    drawn = rw (value (i l S v) (omega (arith, right-end)), value (i l S v + 1) right-end)
+  pub drawn : (kind : CurveInterpolation)
+      → let s = sampleIn l S v in
+      let valueAt : ℕ → Float = knotValueAt kind (s .xs) (s .ys) (s .count) in
+      sampleOf kind l S v
+      ≡ clamped (pieceHeight (formOf kind) (record {
+        a = s .left;
+        b = s .right;
+        p = valueAt (s .segment);
+        q = valueAt (s .segment + 1);
+      }) (s .position))
+  unfolding sampleOf sampled unclampedAt heightAt
+  drawn kind =
+      let s = sampleIn l S v in
+      rw (
+        value kind (s .xs) (s .ys) (s .count) (s .segment) (omega (arith, right-end)),
+        value kind (s .xs) (s .ys) (s .count) (s .segment + 1) right-end,
+      )

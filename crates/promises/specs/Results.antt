@@ -21,50 +21,59 @@ use Rattle.formats.specs.declared.PixelFormat.{PixelFormat}
 use Rattle.formats.specs.Formats.{bytesAPixel, alphaOf}
 use Rattle.pictures.specs.OneTable.{tonedWithin}
 
--- ---- sample v of S of the curve of the list l
-module _ (l : List Point) where
-  -- the knots, n of them, as rows of floats
-  abbrev pub xs : List Float
-  xs = xRow (knots (kept l))
+-- ---- a sample of the curve of a list
+-- the list's knots, so many, as rows of floats; and where the sample lies: its x, the segment in
+-- which that is, the knots at the segment's ends, and the part of it left of the sample
+pub record Sample : Type 0 where
+  pub xs : List Float
+  pub ys : List Float
+  pub count : ℕ
+  pub position : Float
+  pub segment : ℕ
+  pub left : Knot
+  pub right : Knot
+  pub part : Float
 
-  abbrev pub ys : List Float
-  ys = yRow (knots (kept l))
+-- sample v of S of the curve of the list l
+abbrev pub sampleIn : List Point → ℕ → ℕ → Sample
+sampleIn l S v =
+    let xs = xRow (knots (kept l)) in
+    let ys = yRow (knots (kept l)) in
+    let n = length (knots (kept l)) in
+    let x = sampleAt (step S) v in
+    let i = segment xs n x in
+    let a = knotAt xs ys i in
+    let b = knotAt xs ys (i + 1) in
+    record {
+      xs = xs;
+      ys = ys;
+      count = n;
+      position = x;
+      segment = i;
+      left = a;
+      right = b;
+      part = part a b x;
+    }
 
-  abbrev pub n : ℕ
-  n = length (knots (kept l))
-
+-- its height, clamped: on the straight piece; on the cubic Hermite piece with the tangents of a
+-- rule; on the piece of the spline with a boundary rule
 module _ (l : List Point) (S v : ℕ) where
-  -- the sample's x, its segment i from the knot a to the knot b, and the part t of the
-  -- segment that lies left of it
-  abbrev pub x : Float
-  x = sampleAt (step S) v
-
-  abbrev pub i : ℕ
-  i = segment (xs l) (n l) x
-
-  abbrev pub a : Knot
-  a = knotAt (xs l) (ys l) i
-
-  abbrev pub b : Knot
-  b = knotAt (xs l) (ys l) (i + 1)
-
-  abbrev pub t : Float
-  t = part a b x
-
-  -- on the straight piece; on the cubic Hermite piece with the tangents of a rule; on the piece of
-  -- the spline with a boundary rule
   abbrev pub straightly : Float
-  straightly = clamped (straight a b t)
+  straightly = let s = sampleIn l S v in clamped (straight (s .left) (s .right) (s .part))
 
   abbrev pub hermiteBy : (List Float → List Float → ℕ → ℕ → Float) → Float
   hermiteBy tangentAt =
-      clamped (hermite a b (tangentAt (xs l) (ys l) (n l) i) (tangentAt (xs l) (ys l) (n l) (i + 1))
-      t)
+      let s = sampleIn l S v in
+      let tangent : ℕ → Float = tangentAt (s .xs) (s .ys) (s .count) in
+      clamped (hermite (s .left) (s .right) (tangent (s .segment)) (tangent (s .segment + 1))
+      (s .part))
 
   abbrev pub splineBy : SplineBoundary → Float
   splineBy edge =
-      clamped (splinePiece a b (secondAt (xs l) (ys l) (n l) edge i)
-      (secondAt (xs l) (ys l) (n l) edge (i + 1)) x)
+      let s = sampleIn l S v in
+      let second : ℕ → Float = secondAt (s .xs) (s .ys) (s .count) edge in
+      clamped (splinePiece (s .left) (s .right) (second (s .segment)) (second (s .segment + 1))
+      (s .position))
 
 -- ---- a plane toned by one table
 -- the index of a byte in a plane: channel j of the pixel in row y and column x
