@@ -98,12 +98,9 @@ module _ (kind : CurveInterpolation) (tension : carriedOf kind .tension < 256) w
   ran = ranOn pixel pixel-types
 
   -- the same pixel by the C call, with a record that is read as this set
-  abbrev IsToned : List ℕ → Type 0
-  IsToned stored = TonePictureCall (askedBy stored) 0 (ran .after)
-
   toned : (stored : List ℕ) → ReadRecordCall stored handed
       → 0 ≡ numberOf (firstRefusal (tonePictureChecks (askedBy stored)))
-      → IsToned stored
+      → TonePictureCall (askedBy stored) 0 (ran .after)
   unfolding answered formatOf first chroma
   toned stored read accepted = record {
     number = accepted;
@@ -117,9 +114,11 @@ module _ (kind : CurveInterpolation) (tension : carriedOf kind .tension < 256) w
     };
   }
 
-  abbrev called : (stored : List ℕ) → IsToned stored → AcceptedCall
-  called stored contract =
-      record { asked = askedBy stored; after = ran .after; contract = contract }
+  abbrev called : (stored : List ℕ) → ReadRecordCall stored handed
+      → 0 ≡ numberOf (firstRefusal (tonePictureChecks (askedBy stored)))
+      → AcceptedCall
+  called stored read accepted =
+      record { asked = askedBy stored; after = ran .after; contract = toned stored read accepted }
 
 -- ---- the default kind left out, and named
 pub two-records-one-set :
@@ -132,11 +131,9 @@ two-records-one-set =
     let full : Full (handed MonotoneCubic byte .set) =
     record { master = refl; red = refl; green = refl; blue = refl } in (
       called MonotoneCubic byte short
-          (toned MonotoneCubic byte short
-          (record { answer = refl; set = refl; legal = refl; full = full }) refl),
+          (record { answer = refl; set = refl; legal = refl; full = full }) refl,
       called MonotoneCubic byte long
-          (toned MonotoneCubic byte long
-          (record { answer = refl; set = refl; legal = refl; full = full }) refl),
+          (record { answer = refl; set = refl; legal = refl; full = full }) refl,
       record { set = refl; format = refl; width = refl; height = refl },
       λ e. omega (arith, ap (λ (l : List ℕ). getD l 0 0) e),
     )
@@ -150,8 +147,7 @@ premises-met =
     let full : Full (handed Linear byte .set) =
     record { master = refl; red = refl; green = refl; blue = refl } in (
       called Linear byte stored
-          (toned Linear byte stored
-          (record { answer = refl; set = refl; legal = refl; full = full }) refl),
+          (record { answer = refl; set = refl; legal = refl; full = full }) refl,
       refl,
       record { master = tt; red = tt; green = tt; blue = tt },
       record {

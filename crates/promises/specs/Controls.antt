@@ -45,7 +45,6 @@ use Rattle.promises.specs.Words.{
   listThatTones,
   IsPadding,
   IsLinear,
-  IsSpline,
   NoListFalls,
   Nearest,
   AlikeInRows,
@@ -53,7 +52,7 @@ use Rattle.promises.specs.Words.{
   WriteTheSame,
 }
 use Rattle.promises.specs.Demand3.{through-points, passed-through}
-use Rattle.promises.specs.ControlsOfWords.{no-splines}
+use Rattle.promises.specs.ControlsOfWords.{linear-is-no-spline}
 use Rattle.promises.specs.Pixels.{
   Toning,
   Strip,
@@ -87,9 +86,6 @@ straightLine = record {
   bytes = ((lit< tt, lit< tt), ((lit< tt, lit< tt), tt));
   tension = lit< tt;
 }
-
-linear-is-no-spline : IsSpline Linear → ⊥
-linear-is-no-spline = no-splines 0 .0
 
 -- ---- "order", with P for its premise on kind and lists
 abbrev OrderUnder : (Run → Type 0) → Type 0
@@ -432,23 +428,21 @@ tinted-the-same Alike cb cr other-cb other-cr alike claim =
     })
     refl refl (λ p w. refl) alike
 
+-- 1 is not 2
+apart : {l m : List ℕ} → l ≡ 1 ∷ [] → m ≡ 2 ∷ [] → l ≡ m → ⊥
+apart one two same = omega (arith, ap (λ (l : List ℕ). getD l 0 0) (sym one ∙ same ∙ two))
+
 pub rows-alone-wants-cb : RowsAloneUnder SameCr → ⊥
 unfolding answered
 rows-alone-wants-cb claim =
-    let same = tinted-the-same SameCr 1 3 2 3 refl claim .cb in
-    let alike : _≡_ {A = List ℕ} (1 ∷ []) (2 ∷ []) =
-    sym (passed-through (ranTinted 1 3) refl .cb refl) ∙ same
-    ∙ passed-through (ranTinted 2 3) refl .cb refl in
-    omega (arith, ap (λ (l : List ℕ). getD l 0 0) alike)
+    apart (passed-through (ranTinted 1 3) refl .cb refl)
+    (passed-through (ranTinted 2 3) refl .cb refl) (tinted-the-same SameCr 1 3 2 3 refl claim .cb)
 
 pub rows-alone-wants-cr : RowsAloneUnder SameCb → ⊥
 unfolding answered
 rows-alone-wants-cr claim =
-    let same = tinted-the-same SameCb 3 1 3 2 refl claim .cr in
-    let alike : _≡_ {A = List ℕ} (1 ∷ []) (2 ∷ []) =
-    sym (passed-through (ranTinted 3 1) refl .cr refl) ∙ same
-    ∙ passed-through (ranTinted 3 2) refl .cr refl in
-    omega (arith, ap (λ (l : List ℕ). getD l 0 0) alike)
+    apart (passed-through (ranTinted 3 1) refl .cr refl)
+    (passed-through (ranTinted 3 2) refl .cr refl) (tinted-the-same SameCb 3 1 3 2 refl claim .cr)
 
 -- it speaks of runs whose padding and row steps differ: rows 5 and 6, one after the other, and with
 -- two bytes of padding between; and of a format without chroma, whatever is in its place

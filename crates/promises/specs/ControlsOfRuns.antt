@@ -8,13 +8,12 @@ use native.Mathlib.Omega.{arith}
 use mathlib.Core.Path.{_≡_, refl, ap}
 use mathlib.Core.List.{List, [], _∷_, List·Memᴰ, List·Memᴰ·head, List·Memᴰ·tail}
 use lib.Dec.{lit<, lit≤}
-use lib.ListN.{getD}
+use lib.ListN.{getD, take}
 use lib.Seq.{getD-take, take-length}
 use Rattle.points.specs.declared.Point.{Point}
 use Rattle.points.specs.Points.{pt, straightCurve}
 use Rattle.points.specs.Knots.{OnLine}
 use Rattle.points.specs.Order.{All, Bytes}
-use Rattle.tables.specs.declared.CurveInterpolation.the-variants.{Linear}
 use Rattle.sets.specs.Same.{Same}
 use Rattle.sets.specs.SameLaws.{same-refl}
 use Rattle.formats.specs.declared.PixelFormat.{PixelFormat}
@@ -39,10 +38,11 @@ use Rattle.promises.specs.Words.{
   PassedThrough,
   AlikeInRows,
   AlikeInChroma,
+  written,
   WriteTheSame,
 }
 use Rattle.promises.specs.Demand3.{exact, through-points}
-use Rattle.promises.specs.ControlsOfWords.{no-splines}
+use Rattle.promises.specs.ControlsOfWords.{linear-is-no-spline}
 use Rattle.promises.specs.Pixels.{own, linear, noBytes, byte-at, ranOn, here}
 
 -- ---- runs
@@ -90,9 +90,6 @@ module _ (master : List Point) (bytes : All Bytes master) (format : PixelFormat)
 
   abbrev ranPixel : Call
   ranPixel = ranOn (pixel master format width height step v) pixel-types
-
-linear-is-no-spline : IsSpline Linear → ⊥
-linear-is-no-spline = no-splines 0 .0
 
 no-list-falls : (format : PixelFormat) (width height step v : ℕ)
     → NoListFalls (pixel straightCurve format width height step v)
@@ -152,6 +149,12 @@ sharing-refuted S b share ok is-linear rising white-in dark order =
 abbrev otherSet : Call
 otherSet = ranPixel zeros zeros-bytes Gray8 1 1 1 255 (lit< tt)
 
+other-set-output : output otherSet here ≡ 0
+unfolding answered
+other-set-output =
+    through-points otherSet refl linear-is-no-spline here (grey-toned zeros 1 255) (pt 255 0)
+    (List·Memᴰ·tail (List·Memᴰ·head refl)) refl
+
 abbrev otherFormat : Call
 otherFormat = ranPixel straightCurve straight-bytes Rgb24 1 1 3 255 (lit< tt)
 
@@ -179,11 +182,7 @@ order-wants-one-set =
     sharing-refuted (λ a b. SameFormat a b × SameWidth a b × SameHeight a b) otherSet
     (refl, refl, refl) refl refl
     (record { master = (lit≤ tt, tt); red = (lit≤ tt, tt); green = tt; blue = tt }) refl
-    (omega (
-      arith,
-      through-points otherSet refl linear-is-no-spline here (grey-toned zeros 1 255) (pt 255 0)
-          (List·Memᴰ·tail (List·Memᴰ·head refl)) refl,
-    ))
+    (omega (arith, other-set-output))
 
 pub order-wants-one-format : OrderSharing (λ a b. SameSet a b × SameWidth a b × SameHeight a b) → ⊥
 unfolding answered
@@ -276,26 +275,31 @@ abbrev RowsAlone : Asked → Asked → Type 0
 RowsAlone A B =
     (a b : Call) → Share a b → A a → B b → AlikeInRows a b → AlikeInChroma a b → WriteTheSame a b
 
--- 255 is not 9
-written-apart : WriteTheSame white (refused 255 (lit< tt)) → ⊥
-written-apart same =
+-- white is alike in its rows to every run with 255 in, and 255 is not at most 9
+white-alike : (b : Call) → input b here ≡ 255 → AlikeInRows white b
+white-alike b white-in p w =
+    let toned : TonedAt (white .given) p =
+    record { within = w; not-alpha = λ e. omega (arith, e, w .channel) } in
+    rw (only-here straightCurve 1 255 p toned, white-in)
+
+written-apart : (out : List ℕ) → getD out 0 0 ≤ 9 → written white ≡ take 1 out → ⊥
+written-apart out dark same =
     omega (
       arith,
-      ap (λ (l : List ℕ). getD l 0 0) (same .out),
+      ap (λ (l : List ℕ). getD l 0 0) same,
       getD-take 1 (white .after .first) 0 0 (lit< tt),
-      getD-take 1 (refused 255 (lit< tt) .after .first) 0 0 (lit< tt),
+      getD-take 1 out 0 0 (lit< tt),
       white-output,
-      refused-output 255 (lit< tt),
+      dark,
     )
 
 pub rows-alone-wants-accepted : RowsAlone Accepted anything → ⊥
 unfolding answered
 rows-alone-wants-accepted claim =
-    written-apart
-    (claim white (refused 255 (lit< tt)) (shares 1 0 255 255 (lit< tt) (lit< tt)) refl tt
-    (λ p w. rw (only-here straightCurve 1 255 p
-    (record { within = w; not-alpha = λ e. omega (arith, e, w .channel) })))
-    (record { cb = λ yuv. refl; cr = λ yuv. refl }))
+    let b = refused 255 (lit< tt) in
+    written-apart (b .after .first) (omega (arith, refused-output 255 (lit< tt)))
+    (claim white b (shares 1 0 255 255 (lit< tt) (lit< tt)) refl tt (white-alike b refl)
+    (record { cb = λ yuv. refl; cr = λ yuv. refl }) .out)
 
 pub rows-alone-wants-one-set :
     ((a b : Call) → SameFormat a b × SameWidth a b × SameHeight a b → Accepted a → Accepted b
@@ -303,19 +307,9 @@ pub rows-alone-wants-one-set :
     → ⊥
 unfolding answered
 rows-alone-wants-one-set claim =
-    let same = claim white otherSet (refl, refl, refl) refl refl
-    (λ p w. rw (only-here straightCurve 1 255 p
-    (record { within = w; not-alpha = λ e. omega (arith, e, w .channel) })))
-    (record { cb = λ yuv. refl; cr = λ yuv. refl }) .out in
-    omega (
-      arith,
-      ap (λ (l : List ℕ). getD l 0 0) same,
-      getD-take 1 (white .after .first) 0 0 (lit< tt),
-      getD-take 1 (otherSet .after .first) 0 0 (lit< tt),
-      white-output,
-      through-points otherSet refl linear-is-no-spline here (grey-toned zeros 1 255) (pt 255 0)
-          (List·Memᴰ·tail (List·Memᴰ·head refl)) refl,
-    )
+    written-apart (otherSet .after .first) (omega (arith, other-set-output))
+    (claim white otherSet (refl, refl, refl) refl refl (white-alike otherSet refl)
+    (record { cb = λ yuv. refl; cr = λ yuv. refl }) .out)
 
 pub near-wants-accepted :
     ((a : Call) → IsLinear (a .given) → (p : Place) → TonedAt (a .given) p

@@ -77,6 +77,9 @@ no-splines q = (
   by-number refl,
 )
 
+pub linear-is-no-spline : IsSpline Linear → ⊥
+linear-is-no-spline = no-splines 0 .0
+
 -- ---- the broken line
 -- at a third only the nearer one is nearest; a half is `nearest-half` of Controls
 pub nearest-third : Nearest 1 3 0 × (Nearest 1 3 1 → ⊥) × Nearest 2 3 1 × (Nearest 2 3 0 → ⊥)

@@ -38,8 +38,8 @@ use Rattle.promises.specs.Results.{at, ExactPlane}
 use Rattle.promises.specs.PlaceFacts.{split-index, place-of}
 
 -- ---- a chroma output
-pub one-copy : (plane before a b : List ℕ) → Copied plane before a → Copied plane before b → a ≡ b
-one-copy plane before a b c d =
+pub one-copy : {plane before a b : List ℕ} → Copied plane before a → Copied plane before b → a ≡ b
+one-copy {plane} {before} {a} {b} c d =
     ext-getD 0 a b (c .long ∙ sym (d .long))
     (λ k h. elim (decLt k (length plane)) [
       | yes front ↦
@@ -89,12 +89,8 @@ module _ (a b : Call) (same : a .given ≡ b .given) (c : ExactPicture a) (d : E
   one-chroma =
       by-test (hasChroma (a .given))
       (λ t. (
-        one-copy (a .given .lent .cb .bytes) (a .given .lent .outputs .cb)
-            (a .after .cb) (b .after .cb) (c .cb t)
-            (rw same (d .cb (rw (← same) t))),
-        one-copy (a .given .lent .cr .bytes) (a .given .lent .outputs .cr)
-            (a .after .cr) (b .after .cr) (c .cr t)
-            (rw same (d .cr (rw (← same) t))),
+        one-copy (c .cb t) (rw same (d .cb (rw (← same) t))),
+        one-copy (c .cr t) (rw same (d .cr (rw (← same) t))),
       ))
       (λ t.
       let a-none : IsYuv (a .given) → ⊥ = λ u. false≢true (sym t ∙ u) in
