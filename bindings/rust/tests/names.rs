@@ -92,8 +92,11 @@ fn formats() {
     assert_eq!(count("tone_format"), Format::ALL.len());
     // `layoutOf NAME = newLayout BYTES ..`
     let layouts: Vec<_> = lines_of(FORMATS, "layoutOf").collect();
-    let here = Format::ALL.map(|format| (format!("{format:?}"), format.bytes_a_pixel().to_string()));
-    let in_crate = layouts.iter().map(|(name, layout)| (name.to_string(), layout.split(' ').nth(1).unwrap().to_string()));
+    let here =
+        Format::ALL.map(|format| (format!("{format:?}"), format.bytes_a_pixel().to_string()));
+    let in_crate = layouts
+        .iter()
+        .map(|(name, layout)| (name.to_string(), layout.split(' ').nth(1).unwrap().to_string()));
     assert!(here.into_iter().eq(in_crate), "{layouts:?}");
 }
 
