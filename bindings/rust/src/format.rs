@@ -51,7 +51,7 @@ impl Format {
 
     /// Whether the format has chroma planes.
     pub fn is_yuv(self) -> bool {
-        self.number() >= Format::Yuv420P.number()
+        (Format::Yuv420P.number()..=Format::YuvJ444P.number()).contains(&self.number())
     }
 }
 

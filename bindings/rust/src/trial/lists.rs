@@ -13,7 +13,7 @@ pub struct Question {
 
 impl Question {
     pub fn random(random: &mut Random) -> Question {
-        let number = random.below(10) as u8;
+        let number = random.below(Kind::NAMES.len()) as u8;
         Question { points: any_list(random), numbers: kind(number, random) }
     }
 

@@ -5,7 +5,7 @@ use crate::Kind;
 
 /// A set whose lists rise, with any colours and any kind.
 pub fn any_set(random: &mut Random) -> Set {
-    let number = random.below(10) as u8;
+    let number = random.below(Kind::NAMES.len()) as u8;
     Set {
         master: any_rising(random),
         colours: [(); 3].map(|()| if random.once_in(2) { Some(any_rising(random)) } else { None }),

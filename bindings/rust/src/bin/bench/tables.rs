@@ -12,7 +12,7 @@ pub fn all(rounds: u64, lists: usize, random: &mut Random) {
         "{:<35}{:>7}{:>10}{:>10}{:>7}{:>12}{:>7}",
         "table", "points", "port, ns", "Rust, ns", "ratio", "curve made", "ratio"
     );
-    for number in 0..10 {
+    for number in 0..Kind::NAMES.len() as u8 {
         let numbers = KindNumbers { number, tension: 100, start_slope: 256, end_slope: -300 };
         for count in [2, 8, 64] {
             let lists: Vec<Vec<u8>> = (0..lists).map(|_| rising_list(random, count)).collect();

@@ -3,7 +3,7 @@ use super::run::Trial;
 use tone::model::checks::{self, Answer};
 use tone::original::{curves, lookup};
 use tone::trial::{kind, Element, Lent, Question, Random};
-use tone::KindNumbers;
+use tone::{Kind, KindNumbers};
 
 pub fn byte_table(t: &mut Trial) {
     let question = t.question();
@@ -99,7 +99,8 @@ pub fn refused(t: &mut Trial) {
     if !t.random.once_in(3) {
         points.truncate(129);
     }
-    let number = if t.random.once_in(3) { t.random.byte() } else { t.random.below(10) as u8 };
+    let number =
+        if t.random.once_in(3) { t.random.byte() } else { t.random.below(Kind::NAMES.len()) as u8 };
     let numbers: KindNumbers = kind(number, &mut t.random);
     let listed = checks::given(points.len(), number);
     let question = Question { points, numbers };

@@ -11,7 +11,7 @@ use super::{hex, Sample};
 use tone::model::record::{encode, Set};
 use tone::original::{curves, frame, pixel_format, tonal_lut, PixelFilter, VideoStreamParams};
 use tone::trial::{kind, rising_list, Random};
-use tone::Format;
+use tone::{Format, Kind};
 
 const SEED: u64 = 4;
 const ONE_TABLE_A_FORMAT: usize = 8;
@@ -69,7 +69,7 @@ fn set(random: &mut Random) -> Set {
         rising_list(random, count)
     };
     let (master, colours) = (list(6), [(); 3].map(|()| list(4)));
-    let number = random.below(10) as u8;
+    let number = random.below(Kind::NAMES.len()) as u8;
     Set {
         master,
         colours: colours.map(|points| if random.once_in(3) { None } else { Some(points) }),

@@ -9,6 +9,7 @@
 use super::{hex, Sample};
 use tone::original::{curves, lookup};
 use tone::trial::{any_list, kind, page_questions, Question, Random};
+use tone::Kind;
 
 const SEED: u64 = 3;
 const LISTS_A_KIND: usize = 36;
@@ -18,7 +19,7 @@ pub fn sample() -> Sample {
     let mut sample = Sample::default();
     let mut add = |question: Question| sample.add(&bytes_of(&question), &answer(&question));
     for _ in 0..LISTS_A_KIND {
-        for number in 0..10 {
+        for number in 0..Kind::NAMES.len() as u8 {
             add(Question { numbers: kind(number, &mut random), points: any_list(&mut random) });
         }
     }
