@@ -167,7 +167,7 @@ static inline const char *tone_refusal_text(uint8_t answer)
 }
 
 /* Writes the byte table of the curve through some points to the first 256 bytes of `table`; what
- * stands behind them stays.
+ * is behind them stays.
  *
  * `points` holds x, y pairs in any order; of equal x the first counts, and a last odd byte is
  * ignored. `kind` is a tone_kind. `tension` is read for TONE_CARDINAL only, the slopes for
@@ -209,7 +209,7 @@ uint8_t tone_plane(const uint8_t table[TONE_TABLE_BYTES], uint8_t format, uint32
 /* Tones a picture by the set of curves that a record holds, into tight rows at the front of
  * `out_y`: Gray8 and luma by the master, Rgb24 and Rgba by each colour's list or else the master's,
  * alpha copied. For the YUV formats `u` is copied to the front of `out_u` and `v` to that of
- * `out_v`, each whole, whatever its length. What stands in an output behind that stays; of the
+ * `out_v`, each whole, whatever its length. What is in an output behind that stays; of the
  * other formats so do out_u and out_v.
  *
  * `planes` says how many planes are given, of which Gray8, Rgb24 and Rgba read the first, YUV the
@@ -227,14 +227,14 @@ uint8_t tone_picture(const uint8_t *record, size_t record_length, uint8_t format
                      size_t out_u_length, uint8_t *out_v, size_t out_v_length);
 
 /* Writes the byte table of a record's master, by the record's kind, to the first 256 bytes of
- * `table`; what stands behind them stays.
+ * `table`; what is behind them stays.
  *
  * Refusals: 1 to 7 the record's; 13 a table_length below 256. */
 uint8_t tone_record_table(const uint8_t *record, size_t record_length, uint8_t *table,
                           size_t table_length);
 
 /* Reads a record and writes the set it holds to the front of `out`, as the present writer has it,
- * and the length to `written`; what stands in `out` behind that stays. TONE_LONGEST_RECORD bytes
+ * and the length to `written`; what is in `out` behind that stays. TONE_LONGEST_RECORD bytes
  * always suffice.
  *
  * Refusals: 1 to 7 the record's; 13 an out_length below the length that would be written. `written`
