@@ -1,4 +1,5 @@
 // Samples along the straight piece.
+// A twin of `cubics`: one loop over all forms compiles to code twice as slow.
 ghost use mathlib.Core.Path.{_≡_};
 ghost use Prim.Native.Nat.{_+_, _≤_};
 ghost use lib.ListN.{length};
