@@ -32,6 +32,7 @@ use Rattle.spline.specs.Thomas.{scaled, sweep, swept, sweptRow, backward, subst
 use Rattle.sampling.specs.Pieces.{pieceHeight, heightAt, sampled}
 use Rattle.tables.specs.declared.CurveInterpolation.{CurveInterpolation}
 use Rattle.tables.specs.Tables.{unclampedAt, sampleOf, entryOf}
+use Rattle.tables.specs.Kinds.{kindOf}
 use Rattle.records.specs.Format.{
   Read,
   pairs,
@@ -58,5 +59,5 @@ entry = entryOf
 
 -- what a reader makes of a record
 unfoldable pub read : List ℕ → Read
-unfolding readRecord readFields readList readPoints pairs readKind readNumber readCarried risesFrom
+unfolding readRecord readFields readList readPoints pairs readKind readNumber readCarried risesFrom kindOf
 read = readRecord

@@ -16,6 +16,7 @@ use Rattle.points.specs.Points.{pt, risesFrom}
 use Rattle.tables.specs.declared.CurveInterpolation.the-variants.{Cardinal, ClampedCubic}
 use Rattle.sets.specs.declared.Curves.{Curves}
 use Rattle.sets.specs.Sets.{viewOf, emptyView, masterOnly, withKind, presentChannel}
+use Rattle.tables.specs.Kinds.{kindOf}
 use Rattle.records.specs.Format.{
   longest,
   pairs,
@@ -37,11 +38,11 @@ use Rattle.record_facts.specs.Canonical.{namesDefault, defaultNamed}
 -- ---- the default kind named
 -- "10 02" names it, and the writer makes "00" of its set
 pub default-kind : namesDefault (0x10 ∷ 2 ∷ []) ≡ true
-unfolding readRecord readFields readKind readNumber readCarried
+unfolding readRecord readFields readKind readNumber readCarried kindOf
 default-kind = refl
 
 pub default-left-out : encode (readRecord (0x10 ∷ 2 ∷ []) .set) ≡ 0x00 ∷ []
-unfolding readRecord readFields readKind readNumber readCarried encode bitsUnder
+unfolding readRecord readFields readKind readNumber readCarried encode bitsUnder kindOf
 default-left-out = refl
 
 pub default-put-in : defaultNamed (0x01 ∷ 1 ∷ 0 ∷ 7 ∷ []) ≡ 0x11 ∷ 1 ∷ 0 ∷ 7 ∷ 2 ∷ []
@@ -58,11 +59,11 @@ pub every-list : namesDefault (0x0f ∷ 1 ∷ 0 ∷ 0 ∷ 0 ∷ 0 ∷ 0 ∷ []) 
 every-list = refl
 
 pub next-kind : namesDefault (0x10 ∷ 3 ∷ []) ≡ false
-unfolding readRecord readFields readKind readNumber readCarried
+unfolding readRecord readFields readKind readNumber readCarried kindOf
 next-kind = refl
 
 pub tension-two : namesDefault (0x30 ∷ 7 ∷ 2 ∷ []) ≡ false
-unfolding readRecord readFields readKind readNumber readCarried readTension
+unfolding readRecord readFields readKind readNumber readCarried readTension kindOf
 tension-two = refl
 
 -- ---- bytes: 255 is one, 256 is none, and as a map it would be read like 0
@@ -77,7 +78,7 @@ pub not-256 : AllBytes (256 ∷ []) → ⊥
 not-256 b = omega (arith, b .byte 0)
 
 pub map-256 : encode (readRecord (256 ∷ []) .set) ≡ 0 ∷ []
-unfolding readRecord readFields readKind readNumber readCarried encode bitsUnder
+unfolding readRecord readFields readKind readNumber readCarried encode bitsUnder kindOf
 map-256 = refl
 
 -- ---- legal sets: a tension is a byte, and lists rise
@@ -130,11 +131,11 @@ abbrev pub byteBehind : List ℕ
 byteBehind = encode (viewOf longestSet) ++ 0 ∷ []
 
 pub whole-refused : readRecord byteBehind .answer ≡ TrailingBytes
-unfolding readRecord readFields readList readPoints pairs risesFrom readKind readNumber readCarried
+unfolding readRecord readFields readList readPoints pairs risesFrom readKind readNumber readCarried kindOf
     readSlopes encode bitsUnder pairBytes tabulate
 whole-refused = refl
 
 pub cut-accepted : readRecord (take longest byteBehind) .answer ≡ Done
-unfolding readRecord readFields readList readPoints pairs risesFrom readKind readNumber readCarried
+unfolding readRecord readFields readList readPoints pairs risesFrom readKind readNumber readCarried kindOf
     readSlopes encode bitsUnder pairBytes tabulate
 cut-accepted = refl

@@ -20,6 +20,7 @@ use Rattle.tables.specs.declared.CurveInterpolation.the-variants.{
 }
 use Rattle.sets.specs.declared.Colour.the-variants.{Red}
 use Rattle.sets.specs.Sets.{emptyView, withColour, withKind}
+use Rattle.tables.specs.Kinds.{kindOf}
 use Rattle.records.specs.Format.{
   pairs,
   readPoints,
@@ -39,17 +40,17 @@ use Rattle.records.specs.Format.{
 -- "a count of 0 being an empty one"
 pub red-empty : readRecord (2 ∷ 0 ∷ [])
     ≡ record { answer = Done; set = withColour Red (some []) emptyView }
-unfolding readRecord readFields readList readPoints pairs readKind readNumber readCarried risesFrom
+unfolding readRecord readFields readList readPoints pairs readKind readNumber readCarried risesFrom kindOf
 red-empty = refl
 
 pub cardinal : readRecord (0x30 ∷ 7 ∷ 128 ∷ [])
     ≡ record { answer = Done; set = withKind (Cardinal 128) emptyView }
-unfolding readRecord readFields readKind readNumber readCarried readTension
+unfolding readRecord readFields readKind readNumber readCarried readTension kindOf
 cardinal = refl
 
 pub clamped : readRecord (0x50 ∷ 8 ∷ 0x00 ∷ 0x80 ∷ 0xff ∷ 0x7f ∷ [])
     ≡ record { answer = Done; set = withKind (ClampedCubic (negsuc 32767) (pos 32767)) emptyView }
-unfolding readRecord readFields readKind readNumber readCarried readSlopes
+unfolding readRecord readFields readKind readNumber readCarried readSlopes kindOf
 clamped = refl
 
 -- ---- 2, 3 and 4 of a list
@@ -87,7 +88,7 @@ no-kind-byte = refl
 -- 9 is a kind
 pub last-kind : readRecord (0x10 ∷ 9 ∷ [])
     ≡ record { answer = Done; set = withKind NotAKnotCubic emptyView }
-unfolding readRecord readFields readKind readNumber readCarried
+unfolding readRecord readFields readKind readNumber readCarried kindOf
 last-kind = refl
 
 -- 10 is none; 5 comes before 6
@@ -105,9 +106,9 @@ unfolding readRecord readFields readKind readNumber
 bit-without-kind = refl
 
 pub no-tension : readRecord (0x30 ∷ 7 ∷ []) ≡ result (refused RecordTruncated)
-unfolding readRecord readFields readKind readNumber readCarried readTension
+unfolding readRecord readFields readKind readNumber readCarried readTension kindOf
 no-tension = refl
 
 pub slope-cut : readRecord (0x50 ∷ 8 ∷ 0 ∷ 0 ∷ 0 ∷ []) ≡ result (refused RecordTruncated)
-unfolding readRecord readFields readKind readNumber readCarried readSlopes
+unfolding readRecord readFields readKind readNumber readCarried readSlopes kindOf
 slope-cut = refl

@@ -38,10 +38,12 @@ pub kinds : (q : ℕ) (start end : ℤ)
     → tenNumbers (λ k. kindOf k q start end)
     ≡ Linear ∷ CatmullRom ∷ MonotoneCubic ∷ MonotoneCubicBox ∷ NaturalCubic ∷ CentripetalCatmullRom
     ∷ ChordalCatmullRom ∷ Cardinal q ∷ ClampedCubic start end ∷ NotAKnotCubic ∷ []
+unfolding kindOf
 kinds q start end = refl
 
 pub numbers : (q : ℕ) (start end : ℤ)
     → tenNumbers (λ k. kindNumber (kindOf k q start end)) ≡ tenNumbers (λ k. k)
+unfolding kindOf
 numbers q start end = refl
 
 pub last-kind : lastKind ≡ 9
@@ -54,6 +56,7 @@ pub carried : (q : ℕ) (start end : ℤ)
     ∷ record { tension = q; start = pos 0; end = pos 0 }
     ∷ record { tension = 0; start = start; end = end }
     ∷ nothing ∷ []
+unfolding kindOf
 carried q start end = refl
 
 -- bit 5 "with Cardinal only", bit 6 "with ClampedCubic only", as a number; none past the last kind
@@ -64,6 +67,7 @@ bits = (refl, refl)
 pub forms : (q : ℕ) (start end : ℤ)
     → tenNumbers (λ k. formOf (kindOf k q start end))
     ≡ Straight ∷ Cubic ∷ Cubic ∷ Cubic ∷ Spline ∷ Cubic ∷ Cubic ∷ Cubic ∷ Spline ∷ Spline ∷ []
+unfolding kindOf
 forms q start end = refl
 
 -- ---- the fine table of a list of so many points, into a slice of so many samples

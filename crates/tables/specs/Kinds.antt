@@ -1,12 +1,12 @@
 -- The ten kinds: their numbers, what they carry, how a piece is drawn, and the value at each knot,
 -- as document 01's sections "Kinds and tables" and "Stored record" have them. Definitions only.
-use Prim.Native.Nat.{ℕ, zero, suc, _<_}
+use Prim.Native.Nat.{ℕ, _<_}
 use mathlib.Core.Bool.{Bool, cond}
-use mathlib.Core.List.{List}
+use mathlib.Core.List.{List, [], _∷_}
 use lib.Dec.{eqb}
 use lib.IntN.{ℤ, pos}
 use lib.Signed.{mag}
-use lib.ListN.{replicate}
+use lib.ListN.{getD, replicate}
 use lib.Ieee.{Float}
 use Rattle.lists.specs.Tabulate.{filled}
 use Rattle.single.specs.Constants.{𝟎}
@@ -33,38 +33,64 @@ use Rattle.tables.specs.declared.Carried.{Carried}
 use Rattle.sampling.specs.declared.Form.{Form}
 use Rattle.sampling.specs.declared.Form.the-variants.{Straight, Cubic, Spline}
 
--- ---- numbers: "Kinds, numbered 0 to 9"
-abbrev pub kindNumber : CurveInterpolation → ℕ
-kindNumber Linear = 0
-kindNumber CatmullRom = 1
-kindNumber MonotoneCubic = 2
-kindNumber MonotoneCubicBox = 3
-kindNumber NaturalCubic = 4
-kindNumber CentripetalCatmullRom = 5
-kindNumber ChordalCatmullRom = 6
-kindNumber (Cardinal q) = 7
-kindNumber (ClampedCubic start end) = 8
-kindNumber NotAKnotCubic = 9
+-- what a kind carries beside its number: 0 where it carries nothing
+abbrev pub nothing : Carried
+nothing = record { tension = 0; start = pos 0; end = pos 0 }
 
+abbrev pub aTension : ℕ → Carried
+aTension q = record { tension = q; start = pos 0; end = pos 0 }
+
+abbrev pub twoSlopes : ℤ → ℤ → Carried
+twoSlopes start end = record { tension = 0; start = start; end = end }
+
+-- ---- the table of the kinds
+-- "Kinds, numbered 0 to 9"; "Cardinal carries a tension", "ClampedCubic carries two slopes";
+-- "Linear", "Hermite kinds (1, 2, 3, 5, 6, 7)", "Splines (4, 8, 9)"
+pub record KindEntry : Type 0 where
+  pub number : ℕ
+  pub carried : Carried
+  pub form : Form
+
+abbrev entry : ℕ → Carried → Form → KindEntry
+entry number carried form = record { number = number; carried = carried; form = form }
+
+abbrev pub entryOf : CurveInterpolation → KindEntry
+entryOf Linear = entry 0 nothing Straight
+entryOf CatmullRom = entry 1 nothing Cubic
+entryOf MonotoneCubic = entry 2 nothing Cubic
+entryOf MonotoneCubicBox = entry 3 nothing Cubic
+entryOf NaturalCubic = entry 4 nothing Spline
+entryOf CentripetalCatmullRom = entry 5 nothing Cubic
+entryOf ChordalCatmullRom = entry 6 nothing Cubic
+entryOf (Cardinal q) = entry 7 (aTension q) Cubic
+entryOf (ClampedCubic start end) = entry 8 (twoSlopes start end) Spline
+entryOf NotAKnotCubic = entry 9 nothing Spline
+
+abbrev pub kindNumber : CurveInterpolation → ℕ
+kindNumber k = entryOf k .number
+
+abbrev pub carriedOf : CurveInterpolation → Carried
+carriedOf k = entryOf k .carried
+
+-- how a piece of its curve is drawn
+abbrev pub formOf : CurveInterpolation → Form
+formOf k = entryOf k .form
+
+-- ---- by number
 -- the number of the last kind
 abbrev pub lastKind : ℕ
 lastKind = 9
 
--- the kind of a number up to the last, with a tension and two slopes for the kinds that carry them
-abbrev pub kindOf : ℕ → ℕ → ℤ → ℤ → CurveInterpolation
-kindOf zero q start end = Linear
-kindOf (suc zero) q start end = CatmullRom
-kindOf (suc (suc zero)) q start end = MonotoneCubic
-kindOf (suc (suc (suc zero))) q start end = MonotoneCubicBox
-kindOf (suc (suc (suc (suc zero)))) q start end = NaturalCubic
-kindOf (suc (suc (suc (suc (suc zero))))) q start end = CentripetalCatmullRom
-kindOf (suc (suc (suc (suc (suc (suc zero)))))) q start end = ChordalCatmullRom
-kindOf (suc (suc (suc (suc (suc (suc (suc zero))))))) q start end = Cardinal q
-kindOf (suc (suc (suc (suc (suc (suc (suc (suc zero)))))))) q start end = ClampedCubic start end
-kindOf (suc (suc (suc (suc (suc (suc (suc (suc (suc n))))))))) q start end = NotAKnotCubic
+-- the kinds in the order of their numbers, with a tension and two slopes for those that carry them
+abbrev pub inOrder : ℕ → ℤ → ℤ → List CurveInterpolation
+inOrder q start end =
+    Linear ∷ CatmullRom ∷ MonotoneCubic ∷ MonotoneCubicBox ∷ NaturalCubic ∷ CentripetalCatmullRom
+    ∷ ChordalCatmullRom ∷ Cardinal q ∷ ClampedCubic start end ∷ NotAKnotCubic ∷ []
 
--- ---- what a kind carries beside its number
--- "Cardinal carries a tension", "ClampedCubic carries two slopes": by the kind's number
+-- a greater number is none: it is refused before anything is asked of its kind
+unfoldable pub kindOf : ℕ → ℕ → ℤ → ℤ → CurveInterpolation
+kindOf n q start end = getD (inOrder q start end) n Linear
+
 abbrev pub carriesTension : ℕ → Bool
 carriesTension k = eqb k 7
 
@@ -76,43 +102,17 @@ carriesSlopes k = eqb k 8
 abbrev pub kindBits : ℕ → ℕ
 kindBits k = cond (carriesTension k) 1 (cond (carriesSlopes k) 2 0)
 
-abbrev pub nothing : Carried
-nothing = record { tension = 0; start = pos 0; end = pos 0 }
-
--- 0 where the kind carries nothing
-abbrev pub carriedOf : CurveInterpolation → Carried
-carriedOf Linear = nothing
-carriedOf CatmullRom = nothing
-carriedOf MonotoneCubic = nothing
-carriedOf MonotoneCubicBox = nothing
-carriedOf NaturalCubic = nothing
-carriedOf CentripetalCatmullRom = nothing
-carriedOf ChordalCatmullRom = nothing
-carriedOf (Cardinal q) = record { tension = q; start = pos 0; end = pos 0 }
-carriedOf (ClampedCubic start end) = record { tension = 0; start = start; end = end }
-carriedOf NotAKnotCubic = nothing
-
 -- a tension is a byte, a slope is of 16 bits: so it is of every kind that code holds, although ℕ
 -- and ℤ have larger numbers
-pub record LegalKind (k : CurveInterpolation) : Type 0 where
-  pub tension : carriedOf k .tension < 256
-  pub start : mag (carriedOf k .start) < 32768
-  pub end : mag (carriedOf k .end) < 32768
+pub record LegalCarried (c : Carried) : Type 0 where
+  pub tension : c .tension < 256
+  pub start : mag (c .start) < 32768
+  pub end : mag (c .end) < 32768
 
--- ---- how it is drawn
--- "Linear", "Hermite kinds (1, 2, 3, 5, 6, 7)", "Splines (4, 8, 9)"
-abbrev pub formOf : CurveInterpolation → Form
-formOf Linear = Straight
-formOf CatmullRom = Cubic
-formOf MonotoneCubic = Cubic
-formOf MonotoneCubicBox = Cubic
-formOf NaturalCubic = Spline
-formOf CentripetalCatmullRom = Cubic
-formOf ChordalCatmullRom = Cubic
-formOf (Cardinal q) = Cubic
-formOf (ClampedCubic start end) = Spline
-formOf NotAKnotCubic = Spline
+abbrev pub LegalKind : CurveInterpolation → Type 0
+LegalKind k = LegalCarried (carriedOf k)
 
+-- ---- its curve
 -- the value at each of n knots: a Hermite kind's tangent, a spline's second derivative
 abbrev pub knotValueAt : CurveInterpolation → List Float → List Float → ℕ → ℕ → Float
 knotValueAt Linear xs ys n i = 𝟎

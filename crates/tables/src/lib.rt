@@ -96,20 +96,25 @@ impl CurveInterpolation {
 pub fn kind_of(k: u8, tension_q8: u8, start_slope_q8: i16, end_slope_q8: i16) -> CurveInterpolation
     ensures { λ r. ⌜ r ≡ kindOf k «tension_q8» «start_slope_q8» «end_slope_q8» ⌝ }
 {
-    match k {
-        0 => CurveInterpolation::Linear,
-        1 => CurveInterpolation::CatmullRom,
-        2 => CurveInterpolation::MonotoneCubic,
-        3 => CurveInterpolation::MonotoneCubicBox,
-        4 => CurveInterpolation::NaturalCubic,
-        5 => CurveInterpolation::CentripetalCatmullRom,
-        6 => CurveInterpolation::ChordalCatmullRom,
-        7 => CurveInterpolation::Cardinal { tension_q8 },
-        8 => CurveInterpolation::ClampedCubic {
+    let in_order = [
+        CurveInterpolation::Linear,
+        CurveInterpolation::CatmullRom,
+        CurveInterpolation::MonotoneCubic,
+        CurveInterpolation::MonotoneCubicBox,
+        CurveInterpolation::NaturalCubic,
+        CurveInterpolation::CentripetalCatmullRom,
+        CurveInterpolation::ChordalCatmullRom,
+        CurveInterpolation::Cardinal { tension_q8 },
+        CurveInterpolation::ClampedCubic {
             start_slope_q8,
             end_slope_q8,
         },
-        _ => CurveInterpolation::NotAKnotCubic,
+        CurveInterpolation::NotAKnotCubic,
+    ];
+    if k <= CurveInterpolation::LAST_KIND {
+        in_order[k as usize]
+    } else {
+        CurveInterpolation::Linear
     }
 }
 

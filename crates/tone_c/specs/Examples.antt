@@ -1,10 +1,12 @@
 -- The definitions where a slip would show: a last odd byte, the numbers of the formats, the order
 -- of each call's refusals, the greatest count of points, and arguments that a kind does not read.
-use mathlib.Core.Path.{_≡_, refl}
+use mathlib.Core.Path.{_≡_, refl, sym, ap, _∙_}
 use mathlib.Core.List.{List, [], _∷_}
-use Prim.Native.Nat.{ℕ, zero, suc}
+use Prim.Native.Nat.{ℕ}
 use lib.IntN.{ℤ}
 use lib.ListN.{replicate}
+use borrow.Author.Tests.{eqb-true}
+use Rattle.lists.specs.Test.{by-test}
 use Rattle.answers.specs.declared.Answer.{Answer}
 use Rattle.answers.specs.declared.Answer.the-variants.{
   Done,
@@ -21,7 +23,9 @@ use Rattle.answers.specs.declared.Answer.the-variants.{
 }
 use Rattle.answers.specs.Checks.{firstRefusal}
 use Rattle.points.specs.Points.{pt}
-use Rattle.tables.specs.Kinds.{kindOf}
+use Rattle.tables.specs.declared.Carried.{Carried}
+use Rattle.tables.specs.Kinds.{kindOf, carriesTension, carriesSlopes}
+use Rattle.tables.specs.KindLaws.{kindWith, carriedFor, kind-unread}
 use Rattle.rows.specs.Rows.{needed}
 use Rattle.formats.specs.declared.PixelFormat.the-variants.{Gray8, Rgba, Yuv420P, YuvJ444P}
 use Rattle.formats.specs.Formats.{formatOf}
@@ -64,17 +68,15 @@ fine-table-order = (refl, refl, refl, refl)
 -- the tension matters to kind 7 only, the slopes to kind 8 only
 pub unread : (k q r : ℕ) (s t e f : ℤ) → (k ≡ 7 → q ≡ r) → (k ≡ 8 → (s ≡ t) × (e ≡ f))
     → kindOf k q s e ≡ kindOf k r t f
-unread zero q r s t e f tension slopes = refl
-unread (suc zero) q r s t e f tension slopes = refl
-unread (suc (suc zero)) q r s t e f tension slopes = refl
-unread (suc (suc (suc zero))) q r s t e f tension slopes = refl
-unread (suc (suc (suc (suc zero)))) q r s t e f tension slopes = refl
-unread (suc (suc (suc (suc (suc zero))))) q r s t e f tension slopes = refl
-unread (suc (suc (suc (suc (suc (suc zero)))))) q r s t e f tension slopes = refl
-unread (suc (suc (suc (suc (suc (suc (suc zero))))))) q r s t e f tension slopes = rw (tension refl)
-unread (suc (suc (suc (suc (suc (suc (suc (suc zero)))))))) q r s t e f tension slopes =
-    rw (slopes refl .0, slopes refl .1)
-unread (suc (suc (suc (suc (suc (suc (suc (suc (suc n))))))))) q r s t e f tension slopes = refl
+unread k q r s t e f tension slopes =
+    let a : Carried = record { tension = q; start = s; end = e } in
+    let b : Carried = record { tension = r; start = t; end = f } in
+    let carried : carriedFor k a ≡ carriedFor k b =
+    by-test (carriesTension k) (λ h. rw (h, tension (eqb-true k 7 h)))
+    (λ h. by-test (carriesSlopes k)
+    (λ i. let same = slopes (eqb-true k 8 i) in rw (h, i, same .0, same .1))
+    (λ i. rw (h, i))) in
+    sym (kind-unread k a) ∙ ap (kindWith k) carried ∙ kind-unread k b
 
 -- ---- pictures
 pub formats : (formatOf 0 ≡ Gray8) × (formatOf 3 ≡ Rgba) × (formatOf 6 ≡ Yuv420P)
@@ -163,5 +165,5 @@ pub record-copy-order : (firstRefusal (toneRecordCopyChecks longer 0) ≡ Traili
     × (firstRefusal (toneRecordCopyChecks empty 1) ≡ OutputTooSmall)
     × (firstRefusal (toneRecordCopyChecks empty 2) ≡ Done)
     × (firstRefusal (toneRecordCopyChecks (0x10 ∷ 2 ∷ []) 1) ≡ Done)
-unfolding readRecord readFields readKind readNumber readCarried encode bitsUnder
+unfolding readRecord readFields readKind readNumber readCarried encode bitsUnder kindOf
 record-copy-order = (refl, refl, refl, refl)
