@@ -162,45 +162,19 @@ refused-plane = (refl, refl)
 
 -- ---- the order of the refusals: each line mends the first fault of the line before it, and has
 -- all the later ones still
-pub refused-3 : answer (run many Cmyk 4097 2 2 3 7 7 2) ≡ PointCount
+pub refusals-in-order :
+    (answer (run many Cmyk 4097 2 2 3 7 7 2) ≡ PointCount)
+    × (answer (run falling Cmyk 4097 2 2 3 7 7 2) ≡ PointsNotRising)
+    × (answer (run line Cmyk 4097 2 2 3 7 7 2) ≡ UnsupportedFormat)
+    × (answer (run line Yuv420P 4097 2 2 3 7 7 2) ≡ PictureTooLarge)
+    × (answer (run line Yuv420P 4 2 2 3 7 7 2) ≡ MissingPlane)
+    × (answer (run line Yuv420P 4 2 3 3 7 7 2) ≡ RowStep)
+    × (answer (run line Yuv420P 4 2 3 4 7 7 2) ≡ PlaneTooShort)
+    × (answer (run line Yuv420P 4 2 3 4 8 7 2) ≡ OutputTooSmall)
+    × (answer (run line Yuv420P 4 2 3 4 8 8 2) ≡ OutputTooSmall)
+    × (answer (run line Yuv420P 4 2 3 4 8 8 3) ≡ Done)
 unfolding answered
-refused-3 = refl
-
-pub refused-4 : answer (run falling Cmyk 4097 2 2 3 7 7 2) ≡ PointsNotRising
-unfolding answered
-refused-4 = refl
-
-pub refused-8 : answer (run line Cmyk 4097 2 2 3 7 7 2) ≡ UnsupportedFormat
-unfolding answered
-refused-8 = refl
-
-pub refused-9 : answer (run line Yuv420P 4097 2 2 3 7 7 2) ≡ PictureTooLarge
-unfolding answered
-refused-9 = refl
-
-pub refused-10 : answer (run line Yuv420P 4 2 2 3 7 7 2) ≡ MissingPlane
-unfolding answered
-refused-10 = refl
-
-pub refused-11 : answer (run line Yuv420P 4 2 3 3 7 7 2) ≡ RowStep
-unfolding answered
-refused-11 = refl
-
-pub refused-12 : answer (run line Yuv420P 4 2 3 4 7 7 2) ≡ PlaneTooShort
-unfolding answered
-refused-12 = refl
-
-pub refused-13 : answer (run line Yuv420P 4 2 3 4 8 7 2) ≡ OutputTooSmall
-unfolding answered
-refused-13 = refl
-
-pub refused-13-chroma : answer (run line Yuv420P 4 2 3 4 8 8 2) ≡ OutputTooSmall
-unfolding answered
-refused-13-chroma = refl
-
-pub accepted : answer (run line Yuv420P 4 2 3 4 8 8 3) ≡ Done
-unfolding answered
-accepted = refl
+refusals-in-order = (refl, refl, refl, refl, refl, refl, refl, refl, refl, refl)
 
 -- each chroma plane has an output of its own: a plane of 3 bytes does not fit into 2, though the
 -- other of 2 fits

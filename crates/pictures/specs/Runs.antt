@@ -62,9 +62,9 @@ held l = record {
 }
 
 -- what follows from the code's types, although ℕ has larger numbers: the plane, the points and the
--- tension are `u8`
+-- tension are `u8`; past the plane's end `getD` reads 0
 pub record InTypes (r : Run) : Type 0 where
-  pub plane : (k : ℕ) → k < length (r .lent .plane .bytes) → getD (r .lent .plane .bytes) k 0 < 256
+  pub plane : (k : ℕ) → getD (r .lent .plane .bytes) k 0 < 256
   pub points : EveryList (All Bytes) (viewOf (r .job .set))
   pub tension : carriedOf (r .job .set .interpolation) .tension < 256
 

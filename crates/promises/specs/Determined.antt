@@ -34,7 +34,7 @@ use Rattle.promises.specs.Words.{
   PassedThrough,
   WriteTheSame,
 }
-use Rattle.promises.specs.Results.{at, ExactPlane}
+use Rattle.promises.specs.Results.{byteIndex, ExactPlane}
 use Rattle.promises.specs.PlaceFacts.{split-index, place-of}
 
 -- ---- a chroma output
@@ -102,7 +102,7 @@ module _ (a b : Call) (same : a .given ≡ b .given) (c : ExactPicture a) (d : E
 -- ---- a plane toned by one table
 -- a byte in a row has its pixel and its channel
 pixel-of : (f : PixelFormat) (w h step k : ℕ) → inRow (w * bytesAPixel f) h step k ≡ true
-    → (y x j : ℕ) × (y < h) × (x < w) × (j < bytesAPixel f) × (at f step y x j ≡ k)
+    → (y x j : ℕ) × (y < h) × (x < w) × (j < bytesAPixel f) × (byteIndex f step y x j ≡ k)
 unfolding inRow
 pixel-of f w h step k inside =
     let n = bytesAPixel f in

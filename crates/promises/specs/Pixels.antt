@@ -102,10 +102,10 @@ abbrev pub AreBytes : List ℕ → Type 0
 AreBytes [] = Unit {0}
 AreBytes (x ∷ l) = (x < 256) × AreBytes l
 
-pub byte-at : (l : List ℕ) → AreBytes l → (k : ℕ) → k < length l → getD l k 0 < 256
-byte-at [] a k h = absurd (omega arith)
-byte-at (x ∷ l) a zero h = a .0
-byte-at (x ∷ l) a (suc k) h = byte-at l (a .1) k (omega arith)
+pub byte-at : (l : List ℕ) → AreBytes l → (k : ℕ) → getD l k 0 < 256
+byte-at [] a k = lit< tt
+byte-at (x ∷ l) a zero = a .0
+byte-at (x ∷ l) a (suc k) = byte-at l (a .1) k
 
 pub types-of : (g : Strip) → AreBytes (g .plane) → InTypes (runOf g)
 types-of g bytes = record {

@@ -77,15 +77,15 @@ module _ (l : List Point) (S v : ℕ) where
 
 -- ---- a plane toned by one table
 -- the index of a byte in a plane: channel j of the pixel in row y and column x
-abbrev pub at : PixelFormat → ℕ → ℕ → ℕ → ℕ → ℕ
-at f step y x j = y * step + (x * bytesAPixel f + j)
+abbrev pub byteIndex : PixelFormat → ℕ → ℕ → ℕ → ℕ → ℕ
+byteIndex f step y x j = y * step + (x * bytesAPixel f + j)
 
 -- it is the plane of the definition; and byte by byte
 pub record ExactPlane (f : PixelFormat) (w h step : ℕ) (table old new : List ℕ) : Type 0 where
   pub plane-is : new ≡ tonedWithin f w h step table old
   pub toned : (y x j : ℕ) → y < h → x < w → j < bytesAPixel f → (j ≡ alphaOf f → ⊥)
-      → getD new (at f step y x j) 0 ≡ getD table (getD old (at f step y x j) 0) 0
+      → getD new (byteIndex f step y x j) 0 ≡ getD table (getD old (byteIndex f step y x j) 0) 0
   pub alpha : (y x j : ℕ) → y < h → x < w → j < bytesAPixel f → j ≡ alphaOf f
-      → getD new (at f step y x j) 0 ≡ getD old (at f step y x j) 0
+      → getD new (byteIndex f step y x j) 0 ≡ getD old (byteIndex f step y x j) 0
   pub padding : (k : ℕ) → inRow (w * bytesAPixel f) h step k ≡ false → getD new k 0 ≡ getD old k 0
   pub long : length new ≡ length old

@@ -1,12 +1,11 @@
 -- What is at each place of the first output of a run that is not refused, how long that output is,
 -- and that each place lies in the plane and in the output.
 use Prim.Native.Nat.{ℕ, _<_}
-use native.Mathlib.Decide.{decLt}
 use native.Mathlib.Omega.{arith}
 use mathlib.Core.Path.{_≡_, _∙_}
 use mathlib.Core.Bool.{true}
 use mathlib.Core.List.{List}
-use lib.ListN.{length, getD, List·getD-eq-default}
+use lib.ListN.{length}
 use lib.Seq.{length-take-le}
 use Rattle.lists.specs.Tabulate.{filled, length-filled}
 use Rattle.tables.specs.Tables.{entryOf}
@@ -41,17 +40,8 @@ abbrev tablesIn : Run → ℕ → List ℕ
 tablesIn r = tablesOf (r .job .format) (viewOf (r .job .set))
 
 module _ (c : Call) where
-  -- a place past the plane's end reads as 0
   pub input-byte : (p : Place) → input c p < 256
-  input-byte p =
-      let plane = c .given .lent .plane .bytes in
-      let k = inPlane (c .given) p in
-      elim (decLt k (length plane)) [
-        | yes inside ↦ c .contract .in-types .plane k inside
-        | no past ↦
-            let none : getD plane k 0 ≡ 0 = List·getD-eq-default plane 0 (omega (arith, past)) in
-            omega (arith, none)
-      ]
+  input-byte p = c .contract .in-types .plane (inPlane (c .given) p)
 
 -- ---- one run that is not refused
 module _ (c : Call) (ok : Accepted c) where

@@ -41,7 +41,7 @@ in-types c =
     let k = c .before .before .before .before .before .before .before .before .before .before .before in
     let own = k .before .good .0 in
     record {
-      plane = λ i inside. k .shared-slice-known .given i .fits;
+      plane = λ i. k .shared-slice-known .given i .fits;
       points = points-told (run c .job) _ own;
       tension = tension-told (run c .job) _ own;
     }
