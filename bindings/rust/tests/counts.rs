@@ -41,7 +41,7 @@ fn the_last_number_in_words() {
         ("format.rs", include_str!("../src/format.rs")),
         ("refusal.rs", include_str!("../src/refusal.rs")),
         ("Numbers.antt", include_str!("../../../crates/answers/specs/Numbers.antt")),
-        ("Format.antt", include_str!("../../../crates/records/specs/Format.antt")),
+        ("Kinds.antt", include_str!("../../../crates/records/specs/Kinds.antt")),
     ] {
         let behind = |phrase: &&str| text.split(*phrase).skip(1).collect::<Vec<_>>();
         let kinds = of_kinds.iter().flat_map(behind).map(|said| (said, Kind::NAMES.len()));

@@ -33,17 +33,9 @@ use Rattle.sampling.specs.Pieces.{pieceHeight, heightAt, sampled}
 use Rattle.tables.specs.declared.CurveInterpolation.{CurveInterpolation}
 use Rattle.tables.specs.Tables.{unclampedAt, sampleOf, entryOf}
 use Rattle.tables.specs.Kinds.{kindOf}
-use Rattle.records.specs.Format.{
-  Read,
-  pairs,
-  readPoints,
-  readList,
-  readKind,
-  readNumber,
-  readCarried,
-  readFields,
-  readRecord,
-}
+use Rattle.records.specs.PointLists.{pairs, readPoints, readList}
+use Rattle.records.specs.Kinds.{readKind, readNumber, readCarried}
+use Rattle.records.specs.Format.{Read, readFields, readRecord}
 
 -- an entry of a byte table
 unfoldable pub entry : CurveInterpolation → List Point → ℕ → ℕ

@@ -17,7 +17,8 @@ use Rattle.sets.specs.declared.Curves.{Curves}
 use Rattle.sets.specs.Sets.{View, viewOf, default, curveChecks, setChecks, setAnswer}
 use Rattle.sets.specs.Same.{Same}
 use Rattle.sets.specs.SameLaws.{same-view, checked-same}
-use Rattle.records.specs.Format.{bit, readRecord}
+use Rattle.records.specs.Map.{bit}
+use Rattle.records.specs.Format.{readRecord}
 use Rattle.writing.specs.Encode.{
   fieldBytes,
   masterField,

@@ -17,19 +17,9 @@ use Rattle.tables.specs.declared.CurveInterpolation.the-variants.{Cardinal, Cla
 use Rattle.sets.specs.declared.Curves.{Curves}
 use Rattle.sets.specs.Sets.{viewOf, emptyView, masterOnly, withKind, presentChannel}
 use Rattle.tables.specs.Kinds.{kindOf}
-use Rattle.records.specs.Format.{
-  longest,
-  pairs,
-  readPoints,
-  readList,
-  readNumber,
-  readTension,
-  readSlopes,
-  readCarried,
-  readKind,
-  readFields,
-  readRecord,
-}
+use Rattle.records.specs.PointLists.{pairs, readPoints, readList}
+use Rattle.records.specs.Kinds.{readNumber, readTension, readSlopes, readCarried, readKind}
+use Rattle.records.specs.Format.{longest, readFields, readRecord}
 use Rattle.writing.specs.Contracts.{Held}
 use Rattle.writing.specs.Encode.{pairBytes, bitsUnder, encode, writeChecks}
 use Rattle.record_facts.specs.ReadLegal.{LegalSet, AllBytes}

@@ -26,21 +26,27 @@ use Rattle.tables.specs.Kinds.{lastKind, carriesTension, carriesSlopes, kindBit
 use Rattle.sets.specs.declared.Colour.{Colour}
 use Rattle.sets.specs.declared.Colour.the-variants.{Red, Green, Blue}
 use Rattle.sets.specs.Sets.{View, emptyView, default}
-use Rattle.records.specs.Format.{Parse, good, refused, _▷_, bit, carriedBits, colourBit, pointOf}
-use Rattle.records.specs.Format.{pairs, readPoints, readList, readField}
-use Rattle.records.specs.Format.{
+use Rattle.records.specs.Parse.{Parse, good, refused, _▷_}
+use Rattle.records.specs.Map.{bit, carriedBits, colourBit}
+use Rattle.records.specs.PointLists.{pointOf, pairs, readPoints, readList, readField}
+use Rattle.records.specs.Kinds.{
   readNumber,
   readTension,
   readSlopes,
   readCarried,
   readAgreed,
   readKind,
+}
+use Rattle.records.specs.Format.{
   masterStep,
   colourStep,
   kindStep,
   endStep,
+  longest,
+  readFields,
+  result,
+  readRecord,
 }
-use Rattle.records.specs.Format.{longest, readFields, result, readRecord}
 
 -- what is read of an input, and of its front: the same refusal, or the same value with a front left
 -- of at least n bytes, if there are so many

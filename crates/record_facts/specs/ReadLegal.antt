@@ -26,19 +26,17 @@ use Rattle.sets.specs.declared.Colour.{Colour}
 use Rattle.sets.specs.declared.Colour.the-variants.{Red, Green, Blue}
 use Rattle.sets.specs.Legal.{LegalList, LegalColour, Legal}
 use Rattle.sets.specs.Sets.{View, emptyView, default, withColour}
-use Rattle.records.specs.Format.{
-  Parse,
-  good,
-  refused,
-  _▷_,
-  bit,
-  colourBit,
+use Rattle.records.specs.Parse.{Parse, good, refused, _▷_}
+use Rattle.records.specs.Map.{bit, colourBit}
+use Rattle.records.specs.PointLists.{
   pointBytes,
   pairs,
   pointChecks,
   readPoints,
   readList,
   readField,
+}
+use Rattle.records.specs.Kinds.{
   storedSlope,
   kindCheck,
   readNumber,
@@ -48,6 +46,8 @@ use Rattle.records.specs.Format.{
   bitsCheck,
   readAgreed,
   readKind,
+}
+use Rattle.records.specs.Format.{
   masterStep,
   colourList,
   colourStep,

@@ -29,15 +29,10 @@ use Rattle.sets.specs.declared.Curves.{Curves}
 use Rattle.sets.specs.Legal.{LegalList, LegalColour, Legal, legal-view}
 use Rattle.sets.specs.Sets.{View, viewOf, default}
 use Rattle.points.specs.Points.{limit}
-use Rattle.records.specs.Format.{
-  good,
-  bit,
-  carriedBits,
-  pointBytes,
-  pairs,
-  readPoints,
-  readList,
-  readField,
+use Rattle.records.specs.Parse.{good}
+use Rattle.records.specs.Map.{bit, carriedBits}
+use Rattle.records.specs.PointLists.{pointBytes, pairs, readPoints, readList, readField}
+use Rattle.records.specs.Kinds.{
   storedSlope,
   readNumber,
   readTension,
@@ -45,10 +40,8 @@ use Rattle.records.specs.Format.{
   readCarried,
   readAgreed,
   readKind,
-  colourList,
-  readFields,
-  readRecord,
 }
+use Rattle.records.specs.Format.{colourList, readFields, readRecord}
 use Rattle.writing.specs.Encode.{
   pairBytes,
   fieldBytes,

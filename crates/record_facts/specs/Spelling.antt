@@ -23,18 +23,10 @@ use Rattle.tables.specs.Kinds.{nothing}
 use Rattle.tables.specs.KindLaws.{kindWith, number-back, carried-back}
 use Rattle.sets.specs.declared.Colour.the-variants.{Red, Green, Blue}
 use Rattle.sets.specs.Sets.{View, emptyView, default}
-use Rattle.records.specs.Format.{
-  Parse,
-  good,
-  refused,
-  _▷_,
-  bit,
-  carriedBits,
-  pairs,
-  pointChecks,
-  readPoints,
-  readList,
-  readField,
+use Rattle.records.specs.Parse.{Parse, good, refused, _▷_}
+use Rattle.records.specs.Map.{bit, carriedBits}
+use Rattle.records.specs.PointLists.{pairs, pointChecks, readPoints, readList, readField}
+use Rattle.records.specs.Kinds.{
   storedSlope,
   readNumber,
   readTension,
@@ -43,6 +35,8 @@ use Rattle.records.specs.Format.{
   bitsCheck,
   readAgreed,
   readKind,
+}
+use Rattle.records.specs.Format.{
   masterStep,
   colourList,
   colourStep,

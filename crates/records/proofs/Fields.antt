@@ -15,20 +15,9 @@ use Rattle.sets.specs.declared.Curves.{Curves}
 use Rattle.sets.specs.Sets.{View, viewOf, emptyView, default, setAnswer}
 use Rattle.records.specs.declared.Reading.{Reading}
 use Rattle.records.specs.declared.RecordRead.{RecordRead}
-use Rattle.records.specs.Format.{
-  Parse,
-  good,
-  refused,
-  _▷_,
-  bit,
-  masterStep,
-  colourStep,
-  kindStep,
-  endStep,
-  readFields,
-  result,
-  readRecord,
-}
+use Rattle.records.specs.Parse.{Parse, good, refused, _▷_}
+use Rattle.records.specs.Map.{bit}
+use Rattle.records.specs.Format.{masterStep, colourStep, kindStep, endStep, readFields, result, readRecord}
 use Rattle.records.specs.Views.{parsed, ReadOn, HandedBack}
 use Rattle.records.proofs.Lists.{drop-at}
 

@@ -17,13 +17,9 @@ use Rattle.answers.specs.declared.Answer.the-variants.{RecordTruncated}
 use Rattle.answers.specs.Numbers.{isDone}
 use Rattle.tables.specs.declared.CurveInterpolation.{CurveInterpolation}
 use Rattle.tables.specs.Kinds.{kindOf}
-use Rattle.records.specs.Format.{
-  Parse,
-  good,
-  refused,
-  _▷_,
-  checked,
-  bit,
+use Rattle.records.specs.Parse.{Parse, good, refused, _▷_, checked}
+use Rattle.records.specs.Map.{bit}
+use Rattle.records.specs.Kinds.{
   signed16,
   storedSlope,
   kindCheck,

@@ -19,18 +19,8 @@ use Rattle.points.specs.declared.Curve.{Curve}
 use Rattle.points.specs.Owned.{list-length}
 use Rattle.points.specs.Points.{limit, listOf, rises, risesFrom}
 use Rattle.sets.specs.Sets.{curveAnswer}
-use Rattle.records.specs.Format.{
-  good,
-  refused,
-  checked,
-  pointBytes,
-  pointOf,
-  pairs,
-  countChecks,
-  pairChecks,
-  readPoints,
-  readList,
-}
+use Rattle.records.specs.Parse.{good, refused, checked}
+use Rattle.records.specs.PointLists.{pointBytes, pointOf, pairs, countChecks, pairChecks, readPoints, readList}
 use Rattle.records.specs.CheckLaws.{checked-stops, checked-goes-on}
 use Rattle.records.specs.Views.{parsed}
 

@@ -31,26 +31,20 @@ use Rattle.answers.specs.Checks.{
 use Rattle.tables.specs.Kinds.{kindNumber, lastKind, carriesTension, carriesSlopes}
 use Rattle.sets.specs.declared.Colour.the-variants.{Red, Green, Blue}
 use Rattle.sets.specs.Sets.{View, emptyView, default}
-use Rattle.records.specs.Format.{
-  Parse,
-  good,
-  refused,
-  _▷_,
-  checked,
-  bit,
-  pointBytes,
-  pairs,
+use Rattle.records.specs.Parse.{Parse, good, refused, _▷_, checked}
+use Rattle.records.specs.Map.{bit}
+use Rattle.records.specs.PointLists.{pointBytes, pairs, readPoints, readList, readField}
+use Rattle.records.specs.Kinds.{
   kindCheck,
   bitsCheck,
-  readPoints,
-  readList,
-  readField,
   readTension,
   readSlopes,
   readCarried,
   readAgreed,
   readNumber,
   readKind,
+}
+use Rattle.records.specs.Format.{
   colourStep,
   kindStep,
   endStep,

@@ -11,7 +11,9 @@ use Rattle.answers.specs.declared.Answer.the-variants.{ReservedBit, RecordTrunc
 use Rattle.answers.specs.Checks.{Check, _when_}
 use Rattle.tables.specs.Kinds.{kindNumber, carriesTension, carriesSlopes}
 use Rattle.sets.specs.Sets.{default}
-use Rattle.records.specs.Format.{bit, pointBytes, pointChecks, kindCheck, bitsCheck}
+use Rattle.records.specs.Map.{bit}
+use Rattle.records.specs.PointLists.{pointBytes, pointChecks}
+use Rattle.records.specs.Kinds.{kindCheck, bitsCheck}
 
 abbrev pub isEmpty : List ℕ → Bool
 isEmpty [] = true

@@ -21,20 +21,10 @@ use Rattle.tables.specs.declared.CurveInterpolation.the-variants.{
 use Rattle.sets.specs.declared.Colour.the-variants.{Red}
 use Rattle.sets.specs.Sets.{emptyView, withColour, withKind}
 use Rattle.tables.specs.Kinds.{kindOf}
-use Rattle.records.specs.Format.{
-  pairs,
-  readPoints,
-  readList,
-  readNumber,
-  readTension,
-  readSlopes,
-  readCarried,
-  readKind,
-  readFields,
-  readRecord,
-  result,
-  refused,
-}
+use Rattle.records.specs.Parse.{refused}
+use Rattle.records.specs.PointLists.{pairs, readPoints, readList}
+use Rattle.records.specs.Kinds.{readNumber, readTension, readSlopes, readCarried, readKind}
+use Rattle.records.specs.Format.{readFields, readRecord, result}
 
 -- ---- accepted
 -- "a count of 0 being an empty one"

@@ -12,12 +12,13 @@ use Rattle.points.specs.Points.{listOf}
 use Rattle.tables.specs.declared.CurveInterpolation.{CurveInterpolation}
 use Rattle.sets.specs.Sets.{View, viewOf, curveAnswer, setAnswer}
 use Rattle.sets.specs.SameLaws.{Full}
-use Rattle.records.specs.declared.CurveRead.{CurveRead}
-use Rattle.records.specs.declared.NumberRead.{NumberRead}
-use Rattle.records.specs.declared.KindRead.{KindRead}
+use Rattle.records.specs.declared.point_lists.CurveRead.{CurveRead}
+use Rattle.records.specs.declared.kinds.NumberRead.{NumberRead}
+use Rattle.records.specs.declared.kinds.KindRead.{KindRead}
 use Rattle.records.specs.declared.Reading.{Reading}
 use Rattle.records.specs.declared.RecordRead.{RecordRead}
-use Rattle.records.specs.Format.{Parse, good, refused, _▷_, Read, readRecord}
+use Rattle.records.specs.Parse.{Parse, good, refused, _▷_}
+use Rattle.records.specs.Format.{Read, readRecord}
 
 -- a value and what follows it from a position on, where the answer is Done
 abbrev pub parsed : {A : Type 0} → Answer → A → List ℕ → ℕ → Parse A

@@ -5,7 +5,7 @@ use mathlib.Core.List.{List, [], _∷_}
 use Rattle.answers.specs.declared.Answer.the-variants.{Done}
 use Rattle.answers.specs.Checks.{firstRefusal}
 use Rattle.points.specs.CheckLaws.{few-points}
-use Rattle.records.specs.Format.{kindCheck}
+use Rattle.records.specs.Kinds.{kindCheck}
 use Rattle.tone_c.specs.Boundary.{countOf, givenChecks}
 
 pub given-points : (points : List ℕ) (kind : ℕ) → firstRefusal (givenChecks points kind) ≡ Done → countOf points ≤ 64

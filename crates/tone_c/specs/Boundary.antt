@@ -21,7 +21,9 @@ use Rattle.sets.specs.Sets.{View}
 use Rattle.formats.specs.Formats.{formatOf, lastFormat}
 use Rattle.formats.specs.Checks.{lutChecks, pictureChecks}
 use Rattle.records.specs.declared.RecordRead.{RecordRead}
-use Rattle.records.specs.Format.{pointBytes, pairs, kindCheck, readRecord}
+use Rattle.records.specs.PointLists.{pointBytes, pairs}
+use Rattle.records.specs.Kinds.{kindCheck}
+use Rattle.records.specs.Format.{readRecord}
 use Rattle.records.specs.Checks.{recordChecks}
 use Rattle.records.specs.Views.{ReadRecordCall}
 use Rattle.writing.specs.Encode.{encode}

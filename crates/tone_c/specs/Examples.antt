@@ -29,7 +29,9 @@ use Rattle.tables.specs.KindLaws.{kindWith, carriedFor, kind-unread}
 use Rattle.rows.specs.Rows.{needed}
 use Rattle.formats.specs.declared.PixelFormat.the-variants.{Gray8, Rgba, Yuv420P, YuvJ444P}
 use Rattle.formats.specs.Formats.{formatOf}
-use Rattle.records.specs.Format.{pairs, readRecord, readFields, readKind, readNumber, readCarried}
+use Rattle.records.specs.PointLists.{pairs}
+use Rattle.records.specs.Kinds.{readKind, readNumber, readCarried}
+use Rattle.records.specs.Format.{readRecord, readFields}
 use Rattle.writing.specs.Encode.{bitsUnder, encode}
 use Rattle.tone_c.specs.Boundary.{
   pairsOf,

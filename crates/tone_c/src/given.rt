@@ -11,8 +11,8 @@ use answers::first_of;
 use formats::PixelFormat;
 use points::Curve;
 use points::check_count;
-use records::check_kind;
-use records::read_points;
+use records::kinds::check_kind;
+use records::point_lists::read_points;
 
 // 3, then 5.
 pub fn check(points: &[u8], kind: u8) -> Answer

@@ -13,7 +13,7 @@ use Rattle.lists.specs.Test.{by-test}
 use Rattle.points.specs.declared.Point.{Point}
 use Rattle.tables.specs.declared.CurveInterpolation.{CurveInterpolation}
 use Rattle.tables.specs.Kinds.{kindNumber, carriesTension, carriesSlopes, kindBits}
-use Rattle.records.specs.Format.{bit, carriedBits}
+use Rattle.records.specs.Map.{bit, carriedBits}
 use Rattle.writing.specs.Encode.{namesKind, oneIf, bitsUnder, there, mapOf}
 
 -- ---- what is above a list of marks, and each mark

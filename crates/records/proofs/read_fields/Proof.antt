@@ -7,7 +7,7 @@ use lib.ListN.{length, drop}
 use Rattle.answers.specs.declared.Answer.the-variants.{Done}
 use Rattle.points.specs.Owned.{length-told}
 use Rattle.sets.specs.Sets.{View, setAnswer}
-use Rattle.records.specs.Format.{good}
+use Rattle.records.specs.Parse.{good}
 use Rattle.records.proofs.Fields.{fields-by, handed}
 use Rattle.records.proofs.Members.{empty-set-passes}
 use Rattle.records.proofs.read_fields.Statement.{statement}

@@ -5,7 +5,9 @@ use Rattle.points.specs.Points.{listOf}
 use Rattle.sets.specs.declared.Channel.{Channel}
 use Rattle.sets.specs.Replaced.{colour-replaced}
 use Rattle.sets.specs.Sets.{viewOf, withColour}
-use Rattle.records.specs.Format.{bit, colourBit, colourList, readField, colourStep}
+use Rattle.records.specs.Map.{bit, colourBit}
+use Rattle.records.specs.PointLists.{readField}
+use Rattle.records.specs.Format.{colourList, colourStep}
 use Rattle.records.proofs.Fields.{refusal-stays, member-read}
 use Rattle.records.proofs.Members.{colour-passes, channel-passes}
 use Rattle.records.proofs.Reading.colour.Statement.{statement}

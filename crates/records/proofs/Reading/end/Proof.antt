@@ -6,7 +6,8 @@ use lib.ListN.{drop}
 use Rattle.points.specs.Owned.{length-told}
 use Rattle.sets.specs.SameLaws.{Full}
 use Rattle.sets.specs.Sets.{viewOf}
-use Rattle.records.specs.Format.{_▷_, endStep}
+use Rattle.records.specs.Parse.{_▷_}
+use Rattle.records.specs.Format.{endStep}
 use Rattle.records.specs.Views.{setParsed}
 use Rattle.records.proofs.Fields.{goes-on, stops, end-more, end-none, handed}
 use Rattle.records.proofs.Reading.end.Statement.{statement}

@@ -2,7 +2,8 @@
 use native.Mathlib.Omega.{arith}
 use mathlib.Core.Path.{ap}
 use Rattle.sets.specs.Sets.{viewOf, withKind}
-use Rattle.records.specs.Format.{readKind, kindStep}
+use Rattle.records.specs.Kinds.{readKind}
+use Rattle.records.specs.Format.{kindStep}
 use Rattle.records.proofs.Fields.{refusal-stays, member-read}
 use Rattle.records.proofs.Members.{kind-passes}
 use Rattle.records.proofs.Reading.kind.Statement.{statement}

@@ -3,7 +3,9 @@ use native.Mathlib.Omega.{arith}
 use mathlib.Core.Path.{ap}
 use Rattle.points.specs.Points.{listOf}
 use Rattle.sets.specs.Sets.{viewOf, withMaster}
-use Rattle.records.specs.Format.{bit, readField, masterStep}
+use Rattle.records.specs.Map.{bit}
+use Rattle.records.specs.PointLists.{readField}
+use Rattle.records.specs.Format.{masterStep}
 use Rattle.records.proofs.Fields.{refusal-stays, member-read}
 use Rattle.records.proofs.Members.{master-passes}
 use Rattle.records.proofs.Reading.master.Statement.{statement}

@@ -3,7 +3,7 @@ use native.Mathlib.Omega.{arith}
 use mathlib.Core.List.{[], _∷_}
 use Rattle.answers.specs.Checks.{first-then}
 use Rattle.points.specs.Points.{countCheck}
-use Rattle.records.specs.Format.{kindCheck}
+use Rattle.records.specs.Kinds.{kindCheck}
 use Rattle.tone_c.specs.Boundary.{countOf}
 use Rattle.tone_c.proofs.given.check.Statement.{statement}
 use Rattle.tone_c.proofs.given.check.Tie as tie

@@ -5,8 +5,8 @@ use borrow.Author.Needs.{needs}
 use lib.ListN.{length}
 use Rattle.points.specs.Owned.{length-told}
 use Rattle.records.proofs.Lists.{empty-passes}
-use Rattle.records.proofs.no_curve.Statement.{statement}
-use Rattle.records.proofs.no_curve.Tie as tie
+use Rattle.records.proofs.point_lists.no_curve.Statement.{statement}
+use Rattle.records.proofs.point_lists.no_curve.Tie as tie
 
 returns : tie.Need-returns
 returns c =

@@ -5,10 +5,10 @@ use mathlib.Core.Path.{_≡_, refl, _∙_}
 use mathlib.Core.List.{_++_}
 use native.Mathlib.Omega.{arith}
 use lib.ListN.{length, take, drop, length-set}
-use Rattle.records.specs.Format.{pairs, pointBytes}
+use Rattle.records.specs.PointLists.{pairs, pointBytes}
 use Rattle.records.proofs.Lists.{pairs-more, pairs-done}
-use Rattle.records.proofs.read_points.Statement.{statement}
-use Rattle.records.proofs.read_points.Tie as tie
+use Rattle.records.proofs.point_lists.read_points.Statement.{statement}
+use Rattle.records.proofs.point_lists.read_points.Tie as tie
 
 abbrev Inv-loop : tie.InvT-loop
 Inv-loop s from n points₀ at₀ i₀ points at i =

@@ -11,10 +11,11 @@ use Rattle.answers.specs.Numbers.{told-refused, told-done}
 use Rattle.answers.specs.Checks.{_when_, firstRefusal}
 use Rattle.points.specs.CheckLaws.{few-points}
 use Rattle.points.specs.Points.{limit, listOf, rises}
-use Rattle.records.specs.Format.{good, refused, pointBytes, countChecks, readList}
+use Rattle.records.specs.Parse.{good, refused}
+use Rattle.records.specs.PointLists.{pointBytes, countChecks, readList}
 use Rattle.records.proofs.Lists.{parsed-refused, list-none, list-refused, list-short, list-whole, rising-passes}
-use Rattle.records.proofs.read_curve.Statement.{statement}
-use Rattle.records.proofs.read_curve.Tie as tie
+use Rattle.records.proofs.point_lists.read_curve.Statement.{statement}
+use Rattle.records.proofs.point_lists.read_curve.Tie as tie
 
 returns : tie.Need-returns
 returns c =

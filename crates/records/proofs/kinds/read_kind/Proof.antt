@@ -4,10 +4,11 @@ use mathlib.Core.Path.{_≡_, sym, _∙_}
 use mathlib.Core.Bool.{true, false}
 use borrow.Author.Tests.{eq-eqb, ne-eqb}
 use lib.ListN.{drop}
-use Rattle.records.specs.Format.{refused, readAgreed, readKind}
+use Rattle.records.specs.Parse.{refused}
+use Rattle.records.specs.Kinds.{readAgreed, readKind}
 use Rattle.records.proofs.Kind.{kind-goes, kind-stops}
-use Rattle.records.proofs.read_kind.Statement.{statement}
-use Rattle.records.proofs.read_kind.Tie as tie
+use Rattle.records.proofs.kinds.read_kind.Statement.{statement}
+use Rattle.records.proofs.kinds.read_kind.Tie as tie
 
 -- ---- once the number is read
 goes : (c : tie.After-is-done) →

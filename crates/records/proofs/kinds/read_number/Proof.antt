@@ -4,12 +4,12 @@ use native.Mathlib.Omega.{arith}
 use mathlib.Core.List.{[], _∷_}
 use lib.ListN.{getD}
 use Rattle.answers.specs.Numbers.{told-refused, told-done}
-use Rattle.records.specs.Format.{kindCheck, readNumber}
+use Rattle.records.specs.Kinds.{kindCheck, readNumber}
 use Rattle.records.specs.CheckLaws.{checked-stops, checked-goes-on}
 use Rattle.records.proofs.Lists.{parsed-refused}
 use Rattle.records.proofs.Kind.{number-none, number-at}
-use Rattle.records.proofs.read_number.Statement.{statement}
-use Rattle.records.proofs.read_number.Tie as tie
+use Rattle.records.proofs.kinds.read_number.Statement.{statement}
+use Rattle.records.proofs.kinds.read_number.Tie as tie
 
 returns : tie.Need-returns
 returns c =

@@ -2,8 +2,8 @@
 use native.Mathlib.Omega.{arith}
 use borrow.Author.Tests.{lt-ltb, le-ltb}
 use Rattle.tables.specs.Kinds.{lastKind}
-use Rattle.records.proofs.check_kind.Statement.{statement}
-use Rattle.records.proofs.check_kind.Tie as tie
+use Rattle.records.proofs.kinds.check_kind.Statement.{statement}
+use Rattle.records.proofs.kinds.check_kind.Tie as tie
 
 returns : tie.Need-returns
 returns c = rw (lt-ltb lastKind (c .before .args .kind) (omega arith))

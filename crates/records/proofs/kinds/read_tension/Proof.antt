@@ -2,8 +2,8 @@
 use mathlib.Core.Path.{sym}
 use native.Mathlib.Omega.{arith}
 use Rattle.records.proofs.Kind.{tension-none, tension-at}
-use Rattle.records.proofs.read_tension.Statement.{statement}
-use Rattle.records.proofs.read_tension.Tie as tie
+use Rattle.records.proofs.kinds.read_tension.Statement.{statement}
+use Rattle.records.proofs.kinds.read_tension.Tie as tie
 
 returns : tie.Need-returns
 returns c =

@@ -1,9 +1,9 @@
 -- `read_carried` meets its contract, case by case.
 use native.Mathlib.Omega.{arith}
 use mathlib.Core.Path.{sym, _∙_}
-use Rattle.records.specs.Format.{readCarried}
-use Rattle.records.proofs.read_carried.Statement.{statement}
-use Rattle.records.proofs.read_carried.Tie as tie
+use Rattle.records.specs.Kinds.{readCarried}
+use Rattle.records.proofs.kinds.read_carried.Statement.{statement}
+use Rattle.records.proofs.kinds.read_carried.Tie as tie
 
 returns : tie.Need-returns
 unfolding readCarried

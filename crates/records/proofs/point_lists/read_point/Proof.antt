@@ -2,8 +2,8 @@
 use native.Mathlib.Omega.{arith}
 use native.Mathlib.Nat.{add-zero}
 use lib.Seq.{getD-drop}
-use Rattle.records.proofs.read_point.Statement.{statement}
-use Rattle.records.proofs.read_point.Tie as tie
+use Rattle.records.proofs.point_lists.read_point.Statement.{statement}
+use Rattle.records.proofs.point_lists.read_point.Tie as tie
 
 returns : tie.Need-returns
 returns c =

@@ -4,8 +4,8 @@ use lib.Dec.{ltb}
 use borrow.Author.Tests.{lt-ltb, le-ltb}
 use Rattle.lists.specs.Test.{by-test}
 use Rattle.points.specs.Points.{limit}
-use Rattle.records.proofs.check_stored_count.Statement.{statement}
-use Rattle.records.proofs.check_stored_count.Tie as tie
+use Rattle.records.proofs.point_lists.check_stored_count.Statement.{statement}
+use Rattle.records.proofs.point_lists.check_stored_count.Tie as tie
 
 returns : tie.Need-returns
 returns c =

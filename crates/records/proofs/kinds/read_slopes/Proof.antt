@@ -5,8 +5,8 @@ use borrow.Author.Needs.{needs}
 use mir.Syntax.{w16}
 use mir.Val.{toZ, ofZ}
 use Rattle.records.proofs.Kind.{slopes-short, slopes-at}
-use Rattle.records.proofs.read_slopes.Statement.{statement}
-use Rattle.records.proofs.read_slopes.Tie as tie
+use Rattle.records.proofs.kinds.read_slopes.Statement.{statement}
+use Rattle.records.proofs.kinds.read_slopes.Tie as tie
 
 returns : tie.Need-returns
 returns c =

@@ -5,8 +5,8 @@ use borrow.Author.Needs.{needs}
 use lib.ListN.{length}
 use Rattle.points.specs.Owned.{length-told}
 use Rattle.records.proofs.Lists.{empty-passes}
-use Rattle.records.proofs.read_field.Statement.{statement}
-use Rattle.records.proofs.read_field.Tie as tie
+use Rattle.records.proofs.point_lists.read_field.Statement.{statement}
+use Rattle.records.proofs.point_lists.read_field.Tie as tie
 
 returns : tie.Need-returns
 returns c = rw (c .before .if1 .taken) (c .read-curve .ensures)

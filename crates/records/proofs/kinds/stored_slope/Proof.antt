@@ -3,8 +3,8 @@
 use Prim.Native.Nat.{_+_, _*_}
 use native.Mathlib.Omega.{arith}
 use Rattle.records.proofs.Kind.{signed-low, signed-fits, signed-high}
-use Rattle.records.proofs.stored_slope.Statement.{statement}
-use Rattle.records.proofs.stored_slope.Tie as tie
+use Rattle.records.proofs.kinds.stored_slope.Statement.{statement}
+use Rattle.records.proofs.kinds.stored_slope.Tie as tie
 
 sub-result-2 : tie.Need-sub-result-2
 sub-result-2 c = signed-fits (c .before .args .low + c .before .args .high * 256) (omega arith) (omega arith)
