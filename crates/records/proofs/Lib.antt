@@ -1,4 +1,2 @@
 pub mod Lists
 pub mod Members
-pub mod Fields
-pub mod Kind

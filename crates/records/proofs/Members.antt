@@ -1,11 +1,16 @@
--- A set with one member replaced goes on passing the check; so does the empty set.
+-- A member of the set replaced by what a field's reader found: the step of the record, and the check,
+-- which goes on passing; so it does of the empty set.
 use mathlib.Core.Path.{_≡_, ap, _∙_}
+use mathlib.Core.Bool.{Bool, true, false}
+use mathlib.Core.List.{List}
 use mathlib.Core.Option.{none}
 use Prim.Native.Nat.{ℕ}
 use native.Mathlib.Omega.{arith}
-use lib.ListN.{length}
+use lib.ListN.{length, drop}
 use Rattle.lists.specs.Test.{by-test}
+use Rattle.answers.specs.declared.Answer.{Answer}
 use Rattle.answers.specs.declared.Answer.the-variants.{Done}
+use Rattle.answers.specs.Numbers.{isDone}
 use Rattle.points.specs.declared.Curve.{Curve}
 use Rattle.tables.specs.declared.CurveInterpolation.{CurveInterpolation}
 use Rattle.points.specs.Points.{limit}
@@ -26,12 +31,34 @@ use Rattle.sets.specs.Sets.{
   channelAnswer,
   setAnswer,
 }
+use Rattle.records.specs.declared.Reading.{Reading}
+use Rattle.records.specs.Parse.{Parse, good, _▷_}
+use Rattle.records.specs.Views.{parsed, ReadOn}
 use Rattle.records.proofs.Lists.{empty-passes}
 
+-- ---- the step
+module _ {s : List ℕ} {before : Reading} {d : Bool} (e : d ≡ isDone (before .answer)) where
+  -- after a refusal nothing more is read
+  pub refusal-stays : {step : View → List ℕ → Parse View} → d ≡ false → ReadOn s step before before
+  refusal-stays t = record { field = rw (← e, t); legal = λ passes. passes }
+
+  -- a member v, as p reads it, replaced as g does
+  pub member-read :
+      {B : Type 0} (p : List ℕ → Parse B) (g : B → View → View) (v : B) {a : Answer} {next : ℕ} {set new : Curves}
+      → d ≡ true
+      → parsed a v s next ≡ p (drop (before .next) s) → set ≡ new → viewOf new ≡ g v (viewOf (before .set))
+      → (setAnswer (before .set) ≡ Done → setAnswer new ≡ Done)
+      → ReadOn s (λ w t. p t ▷ λ y u. good (g y w) u) before (record { answer = a; next = next; set = set })
+  member-read p g v {a = a} t q made view passes =
+      record {
+        field = rw (← e, t, ← q, made, view) (by-test (isDone a) (λ x. rw x) (λ x. rw x));
+        legal = λ h. rw made (passes h);
+      }
+
+-- ---- the check
 set-passes : (s : Curves) → Passed s → setAnswer s ≡ Done
 set-passes s p = set-answer s ∙ rw (p .master, p .red, p .green) (p .blue)
 
--- ---- one member replaced
 pub master-passes : (c : Curve) (s : Curves) → curveAnswer c ≡ Done → setAnswer s ≡ Done
     → setAnswer (replaceMaster c s) ≡ Done
 master-passes c s new e =

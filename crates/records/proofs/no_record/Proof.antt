@@ -1,8 +1,7 @@
 -- `no_record` meets its contract: the empty set passes the check.
 use native.Mathlib.Omega.{arith}
-use mathlib.Core.Path.{_≡_, refl}
+use mathlib.Core.Path.{refl}
 use borrow.Author.Needs.{needs}
-use lib.ListN.{length}
 use Rattle.points.specs.Owned.{length-told}
 use Rattle.records.proofs.Members.{empty-set-passes}
 use Rattle.records.proofs.no_record.Statement.{statement}
@@ -10,11 +9,10 @@ use Rattle.records.proofs.no_record.Tie as tie
 
 returns : tie.Need-returns
 returns c =
-    let long : length (c .empty .result .master .points) ≡ 64 = search (needs, length-told) in
     record {
       answer = refl;
       set = c .empty .ensures;
-      legal = empty-set-passes (c .empty .result) long (c .empty .ensures);
+      legal = empty-set-passes (c .empty .result) (search (needs, length-told)) (c .empty .ensures);
       full = search (needs, length-told);
     }
 

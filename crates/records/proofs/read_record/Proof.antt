@@ -1,23 +1,37 @@
 -- `read_record` meets its contract: no map, bit 7, or the fields.
 use native.Mathlib.Omega.{arith}
-use Rattle.records.proofs.Fields.{record-none, record-reserved, record-mapped}
+use lib.ListN.{drop-of-length-le}
+use Rattle.records.specs.Format.{readRecord}
+use Rattle.records.proofs.Lists.{drop-at}
 use Rattle.records.proofs.read_record.Statement.{statement}
 use Rattle.records.proofs.read_record.Tie as tie
 
 returns : tie.Need-returns
-returns c = rw (record-none (c .before .before .before .args .s .now) (c .before .if1 .taken)) (c .no-record .ensures)
+unfolding readRecord
+returns c =
+    rw (drop-of-length-le (c .before .before .before .args .s .now) {i = 0} (omega arith)) (c .no-record .ensures)
 
 returns-2 : tie.Need-returns-2
+unfolding readRecord
 returns-2 c =
-    let h = c .before .before .has-bit in
-    let s = c .before .before .before .before .before .before .args .s .now in
-    rw (record-reserved (h .result) s (omega arith) (h .ensures) (c .before .if2 .taken)) (c .no-record2 .ensures)
+    let h = c .before .before in
+    rw (
+      drop-at (h .before .before .before .before .args .s .now) 0 (omega arith),
+      ← h .has-bit .ensures,
+      c .before .if2 .taken,
+    )
+    (c .no-record2 .ensures)
 
 returns-3 : tie.Need-returns-3
+unfolding readRecord
 returns-3 c =
-    let h = c .before .before .has-bit in
-    let s = c .before .before .before .before .before .before .args .s .now in
-    rw (record-mapped (h .result) s (omega arith) (h .ensures) (c .before .if2 .left)) (c .read-fields .ensures)
+    let h = c .before .before in
+    rw (
+      drop-at (h .before .before .before .before .args .s .now) 0 (omega arith),
+      ← h .has-bit .ensures,
+      c .before .if2 .left,
+    )
+    (c .read-fields .ensures)
 
 pub read-record-spec : {M : Type 1} → statement M
 read-record-spec =

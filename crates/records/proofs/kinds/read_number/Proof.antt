@@ -1,4 +1,6 @@
 -- `read_number` meets its contract.
+use lib.ListN.{drop-of-length-le}
+use Rattle.records.proofs.Lists.{drop-at}
 use mathlib.Core.Path.{sym, _∙_}
 use native.Mathlib.Omega.{arith}
 use mathlib.Core.List.{[], _∷_}
@@ -6,36 +8,34 @@ use lib.ListN.{getD}
 use Rattle.answers.specs.Numbers.{told-refused, told-done}
 use Rattle.records.specs.Kinds.{kindCheck, readNumber}
 use Rattle.records.specs.CheckLaws.{checked-stops, checked-goes-on}
-use Rattle.records.proofs.Lists.{parsed-refused}
-use Rattle.records.proofs.Kind.{number-none, number-at}
 use Rattle.records.proofs.kinds.read_number.Statement.{statement}
 use Rattle.records.proofs.kinds.read_number.Tie as tie
 
 returns : tie.Need-returns
+unfolding readNumber
 returns c =
     let b = c .before .before in
     let a = b .before .before .args in
-    rw (c .no-number .ensures, b .if1 .taken) (sym (number-none (a .unnamed) (a .at) (a .s .now) (omega arith)))
+    rw (c .no-number .ensures, b .if1 .taken, drop-of-length-le (a .s .now) {i = a .at} (omega arith))
 
 returns-2 : tie.Need-returns-2
+unfolding readNumber
 returns-2 c =
     let k = c .before .before .before in
     let b = k .before .before .before in
     let a = b .before .before .args in
     let refusal = told-refused (k .check-kind .result) (c .before .before .is-done .ensures) (c .before .if3 .taken) in
-    parsed-refused _ (a .s .now) (c .no-number2 .result .next) (c .no-number2 .ensures) refusal
-    ∙ sym (rw (b .if1 .taken)
-    (number-at (a .unnamed) (a .at) (a .s .now) (omega arith)
-    ∙ checked-stops _ (kindCheck (getD (a .s .now) (a .at) 0) ∷ []) [] (k .check-kind .ensures) refusal))
+    rw (c .no-number2 .ensures, refusal, b .if1 .taken, drop-at (a .s .now) (a .at) (omega arith))
+    (sym (checked-stops _ (kindCheck (getD (a .s .now) (a .at) 0) ∷ []) [] (k .check-kind .ensures) refusal))
 
 returns-3 : tie.Need-returns-3
+unfolding readNumber
 returns-3 c =
     let k = c .before .before in
     let b = k .before .before .before in
     let a = b .before .before .args in
-    rw (b .if1 .taken)
-    (sym (number-at (a .unnamed) (a .at) (a .s .now) (omega arith)
-    ∙ checked-goes-on _ (kindCheck (getD (a .s .now) (a .at) 0) ∷ []) []
+    rw (b .if1 .taken, drop-at (a .s .now) (a .at) (omega arith))
+    (sym (checked-goes-on _ (kindCheck (getD (a .s .now) (a .at) 0) ∷ []) []
     (sym (k .check-kind .ensures) ∙ told-done _ (c .before .is-done .ensures) (c .if3 .left))))
 
 returns-4 : tie.Need-returns-4

@@ -1,8 +1,7 @@
 -- `no_curve` meets its contract: an empty list passes the check.
 use native.Mathlib.Omega.{arith}
-use mathlib.Core.Path.{_≡_, refl}
+use mathlib.Core.Path.{refl}
 use borrow.Author.Needs.{needs}
-use lib.ListN.{length}
 use Rattle.points.specs.Owned.{length-told}
 use Rattle.records.proofs.Lists.{empty-passes}
 use Rattle.records.proofs.point_lists.no_curve.Statement.{statement}
@@ -10,8 +9,7 @@ use Rattle.records.proofs.point_lists.no_curve.Tie as tie
 
 returns : tie.Need-returns
 returns c =
-    let long : length (c .empty .result .points) ≡ 64 = search (needs, length-told) in
-    (refl, empty-passes (c .empty .result) long (c .empty .ensures))
+    (refl, empty-passes (c .empty .result) (search (needs, length-told)) (c .empty .ensures))
 
 pub no-curve-spec : {M : Type 1} → statement M
 no-curve-spec = tie.close (tie.spec (omega arith) returns)

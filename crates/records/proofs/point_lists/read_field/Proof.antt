@@ -1,8 +1,6 @@
 -- `read_field` meets its contract.
 use native.Mathlib.Omega.{arith}
-use mathlib.Core.Path.{_≡_}
 use borrow.Author.Needs.{needs}
-use lib.ListN.{length}
 use Rattle.points.specs.Owned.{length-told}
 use Rattle.records.proofs.Lists.{empty-passes}
 use Rattle.records.proofs.point_lists.read_field.Statement.{statement}
@@ -13,10 +11,9 @@ returns c = rw (c .before .if1 .taken) (c .read-curve .ensures)
 
 returns-2 : tie.Need-returns-2
 returns-2 c =
-    let long : length (c .empty .result .points) ≡ 64 = search (needs, length-told) in
     record {
       list = rw (c .before .if1 .left, c .empty .ensures);
-      legal = empty-passes (c .empty .result) long (c .empty .ensures);
+      legal = empty-passes (c .empty .result) (search (needs, length-told)) (c .empty .ensures);
     }
 
 pub read-field-spec : {M : Type 1} → statement M
