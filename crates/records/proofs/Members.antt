@@ -1,42 +1,32 @@
--- A member of the set replaced by what a field's reader found: the step of the record, and the check,
--- which goes on passing; so it does of the empty set.
+-- A member of the set replaced by what a field's reader found; the set goes on passing the check. So
+-- does the empty set.
+use Prim.Native.Nat.{ℕ}
 use mathlib.Core.Path.{_≡_, ap, _∙_}
 use mathlib.Core.Bool.{Bool, true, false}
 use mathlib.Core.List.{List}
 use mathlib.Core.Option.{none}
-use Prim.Native.Nat.{ℕ}
 use native.Mathlib.Omega.{arith}
 use lib.ListN.{length, drop}
 use Rattle.lists.specs.Test.{by-test}
 use Rattle.answers.specs.declared.Answer.{Answer}
 use Rattle.answers.specs.declared.Answer.the-variants.{Done}
 use Rattle.answers.specs.Numbers.{isDone}
-use Rattle.points.specs.declared.Curve.{Curve}
-use Rattle.tables.specs.declared.CurveInterpolation.{CurveInterpolation}
 use Rattle.points.specs.Points.{limit}
 use Rattle.sets.specs.declared.Channel.{Channel}
 use Rattle.sets.specs.declared.Colour.{Colour}
 use Rattle.sets.specs.declared.Colour.the-variants.{Red, Green, Blue}
 use Rattle.sets.specs.declared.Curves.{Curves}
 use Rattle.sets.specs.Legal.{set-answer, Passed, passed-set}
-use Rattle.sets.specs.Sets.{
-  View,
-  viewOf,
-  channelOf,
-  emptyView,
-  replaceMaster,
-  replaceColour,
-  replaceKind,
-  curveAnswer,
-  channelAnswer,
-  setAnswer,
-}
+use Rattle.sets.specs.Sets.{View, viewOf, channelOf, emptyView, replaceColour, curveAnswer, channelAnswer, setAnswer}
 use Rattle.records.specs.declared.Reading.{Reading}
 use Rattle.records.specs.Parse.{Parse, good, _▷_}
 use Rattle.records.specs.Views.{parsed, ReadOn}
 use Rattle.records.proofs.Lists.{empty-passes}
 
--- ---- the step
+set-passes : (s : Curves) → Passed s → setAnswer s ≡ Done
+set-passes s p = set-answer s ∙ rw (p .master, p .red, p .green) (p .blue)
+
+-- ---- a step of the reader, d being whether no field was refused before it
 module _ {s : List ℕ} {before : Reading} {d : Bool} (e : d ≡ isDone (before .answer)) where
   -- after a refusal nothing more is read
   pub refusal-stays : {step : View → List ℕ → Parse View} → d ≡ false → ReadOn s step before before
@@ -47,41 +37,24 @@ module _ {s : List ℕ} {before : Reading} {d : Bool} (e : d ≡ isDone (before 
       {B : Type 0} (p : List ℕ → Parse B) (g : B → View → View) (v : B) {a : Answer} {next : ℕ} {set new : Curves}
       → d ≡ true
       → parsed a v s next ≡ p (drop (before .next) s) → set ≡ new → viewOf new ≡ g v (viewOf (before .set))
-      → (setAnswer (before .set) ≡ Done → setAnswer new ≡ Done)
+      → (Passed (before .set) → Passed new)
       → ReadOn s (λ w t. p t ▷ λ y u. good (g y w) u) before (record { answer = a; next = next; set = set })
-  member-read p g v {a = a} t q made view passes =
+  member-read p g v {a = a} {new = new} t q made view passes =
       record {
         field = rw (← e, t, ← q, made, view) (by-test (isDone a) (λ x. rw x) (λ x. rw x));
-        legal = λ h. rw made (passes h);
+        legal = λ h. rw made (set-passes new (passes (passed-set (before .set) h)));
       }
 
--- ---- the check
-set-passes : (s : Curves) → Passed s → setAnswer s ≡ Done
-set-passes s p = set-answer s ∙ rw (p .master, p .red, p .green) (p .blue)
-
-pub master-passes : (c : Curve) (s : Curves) → curveAnswer c ≡ Done → setAnswer s ≡ Done
-    → setAnswer (replaceMaster c s) ≡ Done
-master-passes c s new e =
-    let p = passed-set s e in
-    set-passes (replaceMaster c s) (record { master = new; red = p .red; green = p .green; blue = p .blue })
-
+-- ---- the check of a set with a colour replaced
 pub channel-passes : (c : Channel) → curveAnswer (c .curve) ≡ Done → channelAnswer c ≡ Done
 unfolding channelAnswer curveAnswer
 channel-passes c e = by-test (c .present) (λ t. rw t e) (λ t. rw t)
 
-colour-passed : (colour : Colour) (c : Channel) (s : Curves) → channelAnswer c ≡ Done → Passed s
+pub colour-passed : (colour : Colour) (c : Channel) (s : Curves) → channelAnswer c ≡ Done → Passed s
     → Passed (replaceColour colour c s)
 colour-passed Red c s new p = record { master = p .master; red = new; green = p .green; blue = p .blue }
 colour-passed Green c s new p = record { master = p .master; red = p .red; green = new; blue = p .blue }
 colour-passed Blue c s new p = record { master = p .master; red = p .red; green = p .green; blue = new }
-
-pub colour-passes : (colour : Colour) (c : Channel) (s : Curves) → channelAnswer c ≡ Done → setAnswer s ≡ Done
-    → setAnswer (replaceColour colour c s) ≡ Done
-colour-passes colour c s new e = set-passes (replaceColour colour c s) (colour-passed colour c s new (passed-set s e))
-
-pub kind-passes : (k : CurveInterpolation) (s : Curves) → setAnswer s ≡ Done → setAnswer (replaceKind k s) ≡ Done
-unfolding setAnswer
-kind-passes k s e = e
 
 -- ---- the empty set
 absent-passes : (c : Channel) → channelOf c ≡ none → channelAnswer c ≡ Done

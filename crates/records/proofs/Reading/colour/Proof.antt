@@ -8,7 +8,7 @@ use Rattle.sets.specs.Sets.{withColour}
 use Rattle.records.specs.Map.{bit, colourBit}
 use Rattle.records.specs.PointLists.{readField}
 use Rattle.records.specs.Format.{colourList}
-use Rattle.records.proofs.Members.{refusal-stays, member-read, colour-passes, channel-passes}
+use Rattle.records.proofs.Members.{refusal-stays, member-read, channel-passes, colour-passed}
 use Rattle.records.proofs.Reading.colour.Statement.{statement}
 use Rattle.records.proofs.Reading.colour.Tie as tie
 
@@ -25,7 +25,7 @@ returns c =
     (λ l. withColour k (colourList (bit (colourBit k) (a .map)) l)) (listOf (f .result .curve))
     (b .before .before .if1 .taken)
     (rw stands at (f .ensures .list)) (c .with-channel .ensures) (colour-replaced k channel (a .self .set) ∙ rw stands)
-    (colour-passes k channel (a .self .set) (channel-passes channel (f .ensures .legal)))
+    (colour-passed k channel (a .self .set) (channel-passes channel (f .ensures .legal)))
 
 returns-2 : tie.Need-returns-2
 returns-2 c = refusal-stays (c .before .is-done .ensures) (c .if1 .left)

@@ -1,10 +1,10 @@
 -- `Reading::end` meets its contract.
 use mathlib.Core.Path.{refl}
-use lib.ListN.{drop-of-length-le}
-use Rattle.records.proofs.Lists.{drop-at}
 use native.Mathlib.Omega.{arith}
+use lib.ListN.{drop-of-length-le}
 use Rattle.points.specs.Owned.{length-told}
 use Rattle.sets.specs.SameLaws.{Full}
+use Rattle.records.proofs.Lists.{drop-at}
 use Rattle.records.proofs.Reading.end.Statement.{statement}
 use Rattle.records.proofs.Reading.end.Tie as tie
 

@@ -5,7 +5,7 @@ use Rattle.points.specs.Points.{listOf}
 use Rattle.sets.specs.Sets.{withMaster}
 use Rattle.records.specs.Map.{bit}
 use Rattle.records.specs.PointLists.{readField}
-use Rattle.records.proofs.Members.{refusal-stays, member-read, master-passes}
+use Rattle.records.proofs.Members.{refusal-stays, member-read}
 use Rattle.records.proofs.Reading.master.Statement.{statement}
 use Rattle.records.proofs.Reading.master.Tie as tie
 
@@ -17,7 +17,7 @@ returns c =
     member-read (b .before .before .is-done .ensures) (readField (bit 1 (a .map)) 1) withMaster
     (listOf (f .result .curve)) (b .before .if1 .taken)
     (rw (b .has-bit .ensures) at (f .ensures .list)) (c .with-master .ensures) refl
-    (master-passes (f .result .curve) (a .self .set) (f .ensures .legal))
+    (λ p. record { master = f .ensures .legal; red = p .red; green = p .green; blue = p .blue })
 
 returns-2 : tie.Need-returns-2
 returns-2 c = refusal-stays (c .before .is-done .ensures) (c .if1 .left)

@@ -1,6 +1,5 @@
 -- `read_carried` meets its contract, case by case.
 use native.Mathlib.Omega.{arith}
-use mathlib.Core.Path.{sym, _∙_}
 use Rattle.records.specs.Kinds.{readCarried}
 use Rattle.records.proofs.kinds.read_carried.Statement.{statement}
 use Rattle.records.proofs.kinds.read_carried.Tie as tie
@@ -9,7 +8,7 @@ returns : tie.Need-returns
 unfolding readCarried
 returns c =
     let t = c .before in
-    rw (sym (t .before .carries-tension .ensures) ∙ t .if1 .taken) (c .read-tension .ensures)
+    rw (← t .before .carries-tension .ensures, t .if1 .taken) (c .read-tension .ensures)
 
 returns-2 : tie.Need-returns-2
 unfolding readCarried
@@ -17,8 +16,10 @@ returns-2 c =
     let u = c .before in
     let t = u .before .before in
     rw (
-      sym (t .before .carries-tension .ensures) ∙ t .if1 .left,
-      sym (u .before .carries-slopes .ensures) ∙ u .if2 .taken,
+      ← t .before .carries-tension .ensures,
+      t .if1 .left,
+      ← u .before .carries-slopes .ensures,
+      u .if2 .taken,
     )
     (c .read-slopes .ensures)
 
@@ -28,8 +29,10 @@ returns-3 c =
     let u = c .before in
     let t = u .before .before in
     rw (
-      sym (t .before .carries-tension .ensures) ∙ t .if1 .left,
-      sym (u .before .carries-slopes .ensures) ∙ u .if2 .left,
+      ← t .before .carries-tension .ensures,
+      t .if1 .left,
+      ← u .before .carries-slopes .ensures,
+      u .if2 .left,
       c .kind-of .ensures,
     )
 

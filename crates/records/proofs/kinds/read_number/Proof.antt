@@ -1,13 +1,13 @@
 -- `read_number` meets its contract.
-use lib.ListN.{drop-of-length-le}
-use Rattle.records.proofs.Lists.{drop-at}
 use mathlib.Core.Path.{sym, _∙_}
-use native.Mathlib.Omega.{arith}
 use mathlib.Core.List.{[], _∷_}
+use native.Mathlib.Omega.{arith}
+use lib.ListN.{drop-of-length-le}
 use lib.ListN.{getD}
 use Rattle.answers.specs.Numbers.{told-refused, told-done}
 use Rattle.records.specs.Kinds.{kindCheck, readNumber}
 use Rattle.records.specs.CheckLaws.{checked-stops, checked-goes-on}
+use Rattle.records.proofs.Lists.{drop-at}
 use Rattle.records.proofs.kinds.read_number.Statement.{statement}
 use Rattle.records.proofs.kinds.read_number.Tie as tie
 

@@ -1,15 +1,15 @@
 -- `read_slopes` meets its contract.
 use Prim.Native.Nat.{_-_}
-use native.Mathlib.Nat.{add-zero}
-use borrow.Author.Tests.{lt-ltb, le-ltb}
-use lib.ListN.{length, length-drop}
-use lib.Seq.{getD-drop, drop-drop}
-use Rattle.records.specs.Kinds.{readSlopes}
 use mathlib.Core.Path.{_≡_}
+use native.Mathlib.Nat.{add-zero}
 use native.Mathlib.Omega.{arith}
+use borrow.Author.Tests.{lt-ltb, le-ltb}
 use borrow.Author.Needs.{needs}
 use mir.Syntax.{w16}
 use mir.Val.{toZ, ofZ}
+use lib.ListN.{length, length-drop}
+use lib.Seq.{getD-drop, drop-drop}
+use Rattle.records.specs.Kinds.{readSlopes}
 use Rattle.records.proofs.kinds.read_slopes.Statement.{statement}
 use Rattle.records.proofs.kinds.read_slopes.Tie as tie
 

@@ -1,8 +1,8 @@
 -- `read_tension` meets its contract.
+use native.Mathlib.Omega.{arith}
 use lib.ListN.{drop-of-length-le}
 use Rattle.records.specs.Kinds.{readTension}
 use Rattle.records.proofs.Lists.{drop-at}
-use native.Mathlib.Omega.{arith}
 use Rattle.records.proofs.kinds.read_tension.Statement.{statement}
 use Rattle.records.proofs.kinds.read_tension.Tie as tie
 

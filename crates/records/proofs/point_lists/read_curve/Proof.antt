@@ -1,31 +1,37 @@
 -- `read_curve` meets its contract: each way out is one of the cases of a list, in their order.
-use mathlib.Core.Path.{_≡_, sym, ap, _∙_}
+use mathlib.Core.Path.{_≡_, sym, _∙_}
 use mathlib.Core.Bool.{cond}
-use Prim.Native.Nat.{_+_, _*_, _≤_}
+use Prim.Native.Nat.{_+_, _-_, _*_, _≤_}
 use native.Mathlib.Omega.{arith}
 use mathlib.Core.List.{[], _∷_}
+use borrow.Author.Tests.{lt-ltb, le-ltb}
 use lib.Dec.{ltb}
-use lib.ListN.{drop}
+use lib.ListN.{length, drop, length-drop, drop-of-length-le}
+use lib.Seq.{drop-drop}
+use Rattle.lists.specs.Test.{by-test}
 use Rattle.answers.specs.declared.Answer.the-variants.{Done, PointCount, PointsNotRising}
 use Rattle.answers.specs.Numbers.{told-refused, told-done}
 use Rattle.answers.specs.Checks.{_when_, firstRefusal}
 use Rattle.points.specs.CheckLaws.{few-points}
-use Rattle.points.specs.Points.{limit, listOf, rises}
-use Rattle.records.specs.Parse.{good, refused}
-use Rattle.records.specs.PointLists.{pointBytes, countChecks, readList}
-use Rattle.records.proofs.Lists.{parsed-refused, list-none, list-refused, list-short, list-whole, rising-passes}
+use Rattle.points.specs.Points.{limit, listOf}
+use Rattle.records.specs.Parse.{good, refused, checked}
+use Rattle.records.specs.PointLists.{pointBytes, pairs, countChecks, pairChecks, readPoints, readList}
+use Rattle.records.specs.CheckLaws.{checked-stops, checked-goes-on}
+use Rattle.records.proofs.Lists.{drop-at, rising-passes}
 use Rattle.records.proofs.point_lists.read_curve.Statement.{statement}
 use Rattle.records.proofs.point_lists.read_curve.Tie as tie
 
 returns : tie.Need-returns
+unfolding readList
 returns c =
     let a = c .before .before .before .args in
     record {
-      list = rw (c .no-curve .ensures .0) (sym (list-none (a .least) (a .at) (a .s .now) (omega arith)));
+      list = rw (c .no-curve .ensures .0, drop-of-length-le (a .s .now) {i = a .at} (omega arith));
       legal = c .no-curve .ensures .1;
     }
 
 returns-2 : tie.Need-returns-2
+unfolding readList readPoints
 returns-2 c =
     let k = c .before .before .before in
     let w = k .before .wide in
@@ -34,17 +40,17 @@ returns-2 c =
     told-refused (k .check-stored-count .result) (c .before .before .is-done .ensures) (c .before .if2 .taken) in
     record {
       list =
-          parsed-refused _ (a .s .now) (c .no-curve2 .result .next) (c .no-curve2 .ensures .0) refusal
-          ∙ sym (list-refused (a .least) (a .at) (w .result) (a .s .now) (omega arith) (w .ensures .0)
-          (k .check-stored-count .ensures) refusal);
+          rw (c .no-curve2 .ensures .0, refusal, drop-at (a .s .now) (a .at) (omega arith), ← w .ensures .0)
+          (sym (checked-stops _ (countChecks (a .least) (w .result)) (pairChecks (w .result) (drop (a .at + 1) (a .s .now)))
+          (k .check-stored-count .ensures) refusal));
       legal = c .no-curve2 .ensures .1;
     }
 
 -- the count has passed
-counted : (c : tie.Else2) →
+passed : (c : tie.Else2) →
     let w = c .before .before .before in
     firstRefusal (countChecks (w .before .before .before .before .args .least) (w .wide .result)) ≡ Done
-counted c =
+passed c =
     sym (c .before .before .check-stored-count .ensures)
     ∙ told-done _ (c .before .is-done .ensures) (c .if2 .left)
 
@@ -52,18 +58,34 @@ few : (c : tie.Else2) → c .before .before .before .wide .result ≤ limit
 few c =
     let w = c .before .before .before in
     few-points (w .wide .result)
-    (PointCount when ltb (w .wide .result) (w .before .before .before .before .args .least) ∷ []) (counted c)
+    (PointCount when ltb (w .wide .result) (w .before .before .before .before .args .least) ∷ []) (passed c)
+
+counted : (c : tie.Else2) →
+    let w = c .before .before .before in
+    let a = w .before .before .before .before .args in
+    let n = w .wide .result in
+    let s = drop (a .at + 1) (a .s .now) in
+    readList (a .least) (drop (a .at) (a .s .now))
+    ≡ checked (pairChecks n s) (good (pairs n s) (drop (n * pointBytes) s))
+unfolding readList readPoints
+counted c =
+    let w = c .before .before .before in
+    let a = w .before .before .before .before .args in
+    let n = w .wide .result in
+    rw (drop-at (a .s .now) (a .at) (omega arith), ← w .wide .ensures .0)
+    (checked-goes-on _ (countChecks (a .least) n) (pairChecks n (drop (a .at + 1) (a .s .now))) (passed c))
 
 returns-3 : tie.Need-returns-3
 returns-3 c =
-    let b = c .before .before in
-    let w = b .before .before .before in
+    let w = c .before .before .before .before .before in
     let a = w .before .before .before .before .args in
     record {
       list =
           rw (c .no-curve3 .ensures .0)
-          (sym (list-short (a .least) (a .at) (w .wide .result) (a .s .now) (omega arith) (w .wide .ensures .0)
-          (counted b) (omega arith)));
+          (sym (counted (c .before .before) ∙ rw (
+            length-drop (a .at + 1) (a .s .now),
+            lt-ltb (length (a .s .now) - (a .at + 1)) (w .wide .result * pointBytes) (omega arith),
+          )));
       legal = c .no-curve3 .ensures .1;
     }
 
@@ -81,9 +103,15 @@ whole c =
     let b = c .before .before .before in
     let w = b .before .before .before in
     let a = w .before .before .before .before .args in
-    rw (p .ensures .0)
-    (list-whole (a .least) (a .at) (w .wide .result) (a .s .now) (omega arith) (w .wide .ensures .0) (counted b)
-    (c .is-rising .result) (omega arith) (c .is-rising .ensures ∙ ap rises (p .ensures .0)))
+    let n = w .wide .result in
+    counted b
+    ∙ rw (
+      length-drop (a .at + 1) (a .s .now),
+      le-ltb (length (a .s .now) - (a .at + 1)) (n * pointBytes) (omega arith),
+      drop-drop (n * pointBytes) (a .at + 1) (a .s .now),
+      ← p .ensures .0,
+      ← c .is-rising .ensures,
+    ) (by-test (c .is-rising .result) (λ t. rw t) (λ t. rw t))
 
 returns-4 : tie.Need-returns-4
 returns-4 c =

@@ -1,14 +1,33 @@
 -- `read_points` meets its contract. At each turn the points read and those still
 -- to read are all of them.
-use Prim.Native.Nat.{_≤_, _-_, _+_, _*_}
-use mathlib.Core.Path.{_≡_, refl, _∙_}
-use mathlib.Core.List.{_++_}
+use Prim.Native.Nat.{ℕ, suc, _≤_, _<_, _-_, _+_, _*_}
+use mathlib.Core.Path.{_≡_, refl, sym, _∙_}
+use mathlib.Core.List.{List, _++_, append-nil}
+use native.Mathlib.Numerals.{add-one}
 use native.Mathlib.Omega.{arith}
-use lib.ListN.{length, take, drop, length-set}
-use Rattle.records.specs.PointLists.{pairs, pointBytes}
-use Rattle.records.proofs.Lists.{pairs-more, pairs-done}
+use lib.ListN.{length, take, drop, set, length-set}
+use lib.Seq.{take-suc-set, append-snoc, drop-drop}
+use Rattle.points.specs.declared.Point.{Point}
+use Rattle.records.specs.PointLists.{pointBytes, pointOf, pairs}
 use Rattle.records.proofs.point_lists.read_points.Statement.{statement}
 use Rattle.records.proofs.point_lists.read_points.Tie as tie
+
+left-suc : (n i : ℕ) → i < n → n - i ≡ suc (n - (i + 1))
+left-suc n i h = omega arith
+
+pairs-more : (s : List ℕ) (n i at : ℕ) (ps : List Point) (p : Point) → i < n → i < length ps
+    → p ≡ pointOf (drop at s)
+    → take (i + 1) (set ps i p) ++ pairs (n - (i + 1)) (drop (at + pointBytes) s)
+    ≡ take i ps ++ pairs (n - i) (drop at s)
+unfolding pairs
+pairs-more s n i at ps p h room e =
+    rw (left-suc n i h, add-one i, take-suc-set ps i p room, e, drop-drop pointBytes at s) (append-snoc (take i ps) _ _)
+
+pairs-done : (s : List ℕ) (n i at : ℕ) (ps all : List Point) → i ≡ n → take i ps ++ pairs (n - i) (drop at s) ≡ all
+    → take n ps ≡ all
+unfolding pairs
+pairs-done s n i at ps all e inv = let none : n - n ≡ 0 = omega arith in
+    sym (append-nil (take n ps)) ∙ (rw (e, none) at inv)
 
 abbrev Inv-loop : tie.InvT-loop
 Inv-loop s from n points₀ at₀ i₀ points at i =
