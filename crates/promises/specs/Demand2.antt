@@ -57,7 +57,7 @@ use Rattle.records.specs.Views.{ReadRecordCall}
 use Rattle.writing.specs.declared.Written.{Written}
 use Rattle.writing.specs.Encode.{encode}
 use Rattle.writing.specs.Contracts.{WriteRecordCall}
-use Rattle.record_facts.specs.ReadLegal.{AllBytes}
+use Rattle.record_facts.specs.Found.{AllBytes}
 use Rattle.record_facts.specs.Canonical.{namesDefault}
 use Rattle.record_facts.specs.RoundTrip as RoundTrip
 use Rattle.record_facts.specs.NotLonger as NotLonger

@@ -11,6 +11,7 @@ use lib.ListN.{length, length-append}
 use borrow.Author.Tests.{eqb-true}
 use Rattle.lists.specs.Test.{by-test}
 use Rattle.answers.specs.declared.Answer.the-variants.{Done}
+use Rattle.answers.specs.Numbers.{isDone}
 use Rattle.answers.specs.Checks.{first-append}
 use Rattle.tables.specs.Kinds.{kindNumber}
 use Rattle.sets.specs.declared.Curves.{Curves}
@@ -30,7 +31,7 @@ use Rattle.writing.specs.Encode.{
   encode,
   writeRecord,
 }
-use Rattle.record_facts.specs.ReadLegal.{AllBytes}
+use Rattle.record_facts.specs.Found.{AllBytes}
 use Rattle.record_facts.specs.Spelling.{
   recordNaming,
   plain-carries,
@@ -79,8 +80,8 @@ bit-four : (p q r s : ℕ)
 bit-four p q r s = omega arith
 
 default-named : (v : View) → eqb (kindNumber (v .kind)) (kindNumber default) ≡ true
-    → recordNaming true v ≡ defaultNamed (encode v)
-unfolding encode recordNaming bitsUnder
+    → recordNaming true v ≡ defaultNamed (recordNaming false v)
+unfolding recordNaming bitsUnder
 default-named v e =
     let two : kindNumber (v .kind) ≡ 2 = eqb-true (kindNumber (v .kind)) 2 e in
     let carries : carriedBytes (v .kind) ≡ [] = plain-carries (v .kind) (rw two) (rw two) in
@@ -99,27 +100,28 @@ default-named v e =
 -- ---- an accepted record is one of the two
 no-map : readRecord [] .answer ≡ Done → ⊥
 unfolding readRecord
-no-map e = let z : _≡_ {A = ℕ} 0 1 = cc in omega arith
+no-map e = true≢false (ap isDone (sym e))
 
 module _ (m : ℕ) (s : List ℕ) (accepted : readRecord (m ∷ s) .answer ≡ Done) where
-  -- it names its kind just where the writer does
-  names-alike : namesDefault (m ∷ s) ≡ false → namesKind (readRecord (m ∷ s) .set .kind) ≡ bit 16 m
-  names-alike e =
-      by-test (bit 16 m) (λ t. rw (t, rw t at e)) (λ t. rw (t, unnamed-kind m s accepted t))
+  abbrev set : View
+  set = readRecord (m ∷ s) .set
 
-  names-default : namesDefault (m ∷ s) ≡ true
-      → (bit 16 m ≡ true)
-      × (eqb (kindNumber (readRecord (m ∷ s) .set .kind)) (kindNumber default) ≡ true)
-  names-default e =
-      by-test (bit 16 m) (λ t. (t, rw t at e)) (λ t. absurd (true≢false (sym (rw t at e))))
+  two-records : recordNaming (bit 16 m) set
+      ≡ cond (namesDefault (m ∷ s)) (defaultNamed (encode set)) (encode set)
+  two-records =
+      rw (encode-is set)
+      (by-test (bit 16 m)
+      (λ t.
+      by-test (eqb (kindNumber (set .kind)) (kindNumber default))
+      (λ u. rw (t, u) (default-named set u)) (λ u. rw (t, u)))
+      (λ t. rw (t, unnamed-kind m s accepted t)))
 
 -- one that has the writer's form is what the writer makes of its set
 pub accepted-is : (s : List ℕ) → AllBytes s → readRecord s .answer ≡ Done → namesDefault s ≡ false
     → encode (readRecord s .set) ≡ s
 accepted-is [] bytes accepted e = absurd (no-map accepted)
 accepted-is (m ∷ s) bytes accepted e =
-    encode-is (readRecord (m ∷ s) .set)
-    ∙ rw (names-alike m s accepted e) (sym (record-is m s accepted bytes))
+    sym (record-is m s accepted bytes ∙ (rw e at (two-records m s accepted)))
 
 -- one that names the default kind is that record with bit 4 and the kind's byte
 pub accepted-default : (s : List ℕ) → AllBytes s → readRecord s .answer ≡ Done
@@ -127,10 +129,7 @@ pub accepted-default : (s : List ℕ) → AllBytes s → readRecord s .answer �
     → defaultNamed (encode (readRecord s .set)) ≡ s
 accepted-default [] bytes accepted e = absurd (no-map accepted)
 accepted-default (m ∷ s) bytes accepted e =
-    let n = names-default m s accepted e in
-    sym (default-named (readRecord (m ∷ s) .set) (n .1))
-    ∙ ap (λ b. recordNaming b (readRecord (m ∷ s) .set)) (sym (n .0))
-    ∙ sym (record-is m s accepted bytes)
+    sym (record-is m s accepted bytes ∙ (rw e at (two-records m s accepted)))
 
 -- ---- how long it is
 named-length : (s : List ℕ) → 0 < length s → length (defaultNamed s) ≡ suc (length s)
@@ -147,15 +146,9 @@ pub accepted-length : (s : List ℕ) → readRecord s .answer ≡ Done
     (length (encode (readRecord s .set)))
 accepted-length [] accepted = absurd (no-map accepted)
 accepted-length (m ∷ s) accepted =
-    let set = readRecord (m ∷ s) .set in
-    by-test (namesDefault (m ∷ s))
-    (λ e.
-    let n = names-default m s accepted e in
-    rw e (record-length m s accepted ∙ ap (λ b. length (recordNaming b set)) (n .0)
-    ∙ ap length (default-named set (n .1)) ∙ default-length set))
-    (λ e. rw e (record-length m s accepted
-    ∙ ap (λ b. length (recordNaming b set)) (sym (names-alike m s accepted e))
-    ∙ ap length (sym (encode-is set))))
+    record-length m s accepted ∙ ap length (two-records m s accepted)
+    ∙ by-test (namesDefault (m ∷ s))
+    (λ t. rw t (default-length (readRecord (m ∷ s) .set))) (λ t. rw t)
 
 -- and so the writer's form is just that of the records that do not name the default kind
 pub writer-form : (s : List ℕ) → readRecord s .answer ≡ Done → encode (readRecord s .set) ≡ s

@@ -22,7 +22,8 @@ use Rattle.records.specs.Kinds.{readNumber, readTension, readSlopes, readCarrie
 use Rattle.records.specs.Format.{longest, readFields, readRecord}
 use Rattle.writing.specs.Contracts.{Held}
 use Rattle.writing.specs.Encode.{pairBytes, bitsUnder, encode, writeChecks}
-use Rattle.record_facts.specs.ReadLegal.{LegalSet, AllBytes}
+use Rattle.record_facts.specs.Found.{AllBytes}
+use Rattle.record_facts.specs.ReadLegal.{LegalSet}
 use Rattle.record_facts.specs.Canonical.{namesDefault, defaultNamed}
 
 -- ---- the default kind named

@@ -1,9 +1,11 @@
 -- The facts about records, said of the definitions that the contracts of `records` and `writing`
--- cite. ReadLegal: what is read passes the check of a set. RoundTrip: what was written reads back.
--- Spelling: what the bytes of an accepted record are; from it Canonical: such a record is what the
--- writer makes of its set, unless it names the default kind; and NotLonger. Room: 522 bytes always
--- suffice. Runs says all this of runs of the reader and the writer. Longest: the first 523 bytes of
--- an input tell all; Input says so of what `tonetable` prints. Examples: the edges.
+-- cite. Found: what the reader finds in a record; from it ReadLegal: what is read passes the check
+-- of a set, and Spelling: what the bytes of an accepted record are; from that Canonical: such a
+-- record is what the writer makes of its set, unless it names the default kind; and NotLonger.
+-- RoundTrip: what was written reads back. Room: 522 bytes always suffice. Runs says all this of
+-- runs of the reader and the writer. Longest: the first 523 bytes of an input tell all; Input says
+-- so of what `tonetable` prints. Examples: the edges.
+pub mod Found
 pub mod ReadLegal
 pub mod Longest
 pub mod RoundTrip

@@ -5,35 +5,30 @@ use mathlib.Core.Bool.{Bool, true, false}
 use mathlib.Core.List.{List, [], _∷_}
 use Prim.Native.Nat.{ℕ, zero, suc, _+_, _-_, _*_, _≤_, _<_}
 use native.Mathlib.Omega.{arith}
-use lib.Dec.{ltb, eqb}
+use lib.Dec.{ltb}
 use lib.ListN.{length, take, drop, length-take}
 use lib.Seq.{take-all, take-nil, getD-take}
 use borrow.Author.Tests.{le-ltb, ltb-true, ltb-false}
 use Rattle.lists.specs.Test.{by-test}
 use Rattle.answers.specs.declared.Answer.{Answer}
-use Rattle.answers.specs.declared.Answer.the-variants.{
-  RecordTruncated,
-  PointCount,
-  PointsNotRising,
-  UnknownKind,
-  FieldMismatch,
-  TrailingBytes,
-}
+use Rattle.answers.specs.declared.Answer.the-variants.{RecordTruncated, PointCount, TrailingBytes}
+use Rattle.answers.specs.Checks.{Check, _when_, refuses}
 use Rattle.points.specs.declared.Point.{Point}
-use Rattle.points.specs.Points.{limit, rises}
-use Rattle.tables.specs.declared.CurveInterpolation.{CurveInterpolation}
-use Rattle.tables.specs.Kinds.{lastKind, carriesTension, carriesSlopes, kindBits}
+use Rattle.points.specs.Points.{limit}
+use Rattle.tables.specs.Kinds.{carriesTension, carriesSlopes}
 use Rattle.sets.specs.declared.Colour.{Colour}
 use Rattle.sets.specs.declared.Colour.the-variants.{Red, Green, Blue}
 use Rattle.sets.specs.Sets.{View, emptyView, default}
-use Rattle.records.specs.Parse.{Parse, good, refused, _▷_}
-use Rattle.records.specs.Map.{bit, carriedBits, colourBit}
-use Rattle.records.specs.PointLists.{pointOf, pairs, readPoints, readList, readField}
+use Rattle.records.specs.Parse.{Parse, good, refused, _▷_, checked}
+use Rattle.records.specs.Map.{bit, colourBit}
+use Rattle.records.specs.PointLists.{pointOf, pairs, pointChecks, readPoints, readList, readField}
 use Rattle.records.specs.Kinds.{
+  kindCheck,
   readNumber,
   readTension,
   readSlopes,
   readCarried,
+  bitsCheck,
   readAgreed,
   readKind,
 }
@@ -54,11 +49,21 @@ data Fronts {A : Type 0} (n : ℕ) : Parse A → Parse A → Type 0 where
   read : (v : A) (s : List ℕ) (m : ℕ) → n ≤ m → Fronts n (good v s) (good v (take m s))
   none-read : (a : Answer) → Fronts n (refused a) (refused a)
 
+-- a reading takes at most so many bytes
+abbrev Takes : {A : Type 0} → ℕ → (List ℕ → Parse A) → Type 0
+Takes most f = (n : ℕ) (s : List ℕ) (m : ℕ) → most + n ≤ m → Fronts n (f s) (f (take m s))
+
 then-fronts : {A B : Type 0} {n k : ℕ} {p q : Parse A} {f : A → List ℕ → Parse B} → Fronts n p q
     → ((v : A) (s : List ℕ) (m : ℕ) → n ≤ m → Fronts k (f v s) (f v (take m s)))
     → Fronts k (p ▷ f) (q ▷ f)
 then-fronts (read v s m h) rest = rest v s m h
 then-fronts (none-read a) rest = none-read a
+
+checked-fronts : {A : Type 0} {n : ℕ} {p q : Parse A} (cs : List Check) → Fronts n p q
+    → Fronts n (checked cs p) (checked cs q)
+checked-fronts [] h = h
+checked-fronts (c ∷ cs) h =
+    by-test (refuses c) (λ t. rw t (none-read (c .answer))) (λ t. rw t (checked-fronts cs h))
 
 drop-take : (k m : ℕ) (s : List ℕ) → drop k (take m s) ≡ take (m - k) (drop k s)
 drop-take zero m s = let e : m - 0 ≡ m = omega arith in rw e
@@ -66,6 +71,15 @@ drop-take (suc k) zero s = let e : 0 - suc k ≡ 0 = omega arith in rw e
 drop-take (suc k) (suc m) [] = rw (take-nil {A = ℕ} (suc m - suc k))
 drop-take (suc k) (suc m) (b ∷ s) = let e : suc m - suc k ≡ m - k = omega arith in
     rw e (drop-take k m s)
+
+-- a front of at least k bytes is too short for k just where the whole is
+short-take : (k m : ℕ) (s : List ℕ) → k ≤ m → ltb (length (take m s)) k ≡ ltb (length s) k
+short-take k m s h =
+    by-test (ltb (length s) k) (λ t. rw (take-all m s (omega (arith, ltb-true (length s) k t))))
+    (λ t.
+    let long : k ≤ length (take m s) =
+    rw (length-take m s) (omega (arith, ltb-false (length s) k t)) in
+    rw (t, le-ltb (length (take m s)) k long))
 
 -- ---- a list
 pairs-take : (c m : ℕ) (s : List ℕ) → c * 2 ≤ m → pairs c (take m s) ≡ pairs c s
@@ -75,133 +89,101 @@ pairs-take (suc c) m s h =
     rw (getD-take m s 0 0 (omega arith), getD-take m s 1 0 (omega arith), drop-take 2 m s)
     (ap (λ (ps : List Point). pointOf s ∷ ps) (pairs-take c (m - 2) (drop 2 s) (omega arith)))
 
-module _ (least c n : ℕ) (s : List ℕ) (m : ℕ) (front : 128 + n ≤ m) where
-  points-fronts : Fronts n (readPoints least c s) (readPoints least c (take m s))
-  unfolding readPoints
-  points-fronts =
-      by-test (ltb limit c) (λ e. rw e (none-read PointCount))
-      (λ e. by-test (ltb c least) (λ f. rw (e, f) (none-read PointCount))
-      (λ f. by-test (ltb (length s) (c * 2))
-      (λ g. rw (take-all m s (omega (arith, few e, ltb-true (length s) (c * 2) g)), e, f, g)
-      (none-read RecordTruncated))
-      (λ g.
-      let long : c * 2 ≤ length (take m s) =
-      rw (length-take m s) (omega (arith, few e, ltb-false (length s) (c * 2) g)) in
-      rw (
-        e,
-        f,
-        g,
-        le-ltb (length (take m s)) (c * 2) long,
-        pairs-take c m s (omega (arith, few e)),
-        drop-take (c * 2) m s,
-      )
-      (by-test (rises (pairs c s))
-      (λ r. rw r (read (pairs c s) (drop (c * 2) s) (m - c * 2) (omega (arith, few e))))
-      (λ r. rw r (none-read PointsNotRising))))))
-    where
-      few : ltb limit c ≡ false → c ≤ 64
-      few e = ltb-false 64 c e
+points-take : (least c : ℕ) → Takes 128 (readPoints least c)
+unfolding readPoints
+points-take least c n s m h =
+    by-test (ltb limit c) (λ e. rw e (none-read PointCount))
+    (λ e.
+    let few = ltb-false limit c e in
+    rw (
+      short-take (c * 2) m s (omega arith),
+      pairs-take c m s (omega arith),
+      drop-take (c * 2) m s,
+    )
+    (checked-fronts (pointChecks least c s)
+    (read (pairs c s) (drop (c * 2) s) (m - c * 2) (omega arith))))
 
-list-fronts : (least n : ℕ) (s : List ℕ) (m : ℕ) → 129 + n ≤ m
-    → Fronts n (readList least s) (readList least (take m s))
+list-takes : (least : ℕ) → Takes 129 (readList least)
 unfolding readList
-list-fronts least n s zero h = absurd (omega arith)
-list-fronts least n [] (suc m) h = none-read RecordTruncated
-list-fronts least n (c ∷ s) (suc m) h = points-fronts least c n s m (omega arith)
+list-takes least n s zero h = absurd (omega arith)
+list-takes least n [] (suc m) h = none-read RecordTruncated
+list-takes least n (c ∷ s) (suc m) h = points-take least c n s m (omega arith)
 
-field-fronts : (present : Bool) (least n : ℕ) (s : List ℕ) (m : ℕ) → 129 + n ≤ m
-    → Fronts n (readField present least s) (readField present least (take m s))
-field-fronts true least n s m h = list-fronts least n s m h
-field-fronts false least n s m h = read [] s m (omega arith)
+field-takes : (present : Bool) (least : ℕ) → Takes 129 (readField present least)
+field-takes true least n s m h = list-takes least n s m h
+field-takes false least n s m h = read [] s m (omega arith)
 
 -- ---- the kind
-number-fronts : (unnamed : CurveInterpolation) (named : Bool) (n : ℕ) (s : List ℕ) (m : ℕ)
-    → 1 + n ≤ m
-    → Fronts n (readNumber unnamed named s) (readNumber unnamed named (take m s))
+number-takes : (named : Bool) → Takes 1 (readNumber default named)
 unfolding readNumber
-number-fronts unnamed false n s m h = read _ s m (omega arith)
-number-fronts unnamed true n s zero h = absurd (omega arith)
-number-fronts unnamed true n [] (suc m) h = none-read RecordTruncated
-number-fronts unnamed true n (k ∷ s) (suc m) h =
-    by-test (ltb lastKind k) (λ e. rw e (none-read UnknownKind))
-    (λ e. rw e (read k s m (omega arith)))
+number-takes false n s m h = read _ s m (omega arith)
+number-takes true n s zero h = absurd (omega arith)
+number-takes true n [] (suc m) h = none-read RecordTruncated
+number-takes true n (k ∷ s) (suc m) h =
+    checked-fronts (kindCheck k ∷ []) (read k s m (omega arith))
 
-tension-fronts : (k n : ℕ) (s : List ℕ) (m : ℕ) → 1 + n ≤ m
-    → Fronts n (readTension k s) (readTension k (take m s))
+tension-takes : (k : ℕ) → Takes 1 (readTension k)
 unfolding readTension
-tension-fronts k n s zero h = absurd (omega arith)
-tension-fronts k n [] (suc m) h = none-read RecordTruncated
-tension-fronts k n (q ∷ s) (suc m) h = read _ s m (omega arith)
+tension-takes k n s zero h = absurd (omega arith)
+tension-takes k n [] (suc m) h = none-read RecordTruncated
+tension-takes k n (q ∷ s) (suc m) h = read _ s m (omega arith)
 
-slopes-fronts : (k n : ℕ) (s : List ℕ) (m : ℕ) → 4 + n ≤ m
-    → Fronts n (readSlopes k s) (readSlopes k (take m s))
+slopes-take : (k : ℕ) → Takes 4 (readSlopes k)
 unfolding readSlopes
-slopes-fronts k n s m h =
-    by-test (ltb (length s) 4)
-    (λ g. rw (take-all m s (omega (arith, ltb-true (length s) 4 g)), g)
-    (none-read RecordTruncated))
-    (λ g.
-    let long : 4 ≤ length (take m s) =
-    rw (length-take m s) (omega (arith, ltb-false (length s) 4 g)) in
+slopes-take k n s m h =
     rw (
-      g,
-      le-ltb (length (take m s)) 4 long,
+      short-take 4 m s (omega arith),
       getD-take m s 0 0 (omega arith),
       getD-take m s 1 0 (omega arith),
       getD-take m s 2 0 (omega arith),
       getD-take m s 3 0 (omega arith),
       drop-take 4 m s,
     )
+    (checked-fronts (RecordTruncated when ltb (length s) 4 ∷ [])
     (read _ (drop 4 s) (m - 4) (omega arith)))
 
-agreed-fronts : (map k n : ℕ) (s : List ℕ) (m : ℕ) → 4 + n ≤ m
-    → Fronts n (readAgreed map k s) (readAgreed map k (take m s))
+agreed-takes : (map k : ℕ) → Takes 4 (readAgreed map k)
 unfolding readCarried
-agreed-fronts map k n s m h =
-    by-test (eqb (carriedBits map) (kindBits k))
-    (λ e. rw e
-    (by-test (carriesTension k) (λ f. rw f (tension-fronts k n s m (omega arith)))
-    (λ f. by-test (carriesSlopes k) (λ g. rw (f, g) (slopes-fronts k n s m h))
-    (λ g. rw (f, g) (read _ s m (omega arith))))))
-    (λ e. rw e (none-read FieldMismatch))
+agreed-takes map k n s m h =
+    checked-fronts (bitsCheck map k ∷ [])
+    (by-test (carriesTension k) (λ t. rw t (tension-takes k n s m (omega arith)))
+    (λ t. by-test (carriesSlopes k) (λ u. rw (t, u) (slopes-take k n s m h))
+    (λ u. rw (t, u) (read _ s m (omega arith)))))
 
 -- ---- the fields
-module _ (unnamed : CurveInterpolation) (map n : ℕ) (v : View) (s : List ℕ) (m : ℕ) where
-  master-fronts : 129 + n ≤ m → Fronts n (masterStep map v s) (masterStep map v (take m s))
-  master-fronts h = then-fronts (field-fronts (bit 1 map) 1 n s m h) (λ l t k j. read _ t k j)
+master-takes : (map : ℕ) (v : View) → Takes 129 (masterStep map v)
+master-takes map v n s m h = then-fronts (field-takes (bit 1 map) 1 n s m h) (λ l. read _)
 
-  colour-fronts : (c : Colour) → 129 + n ≤ m
-      → Fronts n (colourStep c map v s) (colourStep c map v (take m s))
-  colour-fronts c h =
-      then-fronts (field-fronts (bit (colourBit c) map) 0 n s m h) (λ l t k j. read _ t k j)
+colour-takes : (c : Colour) (map : ℕ) (v : View) → Takes 129 (colourStep c map v)
+colour-takes c map v n s m h =
+    then-fronts (field-takes (bit (colourBit c) map) 0 n s m h) (λ l. read _)
 
-  kind-fronts : 5 + n ≤ m → Fronts n (kindStep unnamed map v s) (kindStep unnamed map v (take m s))
-  unfolding readKind
-  kind-fronts h =
-      then-fronts
-      (then-fronts (number-fronts unnamed (bit 16 map) (4 + n) s m (omega arith))
-      (λ k t i j. agreed-fronts map k n t i j))
-      (λ k t i j. read _ t i j)
+kind-takes : (map : ℕ) (v : View) → Takes 5 (kindStep default map v)
+unfolding readKind
+kind-takes map v n s m h =
+    then-fronts
+    (then-fronts (number-takes (bit 16 map) (4 + n) s m (omega arith))
+    (λ k. agreed-takes map k n))
+    (λ k. read _)
 
-end-fronts : (v : View) (s : List ℕ) (m : ℕ) → 1 ≤ m → Fronts 0 (endStep v s) (endStep v (take m s))
-end-fronts v s zero h = absurd (omega arith)
-end-fronts v [] (suc m) h = read v [] 0 (omega arith)
-end-fronts v (b ∷ s) (suc m) h = none-read TrailingBytes
+end-takes : (v : View) → Takes 1 (endStep v)
+end-takes v n s zero h = absurd (omega arith)
+end-takes v n [] (suc m) h = read v [] (suc m) (omega arith)
+end-takes v n (b ∷ s) (suc m) h = none-read TrailingBytes
 
-fields-fronts : (unnamed : CurveInterpolation) (map : ℕ) (s : List ℕ) (m : ℕ) → longest ≤ m
-    → Fronts 0 (readFields unnamed map s) (readFields unnamed map (take m s))
+fields-fronts : (map : ℕ) (s : List ℕ) (m : ℕ) → longest ≤ m
+    → Fronts 0 (readFields default map s) (readFields default map (take m s))
 unfolding readFields
-fields-fronts unnamed map s m h =
+fields-fronts map s m h =
     then-fronts
     (then-fronts
     (then-fronts
     (then-fronts
-    (then-fronts (master-fronts unnamed map 393 emptyView s m h)
-    (λ v t k j. colour-fronts unnamed map 264 v t k Red j))
-    (λ v t k j. colour-fronts unnamed map 135 v t k Green j))
-    (λ v t k j. colour-fronts unnamed map 6 v t k Blue j))
-    (λ v t k j. kind-fronts unnamed map 1 v t k j))
-    (λ v t k j. end-fronts v t k j)
+    (then-fronts (master-takes map emptyView 393 s m h) (λ v. colour-takes Red map v 264))
+    (λ v. colour-takes Green map v 135))
+    (λ v. colour-takes Blue map v 6))
+    (λ v. kind-takes map v 1))
+    (λ v. end-takes v 0)
 
 same-result : {n : ℕ} {p q : Parse View} → Fronts n p q → result q ≡ result p
 same-result (read v s m h) = refl
@@ -212,4 +194,4 @@ pub front-tells : (s : List ℕ) (m : ℕ) → longest < m → readRecord (take 
 unfolding readRecord
 front-tells s zero h = absurd (omega arith)
 front-tells [] (suc m) h = refl
-front-tells (b ∷ s) (suc m) h = rw (same-result (fields-fronts default b s m (omega arith)))
+front-tells (b ∷ s) (suc m) h = rw (same-result (fields-fronts b s m (omega arith)))

@@ -2,7 +2,7 @@
 -- and every buffer with room.
 use Prim.Native.Nat.{ℕ, _+_, _-_, _*_, _/_, _%_, _≤_, _<_}
 use native.Mathlib.Omega.{arith}
-use mathlib.Core.Path.{_≡_, refl, sym, ap, subst}
+use mathlib.Core.Path.{_≡_, refl, sym, ap, _∙_}
 use mathlib.Core.List.{List, [], _∷_, _++_, append-assoc}
 use mathlib.Core.Option.{Option, none, some}
 use lib.ListN.{length, take, drop, length-append}
@@ -23,7 +23,7 @@ use Rattle.tables.specs.Kinds.{
   kindBits,
   carriedOf,
 }
-use Rattle.tables.specs.KindLaws.{number-known, kind-carries}
+use Rattle.tables.specs.KindLaws.{number-known, kindWith, carriedFor, kind-carries}
 use Rattle.answers.specs.declared.Answer.the-variants.{Done}
 use Rattle.sets.specs.declared.Curves.{Curves}
 use Rattle.sets.specs.Legal.{LegalList, LegalColour, Legal, legal-view}
@@ -51,12 +51,11 @@ use Rattle.writing.specs.Encode.{
   unsigned16,
   carriedBytes,
   there,
-  mapOf,
   encode,
   writeRecord,
 }
 use Rattle.writing.specs.Cases.{write-done, done-case}
-use Rattle.writing.specs.Lengths.{pairs-length, master-legal}
+use Rattle.writing.specs.Lengths.{pairs-length}
 use Rattle.writing.specs.Map.{map-back}
 
 -- ---- a list
@@ -81,36 +80,24 @@ list-back least l t h enough =
     )
 
 -- ---- a field
--- the list of a field, empty where there is none
+-- the list of a colour, empty where there is none
 abbrev listOr : Option (List Point) → List Point
 listOr none = []
 listOr (some l) = l
 
--- a list that is there has so many points
-abbrev AtLeast : ℕ → Option (List Point) → Type 0
-AtLeast least none = Unit {0}
-AtLeast least (some l) = least ≤ length l
-
-field-back : (least : ℕ) (o : Option (List Point)) (t : List ℕ) → LegalColour o → AtLeast least o
-    → readField (there o) least (fieldBytes o ++ t) ≡ good (listOr o) t
-field-back least none t h enough = refl
-field-back least (some l) t h enough = list-back least l t h enough
+field-back : (o : Option (List Point)) (t : List ℕ) → LegalColour o
+    → readField (there o) 0 (fieldBytes o ++ t) ≡ good (listOr o) t
+field-back none t h = refl
+field-back (some l) t h = list-back 0 l t h (omega arith)
 
 colour-back : (o : Option (List Point)) → colourList (there o) (listOr o) ≡ o
 colour-back none = refl
 colour-back (some l) = refl
 
-any-points : (o : Option (List Point)) → AtLeast 0 o
-any-points none = tt
-any-points (some l) = omega arith
-
-master-back : (l : List Point) → listOr (masterField l) ≡ l
-master-back [] = refl
-master-back (p ∷ l) = refl
-
-master-points : (l : List Point) → AtLeast 1 (masterField l)
-master-points [] = tt
-master-points (p ∷ l) = omega arith
+master-back : (l : List Point) (t : List ℕ) → LegalList l
+    → readField (there (masterField l)) 1 (fieldBytes (masterField l) ++ t) ≡ good l t
+master-back [] t h = refl
+master-back (p ∷ l) t h = list-back 1 (p ∷ l) t h (omega arith)
 
 -- ---- the kind
 sixteen : (n : ℕ) → n % 256 + n / 256 * 256 ≡ n
@@ -129,19 +116,18 @@ unfolding readCarried readTension readSlopes
 carried-back k h =
     let c = carriedOf k in
     let n = kindNumber k in
-    by-test (carriesTension n) (λ t. rw t (ap (λ i. good i []) (rw t at (kind-carries k))))
+    let read : readCarried n (carriedBytes k) ≡ good (kindWith n (carriedFor n c)) [] =
+    by-test (carriesTension n) (λ t. rw t)
     (λ t. by-test (carriesSlopes n)
-    (λ u.
-    rw (t, u, slope-back (c .start) (h .start), slope-back (c .end) (h .end))
-    (ap (λ i. good i []) (rw (t, u) at (kind-carries k))))
-    (λ u. rw (t, u) (ap (λ i. good i []) (rw (t, u) at (kind-carries k)))))
+    (λ u. rw (t, u, slope-back (c .start) (h .start), slope-back (c .end) (h .end)))
+    (λ u. rw (t, u))) in
+    read ∙ ap (λ i. good i []) (kind-carries k)
 
 -- the kind of number n, where bits 5 and 6 agree with it
 agreed-back : (k : CurveInterpolation) (m n : ℕ) → LegalKind k → n ≡ kindNumber k
     → carriedBits m ≡ kindBits (kindNumber k) → readAgreed m n (carriedBytes k) ≡ good k []
 agreed-back k m n h e carried =
-    subst (λ (i : ℕ). readAgreed m i (carriedBytes k) ≡ good k []) (sym e)
-    (rw (eq-eqb (carriedBits m) (kindBits (kindNumber k)) carried) (carried-back k h))
+    rw (e, eq-eqb (carriedBits m) (kindBits (kindNumber k)) carried) (carried-back k h)
 
 kind-back : (k : CurveInterpolation) (m : ℕ) → LegalKind k → bit 16 m ≡ namesKind k
     → carriedBits m ≡ kindBits (kindNumber k)
@@ -162,26 +148,25 @@ pub round-trip : (v : View) → Legal v → LegalKind (v .kind)
     → readRecord (encode v) ≡ record { answer = Done; set = v }
 unfolding readRecord encode readFields
 round-trip v h legal =
-    let m = masterField (v .master) in
-    let k = kindBytes (v .kind) ++ carriedBytes (v .kind) in
-    let map = map-back m (v .red) (v .green) (v .blue) (v .kind) in
+    let master = masterField (v .master) in
+    let red = fieldBytes (v .red) in
+    let green = fieldBytes (v .green) in
+    let blue = fieldBytes (v .blue) in
+    let kind = kindBytes (v .kind) in
+    let carried = carriedBytes (v .kind) in
+    let map = map-back master (v .red) (v .green) (v .blue) (v .kind) in
     rw (
       map .reserved,
-      regroup (fieldBytes m) (fieldBytes (v .red)) (fieldBytes (v .green)) (fieldBytes (v .blue))
-          (kindBytes (v .kind)) (carriedBytes (v .kind)),
+      regroup (fieldBytes master) red green blue kind carried,
       map .master,
-      field-back 1 m (fieldBytes (v .red) ++ (fieldBytes (v .green) ++ (fieldBytes (v .blue) ++ k)))
-          (master-legal (v .master) (h .master)) (master-points (v .master)),
+      master-back (v .master) (red ++ (green ++ (blue ++ (kind ++ carried)))) (h .master),
       map .red,
-      field-back 0 (v .red) (fieldBytes (v .green) ++ (fieldBytes (v .blue) ++ k)) (h .red)
-          (any-points (v .red)),
+      field-back (v .red) (green ++ (blue ++ (kind ++ carried))) (h .red),
       map .green,
-      field-back 0 (v .green) (fieldBytes (v .blue) ++ k) (h .green) (any-points (v .green)),
+      field-back (v .green) (blue ++ (kind ++ carried)) (h .green),
       map .blue,
-      field-back 0 (v .blue) k (h .blue) (any-points (v .blue)),
-      kind-back (v .kind) (mapOf m (v .red) (v .green) (v .blue) (v .kind)) legal (map .kind)
-          (map .carried),
-      master-back (v .master),
+      field-back (v .blue) (kind ++ carried) (h .blue),
+      kind-back (v .kind) _ legal (map .kind) (map .carried),
       colour-back (v .red),
       colour-back (v .green),
       colour-back (v .blue),

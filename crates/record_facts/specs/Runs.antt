@@ -21,7 +21,7 @@ use Rattle.writing.specs.declared.Written.{Written}
 use Rattle.writing.specs.Encode.{Write, encode}
 use Rattle.writing.specs.Cases.{write-answer, write-done, done-case}
 use Rattle.writing.specs.Contracts.{WriteRecordCall}
-use Rattle.record_facts.specs.ReadLegal.{AllBytes}
+use Rattle.record_facts.specs.Found.{AllBytes}
 use Rattle.record_facts.specs.Canonical.{namesDefault, same-written, accepted-is}
 use Rattle.record_facts.specs.NotLonger.{not-longer}
 use Rattle.record_facts.specs.Room.{longest-suffices, never-thirteen}

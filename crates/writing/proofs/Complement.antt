@@ -3,7 +3,7 @@
 use Prim.Native.Nat.{ℕ, suc, _-_, _≤_, _<_}
 use native.Mathlib.Omega.{arith}
 use mathlib.Core.Path.{_≡_, refl, sym, ap, _∙_}
-use mathlib.Core.Bool.{true, false}
+use mathlib.Core.Bool.{true, false, true≢false}
 use lib.Dec.{T}
 use lib.IntN.{ℤ, pos, negsuc, _-ℤ_, natAbs}
 use lib.Signed.{ltZ, nonNeg, mag}
@@ -19,7 +19,7 @@ negative (negsuc n) t = refl
 
 positive : (v : ℤ) → ltZ v (pos 0) ≡ false → v ≡ pos (mag v)
 positive (pos n) t = refl
-positive (negsuc n) t = let z : _≡_ {A = ℕ} 0 1 = cc in absurd (omega arith)
+positive (negsuc n) t = absurd (true≢false t)
 
 minus : (n : ℕ) → negsuc 0 -ℤ negsuc n ≡ pos n
 minus n =
@@ -33,6 +33,9 @@ module _ (v : ℤ) (fits : SFits w16 v) where
   -- what the code reads is v
   same : read ≡ v
   same = toZ-ofZ fits
+
+  small : mag v < 32768
+  small = fits .sfits
 
   module _ (t : ltZ read (pos 0) ≡ true) where
     is-negative : v ≡ negsuc (mag v)
@@ -49,10 +52,10 @@ module _ (v : ℤ) (fits : SFits w16 v) where
 
     pub minus-casts : T (nonNeg (toZ w16 (ofZ w16 (negsuc 0 -ℤ read))))
         × Fits w16 (natAbs (toZ w16 (ofZ w16 (negsuc 0 -ℤ read))))
-    minus-casts = let small : mag v < 32768 = fits .sfits in rw minus-is (tt, record { fits = omega arith })
+    minus-casts = rw minus-is (tt, record { fits = omega (arith, small) })
 
     pub minus-below : natAbs (toZ w16 (ofZ w16 (negsuc 0 -ℤ read))) ≤ 65535
-    minus-below = let small : mag v < 32768 = fits .sfits in rw minus-is (omega arith)
+    minus-below = rw minus-is (omega (arith, small))
 
     pub minus-gives : 65535 - natAbs (toZ w16 (ofZ w16 (negsuc 0 -ℤ read))) ≡ unsigned16 v
     minus-gives = rw minus-is (sym (ap unsigned16 is-negative))
@@ -62,7 +65,7 @@ module _ (v : ℤ) (fits : SFits w16 v) where
     is-positive = positive v (rw same at t)
 
     pub plus-casts : T (nonNeg read) × Fits w16 (natAbs read)
-    plus-casts = let small : mag v < 32768 = fits .sfits in rw (same, is-positive) (tt, record { fits = omega arith })
+    plus-casts = rw (same, is-positive) (tt, record { fits = omega (arith, small) })
 
     pub plus-gives : natAbs read ≡ unsigned16 v
     plus-gives = rw same (ap natAbs is-positive ∙ sym (ap unsigned16 is-positive))

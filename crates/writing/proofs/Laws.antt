@@ -13,8 +13,8 @@ use lib.Seq.{take-suc-set, take-suc, length-take-le, getD-take}
 use borrow.Author.Tests.{ne-eqb}
 use Rattle.answers.specs.declared.Answer.{Answer}
 use Rattle.answers.specs.declared.Answer.the-variants.{Done}
-use Rattle.answers.specs.Numbers.{isDone, told-done}
-use Rattle.answers.specs.Checks.{firstRefusal, roomCheck, first-stops, first-goes-on}
+use Rattle.answers.specs.Numbers.{isDone}
+use Rattle.answers.specs.Checks.{Check, firstRefusal, roomCheck, first-stops, first-goes-on}
 use Rattle.lists.specs.Tabulate.{tabulate, is-tabulate}
 use Rattle.lists.specs.Test.{by-test}
 use Rattle.points.specs.declared.Point.{Point}
@@ -28,7 +28,6 @@ use Rattle.writing.specs.declared.Draft.{Draft}
 use Rattle.writing.specs.declared.Written.{Written}
 use Rattle.writing.specs.Encode.{
   pairBytes,
-  fieldBytes,
   masterField,
   oneIf,
   bitsUnder,
@@ -94,16 +93,6 @@ room-rest a b r p = record { room = omega (arith, simp length-append at (r .room
 pub holds : {bs : List ℕ} {d r : Draft} → Appended bs d r → d .length ≡ 0 → ListN.length bs ≤ longest → Holds bs r
 holds p start few = record { bytes = p .bytes ∙ rw start; length = omega arith; fits = omega arith }
 
--- ---- a list as a field
-module _ (m : Channel) (t : m .present ≡ true) (e : channelAnswer m ≡ Done) where
-  pub present-count : m .curve .count ≤ 64
-  unfolding channelAnswer curveAnswer
-  present-count = passed-count (m .curve) (rw t at e)
-
-  pub present-bytes : ListN.length (m .curve .points) ≡ 64
-      → m .curve .count ∷ pairBytes (listOf (m .curve)) ≡ fieldBytes (channelOf m)
-  present-bytes long = rw (t, length-take-le (m .curve .count) (m .curve .points) (omega (arith, present-count)))
-
 pub there-channel : (m : Channel) → m .present ≡ there (channelOf m)
 there-channel m = by-test (m .present) (λ t. rw t) (λ t. rw t)
 
@@ -144,42 +133,40 @@ unfolding byteAt
 front-tabulated n bytes h = sym (is-tabulate 0 (length-take-le n bytes h) (λ k lt. getD-take n bytes k 0 lt))
 
 -- ---- the whole call
--- the check answered a, and the code's test found that a is done
-pub passed : {b : Answer} {d : Bool} (a : Answer) → a ≡ b → d ≡ isDone a → not d ≡ false → b ≡ Done
-passed a e q t = sym e ∙ told-done a q t
-
 module _ (s : Curves) (buffer : List ℕ) where
+  abbrev Refused : Answer → Type 0
+  Refused a = WriteRecordCall s buffer (record { answer = a; length = 0 }) buffer
+
+  -- the check of the room for its record, behind those of its lists
+  abbrev room : List Check
+  room = roomCheck (ListN.length (encode (viewOf s))) (ListN.length buffer) ∷ []
+
+module _ {s : Curves} {buffer : List ℕ} where
   -- from what the definition comes to
   wrote-as : (w : Write) (r : Written) (after : List ℕ) → writeRecord s buffer ≡ w
       → r .answer ≡ w .answer → r .length ≡ w .length → after ≡ w .buffer → (r .answer ≡ Done → Held s)
       → WriteRecordCall s buffer r after
   wrote-as w r after e a l b h = record { answer = rw e a; length = rw e l; buffer = rw e b; held = h }
 
-  pub wrote-refused : (a : Answer) → a ≡ firstRefusal (writeChecks s (ListN.length buffer)) → isDone a ≡ false
-      → WriteRecordCall s buffer (record { answer = a; length = 0 }) buffer
-  wrote-refused a e t =
+  refused : {a : Answer} → a ≡ firstRefusal (writeChecks s (ListN.length buffer)) → isDone a ≡ false
+      → Refused s buffer a
+  refused e t =
       wrote-as _ _ _ (written s buffer e ∙ rw t) refl refl refl (λ done. absurd (false≢true (sym t ∙ ap isDone done)))
 
-  -- the check of the lists refused
-  pub lists-refused : {a : Answer} → a ≡ setAnswer s → isDone a ≡ false
-      → a ≡ firstRefusal (writeChecks s (ListN.length buffer))
+  pub lists-refused : {a : Answer} → a ≡ setAnswer s → isDone a ≡ false → Refused s buffer a
   unfolding setAnswer
-  lists-refused e t =
-      first-stops (setChecks curveChecks s) (roomCheck (ListN.length (encode (viewOf s))) (ListN.length buffer) ∷ []) e
-      t
+  lists-refused e t = refused (first-stops (setChecks curveChecks s) (room s buffer) e t) t
 
   module _ (passed : setAnswer s ≡ Done) {d : Draft} (h : Holds (encode (viewOf s)) d) where
-    -- it passed, and what is left is the room for the draft
-    pub room-asked : {a : Answer} → a ≡ firstRefusal (roomCheck (d .length) (ListN.length buffer) ∷ [])
-        → a ≡ firstRefusal (writeChecks s (ListN.length buffer))
+    pub room-refused : {a : Answer} → a ≡ firstRefusal (roomCheck (d .length) (ListN.length buffer) ∷ [])
+        → isDone a ≡ false → Refused s buffer a
     unfolding setAnswer
-    room-asked e =
-        first-goes-on (setChecks curveChecks s)
-        (roomCheck (ListN.length (encode (viewOf s))) (ListN.length buffer) ∷ []) passed (rw (h .length) at e)
+    room-refused e t =
+        refused (first-goes-on (setChecks curveChecks s) (room s buffer) passed (rw (h .length) at e)) t
 
     pub wrote-done : {a : Answer} {after : List ℕ} → a ≡ Done → d .length ≤ ListN.length buffer
         → after ≡ bytesMade d ++ drop (d .length) buffer → Held s
         → WriteRecordCall s buffer (record { answer = a; length = d .length }) after
-    wrote-done is room e held =
+    wrote-done is enough e held =
         wrote-as _ _ _ (write-done s buffer passed (omega arith)) is (h .length) (e ∙ rw (h .bytes, h .length))
         (λ done. held)

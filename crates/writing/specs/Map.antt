@@ -1,14 +1,11 @@
--- The bit map: what the reader finds in it is what the writer put there. One law,
--- `mark-back`, gives every mark.
-use Prim.Native.Nat.{ℕ, _+_, _*_, _/_, _%_, _^_, _≤_}
-use native.Mathlib.Nat.{div-one, div-div-eq-div-mul, pow-succ'}
+-- The bit map: what the reader finds in it is what the writer put there.
+use Prim.Native.Nat.{ℕ, _/_, _%_, _≤_}
 use native.Mathlib.Omega.{arith}
 use mathlib.Core.Path.{_≡_}
-use mathlib.Core.List.{List, [], _∷_}
+use mathlib.Core.List.{List}
 use mathlib.Core.Bool.{Bool, false}
 use mathlib.Core.Option.{Option}
-use lib.ListN.{length}
-use lib.Dec.{eqb, lit≤}
+use lib.Dec.{lit≤}
 use Rattle.lists.specs.Test.{by-test}
 use Rattle.points.specs.declared.Point.{Point}
 use Rattle.tables.specs.declared.CurveInterpolation.{CurveInterpolation}
@@ -16,31 +13,12 @@ use Rattle.tables.specs.Kinds.{kindNumber, carriesTension, carriesSlopes, kindB
 use Rattle.records.specs.Map.{bit, carriedBits}
 use Rattle.writing.specs.Encode.{namesKind, oneIf, bitsUnder, there, mapOf}
 
--- ---- what is above a list of marks, and each mark
-module _ (b : Bool) (n : ℕ) where
-  halved : (oneIf b + 2 * n) / 2 ≡ n
-  halved = by-test b (λ t. rw t (omega arith)) (λ t. rw t (omega arith))
+-- ---- a mark is a digit of the map
+one-at-most : (b : Bool) → oneIf b ≤ 1
+one-at-most b = by-test b (λ t. rw t (lit≤ tt)) (λ t. rw t (lit≤ tt))
 
-  lowest : eqb ((oneIf b + 2 * n) % 2) 1 ≡ b
-  lowest =
-      by-test b (λ t. let one : (1 + 2 * n) % 2 ≡ 1 = omega arith in rw (t, one))
-      (λ t. let no : (0 + 2 * n) % 2 ≡ 0 = omega arith in rw (t, no))
-
-marks-under : (above : ℕ) (bs : List Bool) → bitsUnder above bs / 2 ^ length bs ≡ above
-unfolding bitsUnder
-marks-under above [] = div-one above
-marks-under above (b ∷ bs) =
-    rw (
-      pow-succ' 2 (length bs),
-      ← div-div-eq-div-mul (oneIf b + 2 * bitsUnder above bs) 2 (2 ^ length bs),
-      halved b (bitsUnder above bs),
-    )
-    (marks-under above bs)
-
--- the mark behind bs
-mark-back : (above : ℕ) (bs : List Bool) (b : Bool)
-    → bit (2 ^ length bs) (bitsUnder (oneIf b + 2 * above) bs) ≡ b
-mark-back above bs b = rw (marks-under (oneIf b + 2 * above) bs) (lowest b above)
+mark-is : (w map : ℕ) (b : Bool) → map / w % 2 ≡ oneIf b → bit w map ≡ b
+mark-is w map b e = rw e (by-test b (λ t. rw t) (λ t. rw t))
 
 pub carried-small : (n : ℕ) → kindBits n ≤ 2
 carried-small n =
@@ -61,17 +39,20 @@ module _ (m r g b : Option (List Point)) (k : CurveInterpolation) where
   pub map-back : MapBack
   unfolding bitsUnder
   map-back =
-      let n = namesKind k in
-      let c = kindBits (kindNumber k) in
-      let high : mapOf m r g b k / 32 ≡ c =
-      marks-under c (there m ∷ there r ∷ there g ∷ there b ∷ n ∷ []) in
-      let none : mapOf m r g b k / 128 % 2 ≡ 0 = omega (arith, carried-small (kindNumber k)) in
+      let m≤1 = one-at-most (there m) in
+      let r≤1 = one-at-most (there r) in
+      let g≤1 = one-at-most (there g) in
+      let b≤1 = one-at-most (there b) in
+      let k≤1 = one-at-most (namesKind k) in
+      let map = mapOf m r g b k in
+      let above = carried-small (kindNumber k) in
+      let none : map / 128 % 2 ≡ 0 = omega arith in
       record {
-        master = mark-back (bitsUnder c (there r ∷ there g ∷ there b ∷ n ∷ [])) [] (there m);
-        red = mark-back (bitsUnder c (there g ∷ there b ∷ n ∷ [])) (there m ∷ []) (there r);
-        green = mark-back (bitsUnder c (there b ∷ n ∷ [])) (there m ∷ there r ∷ []) (there g);
-        blue = mark-back (bitsUnder c (n ∷ [])) (there m ∷ there r ∷ there g ∷ []) (there b);
-        kind = mark-back c (there m ∷ there r ∷ there g ∷ there b ∷ []) n;
-        carried = rw high (omega (arith, carried-small (kindNumber k)));
+        master = mark-is 1 map (there m) (omega arith);
+        red = mark-is 2 map (there r) (omega arith);
+        green = mark-is 4 map (there g) (omega arith);
+        blue = mark-is 8 map (there b) (omega arith);
+        kind = mark-is 16 map (namesKind k) (omega arith);
+        carried = omega arith;
         reserved = rw none;
       }

@@ -3,27 +3,17 @@ use Prim.Native.Nat.{_≤_}
 use native.Mathlib.Omega.{arith}
 use Rattle.writing.specs.Map.{carried-small}
 use Rattle.writing.proofs.Laws.{there-channel, map-sum}
-use borrow.Author.Needs.{needs}
 use Rattle.writing.proofs.map_byte.Statement.{statement}
 use Rattle.writing.proofs.map_byte.Tie as tie
 
+few : (c : tie.After-kind-bits) → c .kind-bits .result ≤ 2
+few c = rw (c .kind-bits .ensures) (carried-small (c .before .number .result))
+
 mul-result : tie.Need-mul-result
-mul-result c =
-    let few : c .kind-bits .result ≤ 2 = rw (c .kind-bits .ensures) (carried-small (c .before .number .result)) in
-    search needs
+mul-result c = omega (arith, few c)
 
 add-result-5 : tie.Need-add-result-5
-add-result-5 c =
-    let few : c .kind-bits .result ≤ 2 = rw (c .kind-bits .ensures) (carried-small (c .before .number .result)) in
-    let m = c .before .before in
-    omega (
-      arith,
-      m .mark5 .ensures .1,
-      m .before .before .mark4 .ensures .1,
-      m .before .before .before .mark3 .ensures .1,
-      m .before .before .before .before .mark2 .ensures .1,
-      m .before .before .before .before .before .mark .ensures .1,
-    )
+add-result-5 c = omega (arith, few c)
 
 returns : tie.Need-returns
 returns c =

@@ -26,44 +26,30 @@ passes m = passed-set (m .before .args .set) (m .before .pre)
 field-requires : tie.Need-field-requires
 field-requires c κs =
     let m = c .before .before .before in
-    let f = lengths m in
-    (m .master-field .ensures .1, record { room = omega arith })
+    (m .master-field .ensures .1, record { room = omega (arith, lengths m) })
 
 field-requires-2 : tie.Need-field-requires-2
 field-requires-2 c κs =
     let m = c .before .before .before .before in
-    let f = lengths m in
-    (passes m .red, record { room = omega arith })
+    (passes m .red, record { room = omega (arith, lengths m) })
 
 field-requires-3 : tie.Need-field-requires-3
 field-requires-3 c κs =
     let m = c .before .before .before .before .before in
-    let f = lengths m in
-    (passes m .green, record { room = omega arith })
+    (passes m .green, record { room = omega (arith, lengths m) })
 
 field-requires-4 : tie.Need-field-requires-4
 field-requires-4 c κs =
     let m = c .before .before .before .before .before .before in
-    let f = lengths m in
-    (passes m .blue, record { room = omega arith })
+    (passes m .blue, record { room = omega (arith, lengths m) })
 
 kind-requires : tie.Need-kind-requires
-kind-requires c κs = let f = lengths (c .before .before .before .before .before .before .before) in
-    record { room = omega arith }
+kind-requires c κs =
+    record { room = omega (arith, lengths (c .before .before .before .before .before .before .before)) }
 
 carried-requires : tie.Need-carried-requires
 carried-requires c κs =
-    let p = c .before .before .before .before in
-    let f = lengths (p .before .before .before .before) in
-    record {
-      room = omega (
-        arith,
-        c .before .before .before .field2 .ensures .length,
-        p .field .ensures .length,
-        p .before .push .ensures .length,
-        p .before .before .before .new .ensures,
-      );
-    }
+    record { room = omega (arith, lengths (c .before .before .before .before .before .before .before .before)) }
 
 returns : tie.Need-returns
 unfolding encode

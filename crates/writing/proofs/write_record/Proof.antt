@@ -9,17 +9,14 @@ use Rattle.answers.specs.Checks.{has-room}
 use Rattle.points.specs.Owned.{length-told}
 use Rattle.sets.specs.Sets.{setAnswer}
 use Rattle.sets.specs.SameLaws.{Full}
-use Rattle.writing.proofs.Laws.{wrote-refused, lists-refused, room-asked, wrote-done}
+use Rattle.writing.proofs.Laws.{lists-refused, room-refused, wrote-done}
 use Rattle.writing.proofs.write_record.Statement.{statement}
 use Rattle.writing.proofs.write_record.Tie as tie
 
 returns : tie.Need-returns
 returns c =
     let k = c .before .before in
-    let a = k .before .before .args in
-    let no = told-refused (k .check .result) (c .before .is-done .ensures) (c .if1 .taken) in
-    wrote-refused (a .set) (a .buffer .now) (k .check .result)
-    (lists-refused (a .set) (a .buffer .now) (k .check .ensures) no) no
+    lists-refused (k .check .ensures) (told-refused (k .check .result) (c .before .is-done .ensures) (c .if1 .taken))
 
 -- the lists have passed
 passed : (c : tie.Else1) → setAnswer (c .before .before .before .before .args .set) ≡ Done
@@ -30,10 +27,7 @@ passed c =
 returns-2 : tie.Need-returns-2
 returns-2 c =
     let r = c .before .before in
-    let k = r .before .before in
-    let a = k .before .before .before .before .args in
-    wrote-refused (a .set) (a .buffer .now) (r .room-for .result)
-    (room-asked (a .set) (a .buffer .now) (passed k) (r .before .record-of .ensures .0) (r .room-for .ensures))
+    room-refused (passed (r .before .before)) (r .before .record-of .ensures .0) (r .room-for .ensures)
     (told-refused (r .room-for .result) (c .before .is-done2 .ensures) (c .if2 .taken))
 
 -- there is room
@@ -61,7 +55,7 @@ returns-3 c =
       green = search (own .1 .1 .0 .1 .1 .1 .0, length-told);
       blue = search (own .1 .1 .1 .0 .1 .1 .1 .0, length-told);
     } in
-    wrote-done (a .set) (a .buffer .now) (passed k) (r .record-of .ensures .0) (accepted e) (fits e)
+    wrote-done (passed k) (r .record-of .ensures .0) (accepted e) (fits e)
     (c .before .before .copy-out .ensures)
     (record { full = full; kind = r .record-of .ensures .1 })
 

@@ -1,50 +1,59 @@
 -- `Draft::field`: the count and the points of a list that is present; nothing
 -- else of one that is absent.
+use Prim.Native.Nat.{_≤_}
+use native.Mathlib.Omega.{arith}
 use mathlib.Core.Path.{_≡_}
 use mathlib.Core.List.{[], _∷_}
 use lib.ListN.{length}
+use lib.Seq.{length-take-le}
+use Rattle.points.specs.Points.{listOf}
 use Rattle.points.specs.Owned.{length-told}
+use Rattle.sets.specs.Sets.{channelOf, curveAnswer, channelAnswer}
+use Rattle.sets.specs.Legal.{passed-count}
+use Rattle.writing.specs.Encode.{pairBytes, fieldBytes}
+use Rattle.writing.specs.Contracts.{Room}
 use Rattle.writing.proofs.Laws.{
   appended-none,
   appended-then,
   appended-as,
   room-first,
   room-rest,
-  present-count,
-  present-bytes,
 }
 use borrow.Author.Needs.{needs}
 use Rattle.writing.proofs.Draft.field.Statement.{statement}
 use Rattle.writing.proofs.Draft.field.Tie as tie
 
+-- a list that is present: few points, and room for its count and them
+module _ (c : tie.Then1) where
+  few : c .before .args .channel .curve .count ≤ 64
+  unfolding channelAnswer curveAnswer
+  few = passed-count (c .before .args .channel .curve) (rw (c .if1 .taken) at (c .before .pre .0))
+
+  bytes : let m = c .before .args .channel in
+      m .curve .count ∷ pairBytes (listOf (m .curve)) ≡ fieldBytes (channelOf m)
+  bytes =
+      let m = c .before .args .channel .curve in
+      let long : length (m .points) ≡ 64 = search (needs, length-told) in
+      rw (c .if1 .taken, length-take-le (m .count) (m .points) (omega (arith, few)))
+
+  room : let s = c .before .args in
+      Room (s .channel .curve .count ∷ pairBytes (listOf (s .channel .curve))) (s .self)
+  room = rw bytes (c .before .pre .1)
+
 cast-push : tie.Need-cast-push
-cast-push c =
-    let few = present-count (c .before .before .args .channel) (c .before .if1 .taken) (c .before .before .pre .0) in
-    search needs
+cast-push c = omega (arith, few (c .before))
 
 push-requires : tie.Need-push-requires
-push-requires c κs =
-    let m = c .before .before .args .channel in
-    let long : length (m .curve .points) ≡ 64 = search (needs, length-told) in
-    room-first (m .curve .count ∷ []) _
-    (rw (← present-bytes m (c .before .if1 .taken) (c .before .before .pre .0) long) at (c .before .before .pre .1))
+push-requires c κs = room-first (_ ∷ []) _ (room (c .before))
 
 pairs-requires : tie.Need-pairs-requires
 pairs-requires c κs =
-    let s = c .before .before .before in
-    let m = s .args .channel in
-    let long : length (m .curve .points) ≡ 64 = search (needs, length-told) in
-    let room = rw (← present-bytes m (c .before .before .if1 .taken) (s .pre .0) long) at (s .pre .1) in (
-      present-count m (c .before .before .if1 .taken) (s .pre .0),
-      room-rest (m .curve .count ∷ []) _ room (c .push .ensures),
-    )
+    let t = c .before .before in
+    (few t, room-rest (_ ∷ []) _ (room t) (c .push .ensures))
 
 returns : tie.Need-returns
 returns c =
-    let s = c .before .before .before .before in
-    let long : length (s .args .channel .curve .points) ≡ 64 = search (needs, length-told) in
-    appended-as (appended-then (c .before .push .ensures) (c .pairs .ensures))
-    (present-bytes (s .args .channel) (c .before .before .before .if1 .taken) (s .pre .0) long)
+    appended-as (appended-then (c .before .push .ensures) (c .pairs .ensures)) (bytes (c .before .before .before))
 
 returns-2 : tie.Need-returns-2
 returns-2 c = rw (c .if1 .left) appended-none

@@ -23,20 +23,24 @@ Inv-loop curve n bytes₀ at₀ i₀ bytes at i =
 abbrev μ-loop : tie.MeasureT-loop
 μ-loop curve n bytes₀ at₀ i₀ bytes at i = n - i
 
+-- the list has as many points as its count
+listed : (s : tie.Start Inv-loop μ-loop) → length (listOf (s .args .t2)) ≡ s .args .t2 .count
+listed s =
+    let long : length (s .args .t2 .points) ≡ 64 = search (needs, length-told) in
+    length-take-le (s .args .t2 .count) (s .args .t2 .points) (omega arith)
+
 loop-holds : tie.Need-loop-holds Inv-loop μ-loop
 unfolding pairBytes
 loop-holds c =
-    let a = c .before .args .t2 in
-    let long : length (a .points) ≡ 64 = search (needs, length-told) in
-    let n : length (listOf a) ≡ a .count = length-take-le (a .count) (a .points) (omega arith) in
-    (search needs, search needs, omega (arith, pairs-length (listOf a)), search needs, appended-none)
+    let n = listed (c .before) in
+    let all = pairs-length (listOf (c .before .args .t2)) in
+    (search needs, search needs, omega arith, search needs, appended-none)
 
 loop-again : tie.Need-loop-again Inv-loop μ-loop
 loop-again c =
     let b = c .before .before in
     let a = b .before .before .args .t2 in
-    let long : length (a .points) ≡ 64 = search (needs, length-told) in
-    let n : length (listOf a) ≡ a .count = length-take-le (a .count) (a .points) (omega arith) in
+    let n = listed (b .before .before) in
     let next =
     rw (getD-take (a .count) (a .points) (b .loop .i) (pt 0 0) (omega arith)) at
     (pairs-next (listOf a) (b .loop .i) (omega arith)) in (
@@ -50,9 +54,8 @@ loop-again c =
 returns : tie.Need-returns Inv-loop μ-loop
 returns c =
     let b = c .before in
-    let a = b .before .before .args .t2 in
-    let long : length (a .points) ≡ 64 = search (needs, length-told) in
-    let all : length (listOf a) ≡ b .loop .i = length-take-le (a .count) (a .points) (omega arith) ∙ omega arith in
+    let s = b .before .before in
+    let all : length (listOf (s .args .t2)) ≡ b .loop .i = listed s ∙ omega arith in
     rw (← all, take-length) at (b .loop .inv .4)
 
 pub pairs-spec : {M : Type 1} → statement M
