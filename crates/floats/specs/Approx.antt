@@ -36,17 +36,17 @@ pub approx-is : (x : Float) (r : Frac) → IsF x r → Approx 0 x r
 approx-is x r h = record {
   fin = h .0;
   near = (
-    le→up 0 u⁻¹ (top x) (bot x) (den x) (r .p) (r .n) (r .c) (is→le x (r .p) (r .n) (r .c) h),
-    le→up 0 u⁻¹ (r .p) (r .n) (r .c) (top x) (bot x) (den x) (is→ge x (r .p) (r .n) (r .c) h),
+    le→up 0 u⁻¹ _ _ _ (r .p) (r .n) (r .c) (is→le x (r .p) (r .n) (r .c) h),
+    le→up 0 u⁻¹ (r .p) (r .n) (r .c) _ _ _ (is→ge x (r .p) (r .n) (r .c) h),
   );
 }
 
 pub approx-more : (i j : ℕ) (x : Float) (r : Frac) → i ≤ j → Approx i x r → Approx j x r
-approx-more i j x r l h = record { fin = h .fin; near = close-more i j u⁻¹ (val x) r l (h .near) }
+approx-more i j x r l h = record { fin = h .fin; near = close-more i j u⁻¹ _ r l (h .near) }
 
 -- ---- one rounding
 size-twice : (b : ℕ) → 0 < b → 2 ^ size b ≤ 2 * b
-size-twice b B = go (size b) (size-lt b) (size-reaches b)
+size-twice b B = go _ (size-lt b) (size-reaches b)
   where
     go : (k : ℕ) → b < 2 ^ k → ((j : ℕ) → j < k → 2 ^ j ≤ b) → 2 ^ k ≤ 2 * b
     go zero h reach = omega arith
@@ -60,8 +60,8 @@ rounds-by z r b B L C s q =
     let c = rounds-close z r b k (size-le b 127 L) C (size-lt b) s q in
     record {
       fin = c .0;
-      near = close-cut 2 b u⁻¹ (val z) r (lit< tt)
-          (close-more (2 ^ k) (2 * b) (2 ^ 25) (val z) r (size-twice b B) (c .1));
+      near = close-cut 2 b u⁻¹ _ r (lit< tt)
+          (close-more (2 ^ k) (2 * b) _ _ r (size-twice b B) (c .1));
     }
 
 -- z is q rounded, and q is near r, which is at most b in size
@@ -70,28 +70,24 @@ pub rounds-approx : (z : Float) (q r : Frac) (i b : ℕ) → Ok q → Ok r → i
     → Approx (b + 1 + i) z r
 rounds-approx z q r i b Q R l L s h a =
     let w = rounds-by z q (b + 1) (omega arith) L Q (size-close i u⁻¹ b q r (lit< tt) R l s h) a in
-    record { fin = w .fin; near = close-through (b + 1) i u⁻¹ (val z) q r Q (w .near) h }
+    record { fin = w .fin; near = close-through (b + 1) i u⁻¹ _ q r Q (w .near) h }
 
 -- ---- the operations
 pub add-approx : (i j b : ℕ) (x y : Float) (r q : Frac) → Ok r → Ok q → i + j ≤ u⁻¹
     → b + 1 < 2 ^ 127 → Size b (plus r q)
     → Approx i x r → Approx j y q → Approx (b + 1 + (i + j)) (x ⊕ y) (plus r q)
 add-approx i j b x y r q R Q l L s h g =
-    rounds-approx (x ⊕ y) (plus (val x) (val y)) (plus r q) (i + j) b
-    (mul-pos (den-pos x) (den-pos y)) (mul-pos R Q) l L s
-    (close-plus i j u⁻¹ (val x) r (val y) q (h .near) (g .near))
-    (add-rounds binary32 x y (top x) (bot x) (den x) (top y) (bot y) (den y) (den-pos x) (den-pos y)
-    (own x (h .fin)) (own y (g .fin)))
+    rounds-approx (x ⊕ y) _ _ (i + j) b (mul-pos (den-pos x) (den-pos y)) (mul-pos R Q) l L s
+    (close-plus i j u⁻¹ _ r _ q (h .near) (g .near))
+    (add-rounds _ x y _ _ _ _ _ _ (den-pos x) (den-pos y) (own x (h .fin)) (own y (g .fin)))
 
 pub sub-approx : (i j b : ℕ) (x y : Float) (r q : Frac) → Ok r → Ok q → i + j ≤ u⁻¹
     → b + 1 < 2 ^ 127 → Size b (minus r q)
     → Approx i x r → Approx j y q → Approx (b + 1 + (i + j)) (x ⊖ y) (minus r q)
 sub-approx i j b x y r q R Q l L s h g =
-    rounds-approx (x ⊖ y) (minus (val x) (val y)) (minus r q) (i + j) b
-    (mul-pos (den-pos x) (den-pos y)) (mul-pos R Q) l L s
-    (close-minus i j u⁻¹ (val x) r (val y) q (h .near) (g .near))
-    (sub-rounds binary32 x y (top x) (bot x) (den x) (top y) (bot y) (den y) (den-pos x) (den-pos y)
-    (own x (h .fin)) (own y (g .fin)))
+    rounds-approx (x ⊖ y) _ _ (i + j) b (mul-pos (den-pos x) (den-pos y)) (mul-pos R Q) l L s
+    (close-minus i j u⁻¹ _ r _ q (h .near) (g .near))
+    (sub-rounds _ x y _ _ _ _ _ _ (den-pos x) (den-pos y) (own x (h .fin)) (own y (g .fin)))
 
 -- |r| ≤ a, |q| ≤ b, |r * q| ≤ e
 pub mul-approx : (i j a b e : ℕ) (x y : Float) (r q : Frac) → Ok r → Ok q → j ≤ u⁻¹
@@ -99,20 +95,16 @@ pub mul-approx : (i j a b e : ℕ) (x y : Float) (r q : Frac) → Ok r → Ok q 
     → Size a r → Size b q → Size e (times r q) → Approx i x r → Approx j y q
     → Approx (e + 1 + ((b + 1) * i + a * j)) (x ⊗ y) (times r q)
 mul-approx i j a b e x y r q R Q l m L sa sb se h g =
-    rounds-approx (x ⊗ y) (times (val x) (val y)) (times r q) ((b + 1) * i + a * j) e
-    (mul-pos (den-pos x) (den-pos y)) (mul-pos R Q) m L se
-    (close-times i j u⁻¹ (b + 1) a (val x) r (val y) q R (den-pos y)
-    (size-close j u⁻¹ b (val y) q (lit< tt) Q l sb (g .near)) sa (h .near) (g .near))
-    (mul-rounds binary32 x y (top x) (bot x) (den x) (top y) (bot y) (den y) (den-pos x) (den-pos y)
-    (own x (h .fin)) (own y (g .fin)))
+    rounds-approx (x ⊗ y) _ _ _ e (mul-pos (den-pos x) (den-pos y)) (mul-pos R Q) m L se
+    (close-times i j u⁻¹ (b + 1) a _ r _ q R (den-pos y)
+    (size-close j u⁻¹ b _ q (lit< tt) Q l sb (g .near)) sa (h .near) (g .near))
+    (mul-rounds _ x y _ _ _ _ _ _ (den-pos x) (den-pos y) (own x (h .fin)) (own y (g .fin)))
 
 -- y is q exactly, and i * |q| ≤ j
 pub mul-approx-by : (i j e : ℕ) (x y : Float) (r q : Frac) → Ok r → Ok q → j ≤ u⁻¹ → e + 1 < 2 ^ 127
     → Sized i j q → Size e (times r q)
     → Approx i x r → IsF y q → Approx (e + 1 + j) (x ⊗ y) (times r q)
 mul-approx-by i j e x y r q R Q l L s se h g =
-    rounds-approx (x ⊗ y) (times (val x) q) (times r q) j e (mul-pos (den-pos x) Q) (mul-pos R Q) l
-    L se
-    (close-times-by i j u⁻¹ q (val x) r s (h .near))
-    (mul-rounds binary32 x y (top x) (bot x) (den x) (q .p) (q .n) (q .c) (den-pos x) Q
-    (own x (h .fin)) g)
+    rounds-approx (x ⊗ y) _ _ j e (mul-pos (den-pos x) Q) (mul-pos R Q) l L se
+    (close-times-by i j u⁻¹ q _ r s (h .near))
+    (mul-rounds _ x y _ _ _ (q .p) (q .n) (q .c) (den-pos x) Q (own x (h .fin)) g)

@@ -61,7 +61,7 @@ at-least-zero x p = record { fin = p; unit = lit< tt; least = omega arith }
 pub at-most-more : {a c : ℕ} {x : Float} (b d : ℕ) → 0 < d → a * d ≤ b * c → AtMost a c x
     → AtMost b d x
 at-most-more {a} {c} {x} b d D l h =
-    record { fin = h .fin; unit = D; most = through (num x) a b (den x) c d (h .unit) (h .most) l }
+    record { fin = h .fin; unit = D; most = through _ a b _ c d (h .unit) (h .most) l }
 
 -- ---- rounding
 most-of-le : (x y : Float) (a d : ℕ) → 0 < d → T (unsigned x) → HasValue y false a d → T (le x y)
@@ -75,8 +75,7 @@ most-of-le (fin false m e) y a d D u v h =
     record {
       fin = tt;
       unit = D;
-      most = omega
-          (arith, is-of-le x y (m * up e) 0 (down e) a 0 d (own x tt) (is-of-pos y a d v) h);
+      most = omega (arith, is-of-le x y _ 0 _ a 0 d (own x tt) (is-of-pos y a d v) h);
     }
 
 least-of-le : (x y : Float) (a d : ℕ) → 0 < d → T (unsigned x) → T (finite x) → HasValue y false a d
@@ -89,8 +88,7 @@ least-of-le (fin false m e) y a d D u p v h =
     record {
       fin = tt;
       unit = D;
-      least = omega
-          (arith, is-of-le y x a 0 d (m * up e) 0 (down e) (is-of-pos y a d v) (own x tt) h);
+      least = omega (arith, is-of-le y x a 0 d _ 0 _ (is-of-pos y a d v) (own x tt) h);
     }
 
 pub at-most-neg : {a c : ℕ} {x : Float} → AtMost a c x → AtMost a c (neg x)
@@ -112,8 +110,8 @@ round-at-most f s p c r e C E R h = go s
   where
     plain : AtMost r e (round f false p c)
     plain =
-        most-of-le (round f false p c) (round f false r e) r e E (round-unsigned f p c)
-        (round-rep f false r e E R) (round-mono f p c r e C E h)
+        most-of-le _ _ r e E (round-unsigned f p c) (round-rep f false r e E R)
+        (round-mono f p c r e C E h)
 
     go : (s : Bool) → AtMost r e (round f s p c)
     go false = plain
@@ -127,8 +125,8 @@ round-at-least f s p c r e C E R h = go s
   where
     plain : T (finite (round f false p c)) → AtLeast r e (round f false p c)
     plain q =
-        least-of-le (round f false p c) (round f false r e) r e E (round-unsigned f p c) q
-        (round-rep f false r e E R) (round-mono f r e p c E C h)
+        least-of-le _ _ r e E (round-unsigned f p c) q (round-rep f false r e E R)
+        (round-mono f r e p c E C h)
 
     back : (x : Float) → T (finite (neg x)) → T (finite x)
     back nan q = unfold neg in q
@@ -172,11 +170,9 @@ pub at-most-add : (f : Format) {a c b d : ℕ} {x y : Float} (r e : ℕ) → 0 <
     → (a * d + b * c) * e ≤ r * (c * d) → AtMost r e (add f x y)
 at-most-add f {a} {c} {b} {d} {x} {y} r e E R h g l =
     rw (add-is f x y (h .fin) (g .fin))
-    (sum-at-most f (sign x) (num x * den y) (sign y) (num y * den x) (den x * den y) r e
-    (mul-pos (den-pos x) (den-pos y)) E R
-    (through (num x * den y + num y * den x) (a * d + b * c) r (den x * den y) (c * d) e
-    (mul-pos (h .unit) (g .unit))
-    (plus-le (num x) (den x) a c (num y) (den y) b d (h .most) (g .most)) l))
+    (sum-at-most f _ _ _ _ _ r e (mul-pos (den-pos x) (den-pos y)) E R
+    (through _ _ r _ (c * d) e (mul-pos (h .unit) (g .unit))
+    (plus-le _ _ a c _ _ b d (h .most) (g .most)) l))
 
 pub at-most-sub : (f : Format) {a c b d : ℕ} {x y : Float} (r e : ℕ) → 0 < e → Rep f r e
     → AtMost a c x → AtMost b d y
@@ -199,12 +195,10 @@ at-least-add f {a} {c} {b} {d} {x} {y} r e E R h g z l w =
     let u = den x * den y in
     let is : add f x y ≡ round f (sign x) p u =
     add-is f x y (h .fin) (g .fin)
-    ∙ like-sum f (sign x) (sign y) (num x * den y) (num y * den x) u z in
-    rw is
-    (round-at-least f (sign x) p u r e (mul-pos (den-pos x) (den-pos y)) E R
-    (through r (a * d + b * c) p e (c * d) u (mul-pos (h .unit) (g .unit)) l
-    (plus-le a c (num x) (den x) b d (num y) (den y) (h .least) (g .least)))
-    (rw is at w))
+    ∙ like-sum f _ _ _ _ u z in
+    rw is (round-at-least f _ p u r e (mul-pos (den-pos x) (den-pos y)) E R
+    (through r _ p e (c * d) u (mul-pos (h .unit) (g .unit)) l
+    (plus-le a c _ _ b d _ _ (h .least) (g .least))) (rw is at w))
 
 -- ---- products: the exact bound is a * b / (c * d)
 times-le : (p q a c s t b d : ℕ) → p * c ≤ a * q → s * d ≤ b * t → p * s * (c * d) ≤ a * b * (q * t)
@@ -217,21 +211,18 @@ pub at-most-mul : (f : Format) {a c b d : ℕ} {x y : Float} (r e : ℕ) → 0 <
     → a * b * e ≤ r * (c * d) → AtMost r e (mul f x y)
 at-most-mul f {a} {c} {b} {d} {x} {y} r e E R h g l =
     rw (mul-is f x y (h .fin) (g .fin))
-    (round-at-most f (unlike (sign x) (sign y)) (num x * num y) (den x * den y) r e
-    (mul-pos (den-pos x) (den-pos y)) E R
-    (through (num x * num y) (a * b) r (den x * den y) (c * d) e (mul-pos (h .unit) (g .unit))
-    (times-le (num x) (den x) a c (num y) (den y) b d (h .most) (g .most)) l))
+    (round-at-most f _ _ _ r e (mul-pos (den-pos x) (den-pos y)) E R
+    (through _ (a * b) r _ (c * d) e (mul-pos (h .unit) (g .unit))
+    (times-le _ _ a c _ _ b d (h .most) (g .most)) l))
 
 pub at-least-mul : (f : Format) {a c b d : ℕ} {x y : Float} (r e : ℕ) → 0 < e → Rep f r e
     → AtLeast a c x → AtLeast b d y
     → r * (c * d) ≤ a * b * e → T (finite (mul f x y)) → AtLeast r e (mul f x y)
 at-least-mul f {a} {c} {b} {d} {x} {y} r e E R h g l w =
     let is = mul-is f x y (h .fin) (g .fin) in
-    rw is
-    (round-at-least f (unlike (sign x) (sign y)) (num x * num y) (den x * den y) r e
-    (mul-pos (den-pos x) (den-pos y)) E R
-    (through r (a * b) (num x * num y) e (c * d) (den x * den y) (mul-pos (h .unit) (g .unit)) l
-    (times-le a c (num x) (den x) b d (num y) (den y) (h .least) (g .least))) (rw is at w))
+    rw is (round-at-least f _ _ _ r e (mul-pos (den-pos x) (den-pos y)) E R
+    (through r (a * b) _ e (c * d) _ (mul-pos (h .unit) (g .unit)) l
+    (times-le a c _ _ b d _ _ (h .least) (g .least))) (rw is at w))
 
 -- ---- quotients: the exact bound is a * d / (c * b)
 over-le : (p q a c s t b d : ℕ) → p * c ≤ a * q → b * t ≤ s * d → p * t * (c * b) ≤ a * d * (s * q)
@@ -246,12 +237,11 @@ pub at-most-div : (f : Format) {a c b d : ℕ} {x y : Float} (r e : ℕ) → 0 <
     → AtMost a c x → AtLeast b d y → 0 < b
     → a * d * e ≤ r * (c * b) → AtMost r e (div f x y)
 at-most-div f {a} {c} {b} {d} {x} {y} r e E R h g B l =
-    let N : 0 < num y = first-pos (num y) d (lt-of-lt-of-le (mul-pos B (den-pos y)) (g .least)) in
+    let N : 0 < num y = first-pos _ d (lt-of-lt-of-le (mul-pos B (den-pos y)) (g .least)) in
     rw (div-is f x y (h .fin) N)
-    (round-at-most f (unlike (sign x) (sign y)) (num x * den y) (num y * den x) r e
-    (mul-pos N (den-pos x)) E R
-    (through (num x * den y) (a * d) r (num y * den x) (c * b) e (mul-pos (h .unit) B)
-    (over-le (num x) (den x) a c (num y) (den y) b d (h .most) (g .least)) l))
+    (round-at-most f _ _ _ r e (mul-pos N (den-pos x)) E R
+    (through _ (a * d) r _ (c * b) e (mul-pos (h .unit) B)
+    (over-le _ _ a c _ _ b d (h .most) (g .least)) l))
 
 -- ---- a test of the size: what is not below a guard is at least what the guard is
 pub at-least-guarded : {a c : ℕ} {x guard : Float} → T (finite x) → T (unsigned guard)
@@ -267,8 +257,7 @@ at-least-guarded {a} {c} {x = fin s m k} {guard = fin false n i} p u h e =
     record {
       fin = tt;
       unit = h .unit;
-      least = through a (n * up i) (m * up k) c (down i) (down k) (down-pos i) (h .least)
-          (ltb-false (m * up k * down i) (n * up i * down k) e);
+      least = through a _ _ c _ _ (down-pos i) (h .least) (ltb-false _ _ e);
     }
 
 -- ---- bounds that are whole numbers, in single precision
@@ -283,12 +272,12 @@ whole-least x {n} i =
 pub mul-most : {a b r : ℕ} {x y : Float} → Rep binary32 r 1 → AtMost a 1 x → AtMost b 1 y
     → a * b ≤ r
     → AtMost r 1 (x ⊗ y)
-mul-most {r = r} rep h g l = at-most-mul binary32 r 1 (lit< tt) rep h g (omega arith)
+mul-most {r = r} rep h g l = at-most-mul _ r 1 (lit< tt) rep h g (omega arith)
 
 pub sub-most : {a b r : ℕ} {x y : Float} → Rep binary32 r 1 → AtMost a 1 x → AtMost b 1 y
     → a + b ≤ r
     → AtMost r 1 (x ⊖ y)
-sub-most {r = r} rep h g l = at-most-sub binary32 r 1 (lit< tt) rep h g (omega arith)
+sub-most {r = r} rep h g l = at-most-sub _ r 1 (lit< tt) rep h g (omega arith)
 
 -- ---- a difference from below: n less what is at most a in size
 top-most : {a : ℕ} (x : Float) → AtMost a 1 x → top x ≤ a * den x
@@ -301,7 +290,7 @@ pub sub-least : (x : Float) {y : Float} {n a : ℕ} (b : ℕ) → b + a ≤ n �
     → AtMost a 1 y → AtLeast b 1 (x ⊖ y)
 sub-least x {y} {n} {a} b l s i h =
     let y-is = own y (h .fin) in
-    go (sub-rounds binary32 x y n 0 1 (top y) (bot y) (den y) (lit< tt) (den-pos y) i y-is)
+    go (sub-rounds _ x y n 0 1 _ _ _ (lit< tt) (den-pos y) i y-is)
   where
     u : ℕ
     u = 1 * den y
@@ -311,7 +300,7 @@ sub-least x {y} {n} {a} b l s i h =
         let f = sub-most (rep-whole (n + a) s) (whole-most x i) h (omega arith) .fin in
         let U : 0 < u = omega (arith, den-pos y) in
         let rep = rep-whole b (omega arith) in
-        rw z (round-at-least binary32 t c u b 1 U (lit< tt) rep (omega arith) (rw z at f))
+        rw z (round-at-least _ t c u b 1 U (lit< tt) rep (omega arith) (rw z at f))
 
     go : Rounds binary32 (x ⊖ y) (n * den y + bot y * 1) (0 * den y + top y * 1) u
         → AtLeast b 1 (x ⊖ y)

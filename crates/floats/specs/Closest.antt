@@ -25,7 +25,7 @@ use lib.Ieee.Order.{drop, kept}
 -- how many digits a number has
 pub size-above : (n j : ℕ) → 2 ^ j ≤ n → j < size n
 size-above n j h =
-    lt-of-not-le (λ (g : size n ≤ j). not-le-of-lt (size-lt n) (le-trans (pow-mono g) h))
+    lt-of-not-le (λ g. not-le-of-lt (size-lt n) (le-trans (pow-mono g) h))
 
 -- |a - b|
 abbrev pub gap : ℕ → ℕ → ℕ
@@ -40,7 +40,7 @@ Compared Ordering·gt a b = b < a
 compared : (a b : ℕ) → Compared (compare a b) a b
 compared a b =
     go (compare a b) (leb→le a b) (nleb→lt a b) (eqb→eq a b)
-    (λ (e : a ≡ b). subst (λ (x : ℕ). T (eqb a x)) e (eqb-refl a))
+    (λ e. subst (λ x. T (eqb a x)) e (eqb-refl a))
   where
     go : (o : Ordering) → (T (isLe o) → a ≤ b) → (T (not (isLe o)) → b < a) → (T (isEq o) → a ≡ b)
         → (a ≡ b → T (isEq o)) → Compared o a b
@@ -51,13 +51,13 @@ compared a b =
 -- a is w * b + r
 near-whole : (o : Ordering) (a b w r : ℕ) → Compared o (r * 2) b → w * b + r ≡ a → r < b
     → (nearest w o * b * 2 ≤ a * 2 + b) × (a * 2 ≤ nearest w o * b * 2 + b)
-near-whole Ordering·lt a b w r h e l = (omega arith, omega arith)
+near-whole Ordering·lt a b w r h e l = omega arith
 near-whole Ordering·eq a b w r h e l =
     let up : w % 2 ≤ 1 = omega arith in
     let most : w % 2 * b ≤ 1 * b = mul-le-mul-right b up in
     let sum : (w + w % 2) * b ≡ w * b + w % 2 * b = add-mul w (w % 2) b in
-    (omega arith, omega arith)
-near-whole Ordering·gt a b w r h e l = (omega arith, omega arith)
+    omega arith
+near-whole Ordering·gt a b w r h e l = omega arith
 
 pub closest-near : (a b : ℕ) → 0 < b
     → (closest a b * b * 2 ≤ a * 2 + b) × (a * 2 ≤ closest a b * b * 2 + b)
@@ -70,7 +70,7 @@ half-away : (q a b : ℕ) → (q * b * 2 ≤ a * 2 + b) × (a * 2 ≤ q * b * 2 
 half-away q a b h = omega arith
 
 pub closest-half : (a b : ℕ) → 0 < b → gap (closest a b * b) a * 2 ≤ b
-closest-half a b B = half-away (closest a b) a b (closest-near a b B)
+closest-half a b B = half-away _ a b (closest-near a b B)
 
 -- two multiples of b are at least b apart
 multiples : (q w a b : ℕ) → q < w → b ≤ gap (q * b) a + gap (w * b) a
@@ -84,7 +84,7 @@ others q w a b d = elim (decLe w q) [
 
 pub closest-nearest : (a b w : ℕ) → 0 < b → gap (closest a b * b) a ≤ gap (w * b) a
 closest-nearest a b w B = elim (ℕ-discrete w (closest a b)) [
-  | yes e ↦ le-of-eq (ap (λ (x : ℕ). gap (x * b) a) (sym e))
+  | yes e ↦ le-of-eq (ap (λ x. gap (x * b) a) (sym e))
   | no d ↦
       let h = closest-half a b B in
       let g = others (closest a b) w a b d in
@@ -124,8 +124,7 @@ closest-zero a b B t = elim (ℕ-discrete 0 (closest a b)) [ yes g ↦ sym g | n
     other : (0 ≡ closest a b → ⊥) → ⊥
     other g =
         let even = closest-even a b 0 B g (t ∙ omega arith) in
-        many (closest a b * b) (mul-le-mul-right b (two-of (closest a b) g even))
-        (closest-half a b B) t
+        many _ (mul-le-mul-right b (two-of _ g even)) (closest-half a b B) t
 
 -- ---- two numbers at most a half away are neighbours, and one of them lies between bounds of a / b
 half-next : (q w a b : ℕ) → 0 < b → q < w → gap (q * b) a * 2 ≤ b → gap (w * b) a * 2 ≤ b
@@ -159,7 +158,7 @@ pub kept-le : (p n d : ℕ) → kept p n d ≤ 2 ^ p
 kept-le p n d =
     let u = d * 2 ^ drop p n d in
     le-trans (nearest-le (n / u) (compare (n % u * 2) u))
-    (subst (λ (x : ℕ). x < 2 ^ p) (div-div-eq-div-mul n d (2 ^ drop p n d)) (kept-lt p (n / d)))
+    (subst (λ x. x < 2 ^ p) (div-div-eq-div-mul n d _) (kept-lt p (n / d)))
 
 module _ (p n c : ℕ) (P : 0 < p) (C : 0 < c) where
   abbrev k : ℕ
@@ -169,15 +168,15 @@ module _ (p n c : ℕ) (P : 0 < p) (C : 0 < c) where
   u = c * 2 ^ k
 
   in-steps : (w : ℕ) → w * 2 ^ k * c ≡ w * u
-  in-steps w = mul-assoc w (2 ^ k) c ∙ ap (λ (x : ℕ). w * x) (mul-comm (2 ^ k) c)
+  in-steps w = mul-assoc w (2 ^ k) c ∙ ap (w *_) (mul-comm (2 ^ k) c)
 
   -- where digits are dropped n / c has p digits before the point, counted in steps of 2 ^ k
   leading : 0 < k → 2 ^ (p - 1) * u ≤ n
   leading K =
       let w = n / c in
       let a : 2 ^ (p - 1) * 2 ^ k ≤ w =
-      le-trans (le-of-eq (sym (pow-add 2 (p - 1) k))) (size-reaches w (p - 1 + k) (omega arith)) in
-      le-trans (le-of-eq (sym (in-steps (2 ^ (p - 1))))) (le-div-iff-mul-le C .0 a)
+      le-trans (le-of-eq (sym (pow-add 2 (p - 1) k))) (size-reaches w _ (omega arith)) in
+      le-trans (le-of-eq (sym (in-steps _))) (le-div-iff-mul-le C .0 a)
 
   -- For each such number there is a multiple of 2 ^ k that is no further from n / c, and as far
   -- only where it is the number itself: what is finer than 2 ^ k lies below 2 ^ (p - 1) * 2 ^ k.
@@ -191,11 +190,11 @@ module _ (p n c : ℕ) (P : 0 < p) (C : 0 < c) where
     | yes h ↦
         let w = v * 2 ^ (j - k) in
         let s : 2 ^ j ≡ 2 ^ (j - k) * 2 ^ k =
-        ap (λ (x : ℕ). 2 ^ x) (sym (back j k h)) ∙ pow-add 2 (j - k) k in
+        ap (2 ^_) (sym (back j k h)) ∙ pow-add 2 (j - k) k in
         let e : v * 2 ^ j ≡ w * 2 ^ k =
-        ap (λ (x : ℕ). v * x) s ∙ sym (mul-assoc v (2 ^ (j - k)) (2 ^ k)) in
-        let g : v * 2 ^ j * c ≡ w * u = ap (λ (x : ℕ). x * c) e ∙ in-steps w in
-        (w, le-of-eq (ap (λ (x : ℕ). gap x n) (sym g)), λ _. e)
+        ap (v *_) s ∙ sym (mul-assoc v _ (2 ^ k)) in
+        let g : v * 2 ^ j * c ≡ w * u = ap (_* c) e ∙ in-steps w in
+        (w, le-of-eq (ap (λ x. gap x n) (sym g)), λ _. e)
     | no h ↦
         let f : j < k = lt-of-not-le h in
         let b = 2 ^ (p - 1) in
@@ -235,7 +234,7 @@ module _ (p n c : ℕ) (P : 0 < p) (C : 0 < c) where
       let l : gap (v * 2 ^ j * c) n ≤ gap (s .0 * u) n =
       le-trans (le-of-eq (sym t)) (closest-nearest n u (s .0) positive) in
       let e : gap (s .0 * u) n ≡ gap (v * 2 ^ j * c) n = le-antisymm (s .1) l in
-      closest-even n u (s .0) positive (λ h. d (s .2 e ∙ ap (λ (x : ℕ). x * 2 ^ k) h)) (t ∙ sym e)
+      closest-even n u (s .0) positive (λ h. d (s .2 e ∙ ap (_* 2 ^ k) h)) (t ∙ sym e)
 
   -- another number as near is the next multiple of 2 ^ k, up or down, an odd one
   pub grid-neighbour : (v j : ℕ) → v < 2 ^ p → (v * 2 ^ j ≡ q * 2 ^ k → ⊥)
@@ -247,16 +246,16 @@ module _ (p n c : ℕ) (P : 0 < p) (C : 0 < c) where
       let w = s .0 in
       let e : gap (w * u) n ≡ gap (v * 2 ^ j * c) n =
       le-antisymm (s .1) (le-trans (le-of-eq (sym t)) (closest-nearest n u w positive)) in
-      let other : w ≡ q → ⊥ = λ h. d (s .2 e ∙ ap (λ (x : ℕ). x * 2 ^ k) h) in
+      let other : w ≡ q → ⊥ = λ h. d (s .2 e ∙ ap (_* 2 ^ k) h) in
       let mine : gap (q * u) n * 2 ≤ u = closest-half n u positive in
       let its : gap (w * u) n * 2 ≤ u =
-      le-trans (le-of-eq (ap (λ (x : ℕ). x * 2) (e ∙ sym t))) mine in
+      le-trans (le-of-eq (ap (_* 2) (e ∙ sym t))) mine in
       let digits : n / u < 2 ^ p =
-      subst (λ (x : ℕ). x < 2 ^ p) (div-div-eq-div-mul n c (2 ^ k)) (kept-lt p (n / c)) in
+      subst (λ x. x < 2 ^ p) (div-div-eq-div-mul n c (2 ^ k)) (kept-lt p (n / c)) in
       let under : n < 2 ^ p * u = div-lt-iff-lt-mul positive .0 digits in (
         w,
         s .2 e,
         half-odd q w n u positive other mine its (grid-even v j small d t),
         half-most w n u (2 ^ p) positive its under,
-        λ K. half-least w n u (2 ^ (p - 1)) positive its (leading K),
+        λ K. half-least w n u _ positive its (leading K),
       )

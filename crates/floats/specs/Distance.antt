@@ -46,61 +46,60 @@ module _ (U L a c p n : ℕ) (e : p ≡ n + a) where
   same-side : (X D : ℕ) → X * L ≡ U * D
       → gap (X * c + n * D) (p * D + 0 * c) * L ≡ gap (U * c) (a * L) * D
   same-side X D h =
-      gap-times (X * c + n * D) (p * D + 0 * c) L
+      gap-times _ _ L
       ∙ ap₂ gap first second
-      ∙ gap-cancel (U * c * D) (a * L * D) (n * D * L)
+      ∙ gap-cancel _ _ _
       ∙ sym (gap-times (U * c) (a * L) D)
     where
       first : (X * c + n * D) * L ≡ U * c * D + n * D * L
-      first = omega (arith, ap (λ (x : ℕ). x * c) h)
+      first = omega (arith, ap (_* c) h)
 
       second : (p * D + 0 * c) * L ≡ a * L * D + n * D * L
-      second = omega (arith, ap (λ (x : ℕ). x * D * L) e)
+      second = omega (arith, ap (λ x. x * D * L) e)
 
   other-side : (X D : ℕ) → X * L ≡ U * D
       → gap (0 * c + n * D) (p * D + X * c) * L ≡ (U * c + a * L) * D
-  other-side X D h = ap (λ (x : ℕ). x * L) sum ∙ omega (arith, ap (λ (x : ℕ). x * c) h)
+  other-side X D h = ap (_* L) sum ∙ omega (arith, ap (_* c) h)
     where
       sum : gap (0 * c + n * D) (p * D + X * c) ≡ a * D + X * c
-      sum = let g : p * D ≡ n * D + a * D = ap (λ (x : ℕ). x * D) e ∙ add-mul n a D in omega arith
+      sum = let g : p * D ≡ n * D + a * D = ap (_* D) e ∙ add-mul n a D in omega arith
 
   pub distance-above : (x : Float) → HasValue x false U L
       → distance x p n c * L ≡ gap (U * c) (a * L) * den x
   distance-above nan h = absurd h
   distance-above (inf s) h = absurd h
   distance-above (fin true m k) h = absurd (true≢false (h .0))
-  distance-above (fin false m k) h = same-side (m * up k) (down k) (h .1)
+  distance-above (fin false m k) h = same-side _ _ (h .1)
 
   pub distance-below : (x : Float) → HasValue x true U L
       → distance x p n c * L ≡ (U * c + a * L) * den x
   distance-below nan h = absurd h
   distance-below (inf s) h = absurd h
   distance-below (fin false m k) h = absurd (true≢false (sym (h .0)))
-  distance-below (fin true m k) h = other-side (m * up k) (down k) (h .1)
+  distance-below (fin true m k) h = other-side _ _ (h .1)
 
 -- ---- compared in these parts
 module _ (x y : Float) (p n c i j L : ℕ) (first : distance x p n c * L ≡ i * den x)
     (second : distance y p n c * L ≡ j * den y) where
   pub no-further : 0 < L → i ≤ j → NoFurther x y p n c
-  no-further l h = go (distance x p n c) (den x) (distance y p n c) (den y) first second
+  no-further l h = go (distance x p n c) _ (distance y p n c) _ first second
     where
       go : (d D g G : ℕ) → d * L ≡ i * D → g * L ≡ j * G → d * G ≤ g * D
       go d D g G s t =
           le-of-mul-le-mul-right {k = L}
           (omega (
             arith,
-            ap (λ (x : ℕ). x * G) s,
-            ap (λ (x : ℕ). x * D) t,
+            ap (_* G) s,
+            ap (_* D) t,
             mul-le-mul-right
                 (D * G) h,
           )) l
 
   pub same-parts : AsFar x y p n c → i ≡ j
   same-parts h =
-      go (distance x p n c) (den x) (distance y p n c) (den y) (den-pos x)
-      (den-pos y) first second h
+      go (distance x p n c) _ (distance y p n c) _ (den-pos x) (den-pos y) first second h
     where
       go : (d D g G : ℕ) → 0 < D → 0 < G → d * L ≡ i * D → g * L ≡ j * G → d * G ≡ g * D → i ≡ j
       go d D g G k l s t h =
           eq-of-mul-eq-mul-right (D * G) (mul-pos k l) i j
-          (omega (arith, ap (λ (x : ℕ). x * G) s, ap (λ (x : ℕ). x * D) t, ap (λ (x : ℕ). x * L) h))
+          (omega (arith, ap (_* G) s, ap (_* D) t, ap (_* L) h))

@@ -26,8 +26,7 @@ use Rattle.floats.specs.Closest.{closest-near, kept-le}
 drop-le : (f : Format) (a c j : ℕ) → 0 < c → a * 2 ^ low f < 2 ^ (prec f + j) * c
     → drop (prec f) (a * 2 ^ low f) c ≤ j
 drop-le f a c j C h =
-    spare (size (a * 2 ^ low f / c)) (prec f) j
-    (size-le (a * 2 ^ low f / c) (prec f + j) (div-lt-iff-lt-mul C .1 h))
+    spare _ _ j (size-le _ _ (div-lt-iff-lt-mul C .1 h))
   where
     spare : (z p l : ℕ) → z ≤ p + l → z - p ≤ l
     spare z p l h = omega arith
@@ -35,8 +34,8 @@ drop-le f a c j C h =
 grid-le : (f : Format) (a c j : ℕ) → 0 < c → a * 2 ^ low f < 2 ^ (prec f + j) * c
     → grid f a c ≤ 2 ^ (prec f + j)
 grid-le f a c j C h =
-    le-trans (mul-le-mul (kept-le (prec f) (a * 2 ^ low f) c) (pow-mono (drop-le f a c j C h)))
-    (le-of-eq (sym (pow-add 2 (prec f) j)))
+    le-trans (mul-le-mul (kept-le _ _ c) (pow-mono (drop-le f a c j C h)))
+    (le-of-eq (sym (pow-add 2 _ j)))
 
 pub grid-near : (f : Format) (a c j : ℕ) → 0 < c → a * 2 ^ low f < 2 ^ (prec f + j) * c
     → (grid f a c * c * 2 ≤ a * 2 ^ low f * 2 + c * 2 ^ j)
@@ -44,36 +43,32 @@ pub grid-near : (f : Format) (a c j : ℕ) → 0 < c → a * 2 ^ low f < 2 ^ (pr
 grid-near f a c j C h =
     let n = a * 2 ^ low f in
     let d = drop (prec f) n c in
-    go (kept (prec f) n c) (2 ^ d) n (2 ^ j) (pow-mono (drop-le f a c j C h))
-    (closest-near n (c * 2 ^ d) (mul-pos C (pow-pos d)))
+    go _ (2 ^ d) n (2 ^ j) (pow-mono (drop-le f a c j C h))
+    (closest-near n _ (mul-pos C (pow-pos d)))
   where
     go : (k t n w : ℕ) → t ≤ w
         → (k * (c * t) * 2 ≤ n * 2 + c * t) × (n * 2 ≤ k * (c * t) * 2 + c * t)
         → (k * t * c * 2 ≤ n * 2 + c * w) × (n * 2 ≤ k * t * c * 2 + c * w)
     go k t n w l g = let m : c * t ≤ c * w = mul-le-mul-left c l in
-        (omega (arith, g .0), omega (arith, g .1))
+        omega arith
 
 pub round-at : (f : Format) (s : Bool) (a c : ℕ) → grid f a c < overflow f
     → HasValue (round f s a c) s (grid f a c) (2 ^ low f)
 round-at f s a c h =
-    rw round-is
-    (units-val f s (kept (prec f) (a * 2 ^ low f) c) (drop (prec f) (a * 2 ^ low f) c) h)
+    rw round-is (units-val f s _ _ h)
 
 -- ---- single precision
 powers : (i j k l : ℕ) → i + j ≡ k + l → 2 ^ i * 2 ^ j ≡ 2 ^ k * 2 ^ l
-powers i j k l e = sym (pow-add 2 i j) ∙ ap (λ (z : ℕ). 2 ^ z) e ∙ pow-add 2 k l
+powers i j k l e = sym (pow-add 2 i j) ∙ ap (2 ^_) e ∙ pow-add 2 k l
 
 below-units : (a c k : ℕ) → a < 2 ^ k * c → a * 2 ^ 149 < 2 ^ (24 + (k + 125)) * c
 below-units a c k h =
-    lt-of-lt-of-le (mul-lt-mul-of-pos-right h (pow-pos 149))
-    (le-of-eq
-    (mul-right-comm (2 ^ k) c (2 ^ 149)
-    ∙ ap (λ (z : ℕ). z * c)
-    (powers k 149 24 (k + 125) (omega arith) ∙ sym (pow-add 2 24 (k + 125)))))
+    lt-of-lt-of-le (mul-lt-mul-of-pos-right h (pow-pos 149)) (le-of-eq (mul-right-comm (2 ^ k) c _
+    ∙ ap (_* c) (powers k 149 24 _ (omega arith) ∙ sym (pow-add 2 24 _))))
 
 no-overflow : (a c k : ℕ) → k ≤ 127 → 0 < c → a < 2 ^ k * c → grid binary32 a c < overflow binary32
 no-overflow a c k K C h =
-    lt-of-le-of-lt (grid-le binary32 a c (k + 125) C (below-units a c k h)) (pow-lt (room k K))
+    lt-of-le-of-lt (grid-le binary32 a c _ C (below-units a c k h)) (pow-lt (room k K))
   where
     room : (k : ℕ) → k ≤ 127 → 24 + (k + 125) < 277
     room k h = omega arith
@@ -83,18 +78,17 @@ units-near : (g a c u w K t p n : ℕ)
     → (g * c * 2 ≤ a * u * 2 + c * w) × (a * u * 2 ≤ g * c * 2 + c * w) → w * K ≡ t * u → p ≡ n + a
     → Near t (K * 2) g 0 u p n c
 units-near g a c u w K t p n h e i =
-    let size = simp poly at (ap (λ (x : ℕ). K * (x * u)) i) in
+    let size = simp poly at (ap (λ x. K * (x * u)) i) in
     let most = simp poly at (mul-le-mul-left K (h .0)) in
     let least = simp poly at (mul-le-mul-left K (h .1)) in
-    let slack = simp poly at (ap (λ (x : ℕ). c * x) e) in
+    let slack = simp poly at (ap (c *_) e) in
     (simp poly (omega arith), simp poly (omega arith))
 
 grid-of : (a p n c k : ℕ) → 0 < c → a < 2 ^ k * c → p ≡ n + a
     → Near (2 ^ k) (2 ^ 25) (grid binary32 a c) 0 (2 ^ 149) p n c
 grid-of a p n c k C h e =
-    units-near (grid binary32 a c) a c (2 ^ 149) (2 ^ (k + 125)) (2 ^ 24) (2 ^ k) p n
-    (grid-near binary32 a c (k + 125) C (below-units a c k h))
-    (powers (k + 125) 24 k 149 (omega arith)) e
+    units-near _ a c _ _ _ (2 ^ k) p n (grid-near binary32 a c _ C (below-units a c k h))
+    (powers _ 24 k 149 (omega arith)) e
 
 -- ---- near a float is near any fraction that it equals
 near-is : (z : Float) (q m d p n c i k : ℕ) → 0 < d → Is z q m d → Near i k q m d p n c
@@ -102,16 +96,16 @@ near-is : (z : Float) (q m d p n c i k : ℕ) → 0 < d → Is z q m d → Near 
 near-is z q m d p n c i k D h g = (
   h .0,
   (
-    le-up i k (top z) (bot z) (den z) q m d p n c D (is→le z q m d h) (g .0),
-    up-le i k p n c q m d (top z) (bot z) (den z) D (g .1) (is→ge z q m d h),
+    le-up i k _ _ _ q m d p n c D (is→le z q m d h) (g .0),
+    up-le i k p n c q m d _ _ _ D (g .1) (is→ge z q m d h),
   ),
 )
 
 pub is-near : (z : Float) (q m d p n c i k : ℕ) → Is z q m d
     → Near i k (top z) (bot z) (den z) p n c → Near i k q m d p n c
 is-near z q m d p n c i k h g = (
-  le-up i k q m d (top z) (bot z) (den z) p n c (den-pos z) (is→ge z q m d h) (g .0),
-  up-le i k p n c (top z) (bot z) (den z) q m d (den-pos z) (g .1) (is→le z q m d h),
+  le-up i k q m d _ _ _ p n c (den-pos z) (is→ge z q m d h) (g .0),
+  up-le i k p n c _ _ _ q m d (den-pos z) (g .1) (is→le z q m d h),
 )
 
 pub part-less : (p n a b : ℕ) → p ≡ n + a → p < n + b → a < b
@@ -123,16 +117,16 @@ pub rounds-near : (z : Float) (p n c k : ℕ) → k ≤ 127 → 0 < c → Rounds
     → T (finite z) × Near (2 ^ k) (2 ^ 25) (top z) (bot z) (den z) p n c
 rounds-near z p n c k K C (over a e i) h g =
     let u = grid binary32 a c in
-    let l = part-less p n a (2 ^ k * c) e h in
+    let l = part-less p n a _ e h in
     let v : Is z u 0 (2 ^ 149) =
-    rw i (is-of-pos (round binary32 false a c) u (2 ^ 149)
-    (round-at binary32 false a c (no-overflow a c k K C l))) in
-    near-is z u 0 (2 ^ 149) p n c (2 ^ k) (2 ^ 25) (pow-pos 149) v (grid-of a p n c k C l e)
+    rw i (is-of-pos (round binary32 false a c) u _
+    (round-at _ false a c (no-overflow a c k K C l))) in
+    near-is z u 0 _ p n c (2 ^ k) _ (pow-pos 149) v (grid-of a p n c k C l e)
 rounds-near z p n c k K C (under a e i) h g =
     let u = grid binary32 a c in
-    let l = part-less n p a (2 ^ k * c) e g in
+    let l = part-less n p a _ e g in
     let v : Is z 0 u (2 ^ 149) =
-    rw i (is-of-neg (round binary32 true a c) u (2 ^ 149)
-    (round-at binary32 true a c (no-overflow a c k K C l))) in
-    near-is z 0 u (2 ^ 149) p n c (2 ^ k) (2 ^ 25) (pow-pos 149) v
-    (near-flip (2 ^ k) (2 ^ 25) u 0 (2 ^ 149) n p c (grid-of a n p c k C l e))
+    rw i (is-of-neg (round binary32 true a c) u _
+    (round-at _ true a c (no-overflow a c k K C l))) in
+    near-is z 0 u _ p n c (2 ^ k) _ (pow-pos 149) v
+    (near-flip (2 ^ k) _ u 0 _ n p c (grid-of a n p c k C l e))

@@ -44,8 +44,8 @@ pub rep-zero : (f : Format) (c : ℕ) → Rep f 0 c
 rep-zero f c = record {
   q = 0;
   j = 0;
-  small = pow-pos (prec f);
-  fine = lt-of-le-of-lt (le-of-eq (zero-mul (2 ^ 0))) (pow-pos (low f + suc (emax f)));
+  small = pow-pos _;
+  fine = lt-of-le-of-lt (le-of-eq (zero-mul (2 ^ 0))) (pow-pos _);
   same = simp zero-mul;
 }
 
@@ -56,16 +56,15 @@ rep-same f a c b d C e r = record {
   j = r .j;
   small = r .small;
   fine = r .fine;
-  same = go (2 ^ low f) (r .q * 2 ^ r .j) (r .same);
+  same = go _ _ (r .same);
 }
   where
     go : (u w : ℕ) → a * u ≡ w * c → b * u ≡ w * d
     go u w s =
-        eq-of-mul-eq-mul-right c C (b * u) (w * d)
-        (omega (arith, ap (λ (z : ℕ). z * u) e, ap (λ (z : ℕ). z * d) s))
+        eq-of-mul-eq-mul-right c C (b * u) (w * d) (omega (arith, ap (_* u) e, ap (_* d) s))
 
 halves : (l i : ℕ) → i ≤ l → 2 ^ (l - i) * 2 ^ i ≡ 2 ^ l
-halves l i h = sym (pow-add 2 (l - i) i) ∙ ap (λ (z : ℕ). 2 ^ z) (back l i h)
+halves l i h = sym (pow-add 2 (l - i) i) ∙ ap (2 ^_) (back l i h)
 
 -- binary32 holds a / 2 ^ i for an a below 2 ^ 24, and i up to 149
 pub rep-dyadic : (a i : ℕ) → i ≤ 149 → a < 2 ^ 24 → Rep binary32 a (2 ^ i)
@@ -73,8 +72,8 @@ rep-dyadic a i h s = record {
   q = a;
   j = 149 - i;
   small = s;
-  fine = lt-of-lt-of-le (shl-lt 24 (149 - i) s) (pow-mono {i = 24 + (149 - i)} {j = 277} (room i));
-  same = ap (λ (z : ℕ). a * z) (sym (halves 149 i h)) ∙ sym (mul-assoc a (2 ^ (149 - i)) (2 ^ i));
+  fine = lt-of-lt-of-le (shl-lt 24 _ s) (pow-mono {i = 24 + (149 - i)} {j = 277} (room i));
+  same = ap (a *_) (sym (halves 149 i h)) ∙ sym (mul-assoc a _ (2 ^ i));
 }
   where
     room : (i : ℕ) → 24 + (149 - i) ≤ 277
@@ -92,7 +91,7 @@ rep-times a k s h =
       q = a;
       j = k + 149;
       small = s;
-      fine = lt-of-lt-of-le (shl-lt 24 (k + 149) s) (pow-mono room);
+      fine = lt-of-lt-of-le (shl-lt 24 _ s) (pow-mono room);
       same = rw (pow-add 2 k 149) (same (2 ^ k) (2 ^ 149));
     }
   where
@@ -115,7 +114,7 @@ rep-power k h =
 
 -- ---- the size of a float that fits is such a value
 le-of-pow : (i l : ℕ) → 2 ^ i ≤ 2 ^ l → i ≤ l
-le-of-pow i l h = le-of-suc-le-suc (lt-of-not-le (λ (g : l < i). not-le-of-lt (pow-lt g) h))
+le-of-pow i l h = le-of-suc-le-suc (lt-of-not-le (λ g. not-le-of-lt (pow-lt g) h))
 
 rep-of : (f : Format) (m : ℕ) (e : ℤ) → m < 2 ^ prec f → down e ≤ 2 ^ low f
     → m * up e < 2 ^ suc (emax f) * down e → Rep f (m * up e) (down e)
@@ -123,7 +122,7 @@ rep-of f m (pos k) s h g = record {
   q = m;
   j = k + low f;
   small = s;
-  fine = rw (pow-add 2 k (low f), pow-add 2 (low f) (suc (emax f)))
+  fine = rw (pow-add 2 k _, pow-add 2 _ _)
       (omega (arith, mul-lt-mul-of-pos-right g (pow-pos (low f))));
   same = rw pow-add (omega arith);
 }
@@ -132,9 +131,9 @@ rep-of f m (negsuc k) s h g = record {
   j = low f - suc k;
   small = s;
   fine =
-      rw (pow-add 2 (low f) (suc (emax f)), ← halves (low f) (suc k) (le-of-pow (suc k) (low f) h))
+      rw (pow-add 2 _ _, ← halves _ _ (le-of-pow _ _ h))
       (omega (arith, mul-lt-mul-of-pos-right g (pow-pos (low f - suc k))));
-  same = rw (← halves (low f) (suc k) (le-of-pow (suc k) (low f) h)) (omega arith);
+  same = rw (← halves _ _ (le-of-pow _ _ h)) (omega arith);
 }
 
 -- what fits has at most `prec` digits, is a whole number of the smallest values, and
@@ -151,9 +150,9 @@ fits-parts f s m e t =
 pub fits-rep : (f : Format) (x : Float) → T (finite x) → T (fits f x) → Rep f (num x) (den x)
 fits-rep f nan p t = absurd p
 fits-rep f (inf s) p t = absurd p
-fits-rep f (fin s zero e) p t = rw zero-mul (rep-zero f (down e))
+fits-rep f (fin s zero e) p t = rw zero-mul (rep-zero f _)
 fits-rep f (fin s (suc m) e) p t = let h = fits-parts f s m e t in
-    rep-of f (suc m) e (h .0) (h .1) (h .2)
+    rep-of f _ e (h .0) (h .1) (h .2)
 
 -- ---- rounding leaves it as it is
 pub round-rep : (f : Format) (s : Bool) (a c : ℕ) → 0 < c → Rep f a c
@@ -166,11 +165,11 @@ pub rounds-rep : (f : Format) (z : Float) (p n c : ℕ) → 0 < c → Rounds f z
 rounds-rep f z p n c C (over a e i) r =
     let v : Is z a 0 c =
     rw i (is-of-pos (round f false a c) a c (round-rep f false a c C (r a (inl e)))) in
-    (v .0, omega (arith, v .1, ap (λ (x : ℕ). x * den z) e))
+    (v .0, omega (arith, v .1, ap (_* den z) e))
 rounds-rep f z p n c C (under a e i) r =
     let v : Is z 0 a c =
     rw i (is-of-neg (round f true a c) a c (round-rep f true a c C (r a (inr e)))) in
-    (v .0, omega (arith, v .1, ap (λ (x : ℕ). x * den z) e))
+    (v .0, omega (arith, v .1, ap (_* den z) e))
 
 -- |p - n| is p - n or n - p, and the other is 0
 pub rounds-exact : (f : Format) (z : Float) (p n c : ℕ) → 0 < c → Rounds f z p n c → Rep f (p - n) c
@@ -186,5 +185,4 @@ pub rounds-fits : (f : Format) (z y : Float) (p n c : ℕ) → 0 < c → Rounds 
     → Is y p n c → Is z p n c
 rounds-fits f z y p n c C r t h =
     rounds-rep f z p n c C r
-    (λ a e. rep-same f (num y) (den y) a c (den-pos y) (size-is y p n c a h e)
-    (fits-rep f y (h .0) t))
+    (λ a e. rep-same f _ _ a c (den-pos y) (size-is y p n c a h e) (fits-rep f y (h .0) t))

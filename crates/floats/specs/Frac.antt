@@ -64,8 +64,8 @@ pub by-sign : (P : ℕ → ℕ → Type 0) → ((n a : ℕ) → P (n + a) n) →
     → (p n : ℕ) → P p n
 by-sign P above below p n =
     elim (total n p) [
-      | inl h ↦ subst (λ (z : ℕ). P z n) (add-sub-of-le h) (above n (p - n))
-      | inr h ↦ subst (λ (z : ℕ). P p z) (add-sub-of-le h) (below p (n - p))
+      | inl h ↦ subst (λ z. P z n) (add-sub-of-le h) (above n (p - n))
+      | inr h ↦ subst (λ z. P p z) (add-sub-of-le h) (below p (n - p))
     ]
 
 -- ---- chains
@@ -124,7 +124,7 @@ close-opposite i k x y h = (
 pub close-minus : (i j k : ℕ) (x z y w : Frac) → Close i k x z → Close j k y w
     → Close (i + j) k (minus x y) (minus z w)
 close-minus i j k x z y w h g =
-    close-plus i j k x z (opposite y) (opposite w) h (close-opposite j k y w g)
+    close-plus i j k x z _ _ h (close-opposite j k y w g)
 
 -- ---- products
 times-commutes : (x y : Frac) → times x y ≡ times y x
@@ -159,8 +159,7 @@ close-times-by i j k r x y s h = (
     go x y h g =
         by-sign
         (λ (p n : ℕ). i * p ≤ i * n + j * r .c → i * n ≤ i * p + j * r .c
-        → Upto j k (times x (frac p n (r .c))) (times y (frac p n (r .c))))
-        (λ n a u v. upto-times i j k (r .c) n a x y (omega arith) h)
+        → Upto j k _ _) (λ n a u v. upto-times i j k (r .c) n a x y (omega arith) h)
         (λ p a u v. up-flip j k _ _ _ _ _ _ (upto-times i j k (r .c) p a y x (omega arith) g))
 
 -- |r| ≤ b gives i * |r| ≤ i * b
@@ -184,8 +183,8 @@ pub close-times : (i j k b a : ℕ) (x z y w : Frac) → Ok z → Ok y → Size 
     → Close i k x z → Close j k y w
     → Close (b * i + a * j) k (times x y) (times z w)
 close-times i j k b a x z y w Z Y s t h g =
-    close-through (b * i) (a * j) k (times x y) (times z y) (times z w) (mul-pos Z Y)
-    (close-times-right i k b y x z s h) (close-times-left j k a z y w t g)
+    close-through (b * i) (a * j) k _ _ _ (mul-pos Z Y) (close-times-right i k b y x z s h)
+    (close-times-left j k a z y w t g)
 
 -- ---- sizes
 pub size-plus : (a b : ℕ) (x y : Frac) → Size a x → Size b y → Size (a + b) (plus x y)
@@ -246,13 +245,12 @@ pub sized-close : (h b i k : ℕ) (x y : Frac) → 0 < k → Ok y → h * i ≤ 
     → Close i k x y → Sized h (b + 1) x
 sized-close h b i k x y K Y l s g = (
   sized-next h b i k x y K Y l (s .0) (g .0),
-  sized-next h b i k (opposite x) (opposite y) K Y l (s .1) (close-opposite i k x y g .0),
+  sized-next h b i k _ _ K Y l (s .1) (close-opposite i k x y g .0),
 )
 
 -- what is near something of size b, within 1, is of size b + 1
 pub size-close : (i k b : ℕ) (x y : Frac) → 0 < k → Ok y → i ≤ k → Size b y → Close i k x y
     → Size (b + 1) x
 size-close i k b x y K Y l s h =
-    let t = sized-close 1 b i k x y K Y (omega arith) (omega (arith, s .0), omega (arith, s .1))
-    h in
-    (omega (arith, t .0), omega (arith, t .1))
+    let t = sized-close 1 b i k x y K Y (omega arith) (omega arith) h in
+    omega arith

@@ -36,7 +36,7 @@ zero-of : (v : Float) → Is v 0 0 1 → Dyadic v
 zero-of v h = record { q = 0; i = 0; few = lit< tt; fine = lit≤ tt; is = h }
 
 exponent : (i : ℕ) → 2 ^ i ≤ 2 ^ 149 → i ≤ 149
-exponent i h = le-of-suc-le-suc (lt-of-not-le (λ (g : 150 ≤ i). not-le-of-lt (pow-lt g) h))
+exponent i h = le-of-suc-le-suc (lt-of-not-le (λ g. not-le-of-lt (pow-lt g) h))
 
 -- a value p / c below 2 ^ 24
 dyadic-of : (v : Float) (p c : ℕ) → T (fits binary32 v) → 0 < c → Is v p 0 c → p < 2 ^ 24 * c
@@ -44,7 +44,7 @@ dyadic-of : (v : Float) (p c : ℕ) → T (fits binary32 v) → 0 < c → Is v p
 unfolding fits
 dyadic-of nan p c t C h l = absurd (h .0)
 dyadic-of (inf s) p c t C h l = absurd (h .0)
-dyadic-of (fin true m e) p c t C h l = zero-of (fin true m e) (tt, none (m * up e) (h .1))
+dyadic-of (fin true m e) p c t C h l = zero-of _ (tt, none _ (h .1))
   where
     none : (a : ℕ) → 0 * c + 0 * down e ≡ p * down e + a * c
         → 0 * 1 + 0 * down e ≡ 0 * down e + a * 1
@@ -53,26 +53,26 @@ dyadic-of (fin false m (pos k)) p c t C h l =
     record {
       q = m * 2 ^ k;
       i = 0;
-      few = lt-of-mul-lt-mul-right c (omega (arith, h .1));
+      few = lt-of-mul-lt-mul-right c (omega arith);
       fine = lit≤ tt;
       is = (tt, refl);
     }
 dyadic-of (fin false zero (negsuc k)) p c t C h l =
-    zero-of (fin false zero (negsuc k)) (tt, omega arith)
+    zero-of _ (tt, omega arith)
 dyadic-of (fin false (suc m) (negsuc k)) p c t C h l =
     let parts = fits-parts binary32 false m (negsuc k) t in
     record {
       q = suc m;
       i = suc k;
       few = parts .0;
-      fine = exponent (suc k) (parts .1);
+      fine = exponent _ (parts .1);
       is = (tt, omega arith);
     }
 
 -- two fractions of one float
 equal : (v : Float) (p n c q m d : ℕ) → Is v p n c → Is v q m d → Le p n c q m d
 equal v p n c q m d h g =
-    le-through p n c (top v) (bot v) (den v) q m d (den-pos v) (is→ge v p n c h) (is→le v q m d g)
+    le-through p n c _ _ _ q m d (den-pos v) (is→ge v p n c h) (is→le v q m d g)
 
 pub minus-whole : (v x : Float) (a p c : ℕ) → T (fits binary32 v) → 0 < c → Is v p 0 c → Is x a 0 1
     → a * c ≤ p → p < 2 ^ 24 * c
@@ -85,10 +85,9 @@ minus-whole v x a p c t C iv ix l u = from (dyadic-of v p c t C iv u)
         let d = 2 ^ y .i in
         let e = equal v q 0 d p 0 c (y .is) iv in
         let g = equal v p 0 c q 0 d iv (y .is) in
-        let f : (a * c + (p - a * c)) * d ≡ p * d = ap (λ (z : ℕ). z * d) (add-sub-of-le l) in
+        let f : (a * c + (p - a * c)) * d ≡ p * d = ap (_* d) (add-sub-of-le l) in
         let b : a * d ≤ q =
         le-of-mul-le-mul-right {k = c} (omega (arith, mul-le-mul-right d l)) C in
-        is-same (v ⊖ x) (q + 0) (0 + a * d) d (p - a * c) 0 c (pow-pos (y .i))
+        is-same (v ⊖ x) (q + 0) _ d _ 0 c (pow-pos (y .i))
         (dyadic-sub v x q 0 (a * d) 0 (y .i) (y .fine) (omega (arith, y .few)) (omega arith) (y .is)
-        (is-same x a 0 1 (a * d) 0 d (lit< tt) ix (omega arith)))
-        (omega arith)
+        (is-same x a 0 1 (a * d) 0 d (lit< tt) ix (omega arith))) (omega arith)

@@ -19,20 +19,16 @@ pub add-mono : (f : Format) (x z y w : Float) → T (finite x) → T (finite z) 
     → T (finite w) → T (le x z) → T (le y w)
     → T (le (add f x y) (add f z w))
 add-mono f x z y w p r q s h k =
-    rounds-mono f (add f x y) (add f z w)
-    (top x * den y + top y * den x) (bot x * den y + bot y * den x) (den x * den y)
-    (top z * den w + top w * den z) (bot z * den w + bot w * den z) (den z * den w)
-    (mul-pos (den-pos x) (den-pos y)) (mul-pos (den-pos z) (den-pos w)) (add-own f x y p q)
-    (add-own f z w r s)
-    (sum-le (top x) (bot x) (den x) (top y) (bot y) (den y) (top z) (bot z) (den z) (top w) (bot w)
-    (den w) (of-le x z p r h) (of-le y w q s k))
+    rounds-mono f _ _ _ _ _ _ _ _ (mul-pos (den-pos x) (den-pos y))
+    (mul-pos (den-pos z) (den-pos w)) (add-own f x y p q) (add-own f z w r s)
+    (sum-le _ _ _ _ _ _ _ _ _ _ _ _ (of-le x z p r h) (of-le y w q s k))
 
 pub sub-mono-left : (f : Format) (x z y : Float) → T (finite x) → T (finite z) → T (finite y)
     → T (le x z) → T (le (sub f x y) (sub f z y))
 unfolding sub
 sub-mono-left f x z y p q r h =
-    let n : T (finite (neg y)) = is-neg y (top y) (bot y) (den y) (own y r) .0 in
-    add-mono f x z (neg y) (neg y) p q n n h (le-of (neg y) (neg y) n n (le-refl _))
+    let n : T (finite (neg y)) = is-neg y _ _ _ (own y r) .0 in
+    add-mono f x z _ _ p q n n h (le-of _ _ n n (le-refl _))
 
 -- ---- the product by d ≥ 0 grows with the other factor, and by d ≤ 0 falls
 scale-le : (q e p n c r l d : ℕ) → Le p n c r l d
@@ -44,13 +40,10 @@ pub mul-mono-left : (f : Format) (d x y : Float) (q e : ℕ) → 0 < e → Is d 
     → T (finite y) → T (le x y)
     → T (le (mul f d x) (mul f d y))
 mul-mono-left f d x y q e E D p r h =
-    rounds-mono f (mul f d x) (mul f d y)
-    (q * top x + 0 * bot x) (q * bot x + 0 * top x) (e * den x) (q * top y + 0 * bot y)
-    (q * bot y + 0 * top y) (e * den y)
-    (mul-pos E (den-pos x)) (mul-pos E (den-pos y))
-    (mul-rounds f d x q 0 e (top x) (bot x) (den x) E (den-pos x) D (own x p))
-    (mul-rounds f d y q 0 e (top y) (bot y) (den y) E (den-pos y) D (own y r))
-    (scale-le q e (top x) (bot x) (den x) (top y) (bot y) (den y) (of-le x y p r h))
+    rounds-mono f _ _ _ _ _ _ _ _ (mul-pos E (den-pos x)) (mul-pos E (den-pos y))
+    (mul-rounds f d x q 0 e _ _ _ E (den-pos x) D (own x p))
+    (mul-rounds f d y q 0 e _ _ _ E (den-pos y) D (own y r))
+    (scale-le q e _ _ _ _ _ _ (of-le x y p r h))
 
 scale-ge : (q e p n c r l d : ℕ) → Le p n c r l d
     → Le (0 * r + q * l) (0 * l + q * r) (e * d) (0 * p + q * n) (0 * n + q * p) (e * c)
@@ -61,21 +54,17 @@ pub mul-anti-left : (f : Format) (d x y : Float) (q e : ℕ) → 0 < e → Is d 
     → T (finite y) → T (le x y)
     → T (le (mul f d y) (mul f d x))
 mul-anti-left f d x y q e E D p r h =
-    rounds-mono f (mul f d y) (mul f d x)
-    (0 * top y + q * bot y) (0 * bot y + q * top y) (e * den y) (0 * top x + q * bot x)
-    (0 * bot x + q * top x) (e * den x)
-    (mul-pos E (den-pos y)) (mul-pos E (den-pos x))
-    (mul-rounds f d y 0 q e (top y) (bot y) (den y) E (den-pos y) D (own y r))
-    (mul-rounds f d x 0 q e (top x) (bot x) (den x) E (den-pos x) D (own x p))
-    (scale-ge q e (top x) (bot x) (den x) (top y) (bot y) (den y) (of-le x y p r h))
+    rounds-mono f _ _ _ _ _ _ _ _ (mul-pos E (den-pos y)) (mul-pos E (den-pos x))
+    (mul-rounds f d y 0 q e _ _ _ E (den-pos y) D (own y r))
+    (mul-rounds f d x 0 q e _ _ _ E (den-pos x) D (own x p))
+    (scale-ge q e _ _ _ _ _ _ (of-le x y p r h))
 
 -- ---- the quotient by a divisor above zero grows with what is divided
 pub div-mono-left : (f : Format) (x z y : Float) (p n c r l e q d : ℕ) → 0 < c → 0 < e → 0 < d
     → 0 < q
     → Is x p n c → Is z r l e → Is y q 0 d → Le p n c r l e → T (le (div f x y) (div f z y))
 div-mono-left f x z y p n c r l e q d C E D Q h g k i =
-    rounds-mono f (div f x y) (div f z y) (p * d) (n * d) (c * q) (r * d) (l * d) (e * q)
-    (mul-pos C Q) (mul-pos E Q)
+    rounds-mono f _ _ (p * d) (n * d) (c * q) (r * d) (l * d) (e * q) (mul-pos C Q) (mul-pos E Q)
     (div-rounds f x y p n c q d C D Q h k) (div-rounds f z y r l e q d E D Q g k)
     (let j = simp poly at (mul-le-mul-left (d * q) i) in simp poly (omega arith))
 
@@ -86,9 +75,7 @@ pub rounds-between : (f : Format) (lo z hi : Float) (p n c : ℕ) → 0 < c → 
     → T (finite z) × T (le lo z) × T (le z hi)
 rounds-between f lo z hi p n c C tl th fl fh r a b =
     let above =
-    rounds-mono f lo z (top lo) (bot lo) (den lo) p n c (den-pos lo) C (rounds-own f lo fl tl) r
-    a in
+    rounds-mono f lo z _ _ _ p n c (den-pos lo) C (rounds-own f lo fl tl) r a in
     let below =
-    rounds-mono f z hi p n c (top hi) (bot hi) (den hi) C (den-pos hi) r (rounds-own f hi fh th)
-    b in
+    rounds-mono f z hi p n c _ _ _ C (den-pos hi) r (rounds-own f hi fh th) b in
     (finite-between lo z hi fl fh above below, above, below)

@@ -12,8 +12,7 @@ Nearest R x = Close 1 2 (frac R 0 1) x
 module _ (R : ℕ) (x r : Frac) (X : Ok x) (n : Nearest R x) (near : Close 1 16384 x r) where
   -- within 1 / 2 + 1 / 16,384
   pub nearly : Close 8193 16384 (frac R 0 1) r
-  nearly = close-through 8192 1 16384 (frac R 0 1) x r X (omega (arith, n .0), omega (arith, n .1))
-      near
+  nearly = close-through 8192 1 16384 _ x r X (omega arith) near
 
   -- a fraction of less than 8,192 parts leaves nothing between
   pub nearest : r .c < 8192 → Nearest R r

@@ -53,7 +53,7 @@ module _ (f : Format) (z : Float) (a c p n : ℕ) (C : 0 < c) (e : p ≡ n + a)
   far = gap (q * (c * 2 ^ k)) (a * L)
 
   P : 0 < prec f
-  P = two-le-pos (prec f) (two f)
+  P = two-le-pos _ (two f)
 
   step : 0 < c * 2 ^ k
   step = mul-pos C (pow-pos k)
@@ -67,8 +67,8 @@ module _ (f : Format) (z : Float) (a c p n : ℕ) (C : 0 < c) (e : p ≡ n + a)
   mine : distance z p n c * L ≡ far * den z
   mine =
       let s : q * 2 ^ k * c ≡ q * (c * 2 ^ k) =
-      mul-assoc q (2 ^ k) c ∙ ap (λ (x : ℕ). q * x) (mul-comm (2 ^ k) c) in
-      distance-above (q * 2 ^ k) L a c p n e z value ∙ ap (λ (x : ℕ). gap x (a * L) * den z) s
+      mul-assoc q (2 ^ k) c ∙ ap (q *_) (mul-comm (2 ^ k) c) in
+      distance-above _ L a c p n e z value ∙ ap (λ x. gap x (a * L) * den z) s
 
   -- ---- y has no sign, and is v smallest values
   module _ (y : Float) (v : ℕ) (is : HasValue y false v L) where
@@ -77,10 +77,10 @@ module _ (f : Format) (z : Float) (a c p n : ℕ) (C : 0 < c) (e : p ≡ n + a)
 
     further-above : far ≤ gap (v * c) (a * L) → NoFurther z y p n c
     further-above h =
-        no-further z y p n c far (gap (v * c) (a * L)) L mine above (pow-pos (low f)) h
+        no-further z y p n c far _ L mine above (pow-pos _) h
 
     far-above : AsFar z y p n c → far ≡ gap (v * c) (a * L)
-    far-above h = same-parts z y p n c far (gap (v * c) (a * L)) L mine above h
+    far-above h = same-parts z y p n c far _ L mine above h
 
   -- ---- y has one: it is on the other side of 0
   module _ (y : Float) (v : ℕ) (is : HasValue y true v L) where
@@ -88,32 +88,31 @@ module _ (f : Format) (z : Float) (a c p n : ℕ) (C : 0 < c) (e : p ≡ n + a)
     below = distance-below v L a c p n e y is
 
     from-zero : far ≤ a * L
-    from-zero = let h = closest-nearest (a * L) (c * 2 ^ k) 0 step in omega arith
+    from-zero = let h = closest-nearest (a * L) _ 0 step in omega arith
 
     further-below : NoFurther z y p n c
     further-below =
-        no-further z y p n c far (v * c + a * L) L mine below (pow-pos (low f))
-        (le-trans from-zero (omega arith))
+        no-further z y p n c far _ L mine below (pow-pos _) (le-trans from-zero (omega arith))
 
     -- as far only where y is a zero, and z one too
     far-below : AsFar z y p n c → (v ≡ 0) × (q ≡ 0)
     far-below h =
-        let s : far ≡ v * c + a * L = same-parts z y p n c far (v * c + a * L) L mine below h in
+        let s : far ≡ v * c + a * L = same-parts z y p n c far _ L mine below h in
         let t : far ≡ a * L = le-antisymm from-zero (omega arith) in
         let none : v ≡ 0 = eq-of-mul-eq-mul-right c C v 0 (omega (arith, from-zero)) in
-        (none, closest-zero (a * L) (c * 2 ^ k) step t)
+        (none, closest-zero (a * L) _ step t)
 
   -- ---- any y
   closer : (y : Float) → T (finite y) → T (fits f y) → NoFurther z y p n c
   closer nan t h = absurd t
   closer (inf s) t h = absurd t
   closer (fin false m d) t h =
-      let o = fits-rep f (fin false m d) t h in
-      further-above (fin false m d) (o .q * 2 ^ o .j) (refl, o .same)
-      (grid-nearest (prec f) (a * L) c P C (o .q) (o .j) (o .small))
+      let o = fits-rep f _ t h in
+      further-above (fin false m d) _ (refl, o .same)
+      (grid-nearest _ (a * L) c P C (o .q) (o .j) (o .small))
   closer (fin true m d) t h =
-      let o = fits-rep f (fin true m d) t h in
-      further-below (fin true m d) (o .q * 2 ^ o .j) (refl, o .same)
+      let o = fits-rep f _ t h in
+      further-below (fin true m d) _ (refl, o .same)
 
   tie : (y : Float) → T (finite y) → T (fits f y) → (y ≡ z → ⊥) → AsFar z y p n c → q % 2 ≡ 0
   tie nan t h d g = absurd t
@@ -123,13 +122,12 @@ module _ (f : Format) (z : Float) (a c p n : ℕ) (C : 0 < c) (e : p ≡ n + a)
       let o = fits-rep f y t h in
       let v = o .q * 2 ^ o .j in
       let other : v ≡ q * 2 ^ k → ⊥ =
-      λ s. d (value-unique f y z false (q * 2 ^ k) L (pow-pos (low f)) h fitting
-      (refl, o .same ∙ ap (λ (x : ℕ). x * down w) s) value) in
-      grid-even (prec f) (a * L) c P C (o .q) (o .j) (o .small) other
-      (far-above y v (refl, o .same) g)
+      λ s. d (value-unique f y z false _ L (pow-pos _) h fitting (refl, o .same ∙ ap (_* down w) s)
+      value) in
+      grid-even _ (a * L) c P C (o .q) (o .j) (o .small) other (far-above y v (refl, o .same) g)
   tie (fin true m w) t h d g =
-      let o = fits-rep f (fin true m w) t h in
-      ap (λ (x : ℕ). x % 2) (far-below (fin true m w) (o .q * 2 ^ o .j) (refl, o .same) g .1)
+      let o = fits-rep f _ t h in
+      ap (_% 2) (far-below (fin true m w) _ (refl, o .same) g .1)
 
   nearest-over : NearestFloat f z p n c
   nearest-over = record {
@@ -149,32 +147,30 @@ module _ (f : Format) (z : Float) (a c p n : ℕ) (C : 0 < c) (e : p ≡ n + a)
       let v = o .q * 2 ^ o .j in
       let t : AsFar z y p n c = le-antisymm (closer y tt (r .fitting)) (r .nearest z F fitting) in
       elim (ℕ-discrete v (q * 2 ^ k)) [
-        | yes g ↦ is-of-pos y (q * 2 ^ k) L (refl, o .same ∙ ap (λ (x : ℕ). x * down w) g)
+        | yes g ↦ is-of-pos y _ L (refl, o .same ∙ ap (_* down w) g)
         | no g ↦
             let h =
-            grid-neighbour (prec f) (a * L) c P C (o .q) (o .j) (o .small) g
+            grid-neighbour _ (a * L) c P C (o .q) (o .j) (o .small) g
             (far-above y v (refl, o .same) t) in
             let same : z ≡ y → v * down w ≡ q * 2 ^ k * down w =
-            λ i. sym (o .same) ∙ subst (λ (x : Float). HasValue x false (q * 2 ^ k) L) i value .1 in
+            λ i. sym (o .same) ∙ subst (λ x. HasValue x false (q * 2 ^ k) L) i value .1 in
             let other : z ≡ y → ⊥ =
-            λ i. g (eq-of-mul-eq-mul-right (down w) (down-pos w) v (q * 2 ^ k) (same i)) in
-            absurd (units-odd f false (h .0) k (h .3) y
-            (refl, o .same ∙ ap (λ (x : ℕ). x * down w) (h .1)) (h .4) (h .2)
-            (r .even z F fitting other (sym t)))
+            λ i. g (eq-of-mul-eq-mul-right _ (down-pos w) v _ (same i)) in
+            absurd (units-odd f false (h .0) k (h .3) y (refl, o .same ∙ ap (_* down w) (h .1))
+            (h .4) (h .2) (r .even z F fitting other (sym t)))
       ]
   unique-over (fin true m w) r =
       let y = fin true m w in
       let o = fits-rep f y tt (r .fitting) in
       let t : AsFar z y p n c = le-antisymm (closer y tt (r .fitting)) (r .nearest z F fitting) in
-      let h = far-below y (o .q * 2 ^ o .j) (refl, o .same) t in
-      let none : q * 2 ^ k ≡ 0 = ap (λ (x : ℕ). x * 2 ^ k) (h .1) ∙ zero-mul (2 ^ k) in
-      rw none (is-of-neg y 0 L (refl, o .same ∙ ap (λ (x : ℕ). x * down w) (h .0)))
+      let h = far-below y _ (refl, o .same) t in
+      let none : q * 2 ^ k ≡ 0 = ap (_* 2 ^ k) (h .1) ∙ zero-mul (2 ^ k) in
+      rw none (is-of-neg y 0 L (refl, o .same ∙ ap (_* down w) (h .0)))
 
   unique-value : (y : Float) → NearestFloat f y p n c → Is y (top z) (bot z) (den z)
   unique-value y r =
-      let v : Is z (q * 2 ^ k) 0 L = is-of-pos z (q * 2 ^ k) L value in
-      is-same y (q * 2 ^ k) 0 L (top z) (bot z) (den z) (pow-pos (low f)) (unique-over y r)
-      (sym (v .1))
+      let v : Is z (q * 2 ^ k) 0 L = is-of-pos z _ L value in
+      is-same y _ 0 L _ _ _ (pow-pos _) (unique-over y r) (sym (v .1))
 
 -- ---- and a negative one: the same with all signs changed
 nearest-neg : {f : Format} {z : Float} {p n c : ℕ} → NearestFloat f z n p c
@@ -184,14 +180,14 @@ nearest-neg {f} {z} {p} {n} {c} r = record {
   fitting = neg-fits f z (r .fitting);
   nearest =
       λ y t h.
-      let s = r .nearest (neg y) (finite-neg y t) (neg-fits f y h) in
+      let s = r .nearest _ (finite-neg y t) (neg-fits f y h) in
       rw (distance-neg z p n c, den-neg z, ← distance-neg y n p c, ← den-neg y) s;
   even =
       λ y t h d g.
       let other : neg y ≡ z → ⊥ = λ s. d (sym (neg-twice y) ∙ ap neg s) in
       let as-far : AsFar z (neg y) n p c =
       rw (distance-neg y n p c, den-neg y, ← distance-neg z p n c, ← den-neg z) g in
-      let s = r .even (neg y) (finite-neg y t) (neg-fits f y h) other as-far in
+      let s = r .even _ (finite-neg y t) (neg-fits f y h) other as-far in
       even-neg f z (r .number) s;
 }
 
@@ -203,7 +199,7 @@ pub rounds-nearest : (f : Format) (z : Float) (p n c : ℕ) → 0 < c → Rounds
     → NearestFloat f z p n c
 rounds-nearest f z p n c C (over a e i) F = nearest-over f z a c p n C e i F
 rounds-nearest f z p n c C (under a e i) F =
-    let r = nearest-over f (neg z) a c n p C e (opposite f z a c i) (finite-neg z F) in
+    let r = nearest-over f _ a c n p C e (opposite f z a c i) (finite-neg z F) in
     rw neg-twice at (nearest-neg r)
 
 -- ---- and nothing else is: what is nearest, and even at a tie, is the result but for a zero's sign
@@ -214,5 +210,5 @@ nearest-unique f y z p n c C (over a e i) F r = unique-value f z a c p n C e i F
 nearest-unique f y z p n c C (under a e i) F r =
     let w = neg z in
     let v =
-    unique-value f w a c n p C e (opposite f z a c i) (finite-neg z F) (neg y) (nearest-neg r) in
-    rw (neg-twice y, top-neg z, bot-neg z, den-neg z) at (is-neg (neg y) (top w) (bot w) (den w) v)
+    unique-value f w a c n p C e (opposite f z a c i) (finite-neg z F) _ (nearest-neg r) in
+    rw (neg-twice y, top-neg z, bot-neg z, den-neg z) at (is-neg (neg y) _ _ _ v)

@@ -79,14 +79,14 @@ opposite f a b c = go (ltb a b) (ltb b a) (ltb→lt a b) (ltb→lt b a) (nltb→
     go true false h k i j = refl
     go false true h k i j = refl
     go false false h k i j = let zero : a - b ≡ b - a = omega (arith, i tt, j tt) in
-        ap (λ (z : ℕ). round f false z c) zero
+        ap (λ z. round f false z c) zero
 
 sum-swap : (f : Format) (s : Bool) (a : ℕ) (t : Bool) (b c : ℕ) → sum f s a t b c ≡ sum f t b s a c
 unfolding sum
-sum-swap f false a false b c = ap (λ (z : ℕ). round f false z c) (add-comm a b)
+sum-swap f false a false b c = ap (λ z. round f false z c) (add-comm a b)
 sum-swap f false a true b c = opposite f a b c
 sum-swap f true a false b c = sym (opposite f b a c)
-sum-swap f true a true b c = ap (λ (z : ℕ). round f true z c) (add-comm a b)
+sum-swap f true a true b c = ap (λ z. round f true z c) (add-comm a b)
 
 pub add-commutes : (f : Format) (x y : Float) → add f x y ≡ add f y x
 unfolding add
@@ -104,8 +104,8 @@ add-commutes f (fin s m e) (inf t) = refl
 add-commutes f (fin s m e) (fin t n d) =
     let a = m * up e * down d in
     let b = n * up d * down e in
-    sum-swap f s a t b (down e * down d)
-    ∙ ap (λ (c : ℕ). sum f t b s a c) (mul-comm (down e) (down d))
+    sum-swap f s a t b _
+    ∙ ap (λ c. sum f t b s a c) (mul-comm _ _)
 
 pub mul-commutes : (f : Format) (x y : Float) → mul f x y ≡ mul f y x
 unfolding mul
@@ -114,13 +114,13 @@ mul-commutes f nan (inf t) = refl
 mul-commutes f nan (fin t n d) = refl
 mul-commutes f (inf s) nan = refl
 mul-commutes f (inf s) (inf t) = ap inf (unlike-swap s t)
-mul-commutes f (inf s) (fin t n d) = ap (λ (u : Bool). cond (eqb n 0) nan (inf u)) (unlike-swap s t)
+mul-commutes f (inf s) (fin t n d) = ap (λ u. cond (eqb n 0) nan (inf u)) (unlike-swap s t)
 mul-commutes f (fin s m e) nan = refl
-mul-commutes f (fin s m e) (inf t) = ap (λ (u : Bool). cond (eqb m 0) nan (inf u)) (unlike-swap s t)
+mul-commutes f (fin s m e) (inf t) = ap (λ u. cond (eqb m 0) nan (inf u)) (unlike-swap s t)
 mul-commutes f (fin s m e) (fin t n d) =
-    ap (λ (u : Bool). round f u (m * up e * (n * up d)) (down e * down d)) (unlike-swap s t)
-    ∙ ap (λ (a : ℕ). round f (unlike t s) a (down e * down d)) (mul-comm (m * up e) (n * up d))
-    ∙ ap (λ (c : ℕ). round f (unlike t s) (n * up d * (m * up e)) c) (mul-comm (down e) (down d))
+    ap (λ u. round f u (m * up e * (n * up d)) (down e * down d)) (unlike-swap s t)
+    ∙ ap (λ a. round f (unlike t s) a (down e * down d)) (mul-comm _ _)
+    ∙ ap (λ c. round f (unlike t s) (n * up d * (m * up e)) c) (mul-comm _ _)
 
 -- ---- the sum
 -- a / c - b / c
@@ -144,14 +144,9 @@ add-own f (fin s m e) (inf t) p q = absurd q
 add-own f (fin false m e) (fin false n d) p q =
     over (m * up e * down d + n * up d * down e) (omega arith) refl
 add-own f (fin false m e) (fin true n d) p q =
-    differ f (m * up e * down d) (n * up d * down e) (down e * down d)
-    (m * up e * down d + 0 * down e) (0 * down d + n * up d * down e)
-    (omega arith) (omega arith)
+    differ f _ (n * up d * down e) _ _ _ (omega arith) (omega arith)
 add-own f (fin true m e) (fin false n d) p q =
-    rw (← opposite f (n * up d * down e) (m * up e * down d) (down e * down d))
-    (differ f (n * up d * down e) (m * up e * down d) (down e * down d)
-    (0 * down d + n * up d * down e) (m * up e * down d + 0 * down e)
-    (omega arith) (omega arith))
+    rw (← opposite f _ _ _) (differ f _ (m * up e * down d) _ _ _ (omega arith) (omega arith))
 add-own f (fin true m e) (fin true n d) p q =
     under (m * up e * down d + n * up d * down e) (omega arith) refl
 
@@ -159,17 +154,14 @@ pub add-rounds : (f : Format) (x y : Float) (p n c q m d : ℕ) → 0 < c → 0 
     → Is y q m d
     → Rounds f (add f x y) (p * d + q * c) (n * d + m * c) (c * d)
 add-rounds f x y p n c q m d C D h k =
-    rounds-same f (add f x y) (top x * den y + top y * den x) (bot x * den y + bot y * den x)
-    (den x * den y)
-    (p * d + q * c) (n * d + m * c) (c * d) (mul-pos (den-pos x) (den-pos y)) (mul-pos C D)
-    (add-own f x y (h .0) (k .0))
-    (sum-same (top x) (bot x) (den x) (top y) (bot y) (den y) p n c q m d (h .1) (k .1))
+    rounds-same f _ _ _ _ _ _ (c * d) (mul-pos (den-pos x) (den-pos y)) (mul-pos C D)
+    (add-own f x y (h .0) (k .0)) (sum-same _ _ _ _ _ _ p n c q m d (h .1) (k .1))
 
 pub sub-rounds : (f : Format) (x y : Float) (p n c q m d : ℕ) → 0 < c → 0 < d → Is x p n c
     → Is y q m d
     → Rounds f (sub f x y) (p * d + m * c) (n * d + q * c) (c * d)
 sub-rounds f x y p n c q m d C D h k =
-    rw sub-is (add-rounds f x (neg y) p n c m q d C D h (is-neg y q m d k))
+    rw sub-is (add-rounds f x _ p n c m q d C D h (is-neg y q m d k))
 
 -- ---- the product
 mul-own : (f : Format) (x y : Float) → T (finite x) → T (finite y)
@@ -189,11 +181,8 @@ pub mul-rounds : (f : Format) (x y : Float) (p n c q m d : ℕ) → 0 < c → 0 
     → Is y q m d
     → Rounds f (mul f x y) (p * q + n * m) (p * m + n * q) (c * d)
 mul-rounds f x y p n c q m d C D h k =
-    rounds-same f (mul f x y) (top x * top y + bot x * bot y) (top x * bot y + bot x * top y)
-    (den x * den y)
-    (p * q + n * m) (p * m + n * q) (c * d) (mul-pos (den-pos x) (den-pos y)) (mul-pos C D)
-    (mul-own f x y (h .0) (k .0))
-    (product-same (top x) (bot x) (den x) (top y) (bot y) (den y) p n c q m d (h .1) (k .1))
+    rounds-same f _ _ _ _ _ _ (c * d) (mul-pos (den-pos x) (den-pos y)) (mul-pos C D)
+    (mul-own f x y (h .0) (k .0)) (product-same _ _ _ _ _ _ p n c q m d (h .1) (k .1))
 
 -- ---- the quotient, by a divisor above zero and by one below
 scaled : (f : Format) (x : Float) (a c : ℕ) → T (finite x)
@@ -209,9 +198,8 @@ by-size : (f : Format) (x y : Float) (p n c q d : ℕ) → 0 < c → 0 < q → 0
     → Rounds f (round f (sign x) (num x * den y) (num y * den x)) (p * d) (n * d) (c * q)
 by-size f x y p n c q d C Q N h e =
     let z = round f (sign x) (num x * den y) (num y * den x) in
-    rounds-same f z (top x * den y) (bot x * den y) (num y * den x) (p * d) (n * d) (c * q)
-    (mul-pos N (den-pos x)) (mul-pos C Q) (scaled f x (den y) (num y * den x) (h .0))
-    (quotient-same (top x) (bot x) (den x) (num y) (den y) p n c q d (h .1) e)
+    rounds-same f z _ _ _ (p * d) (n * d) (c * q) (mul-pos N (den-pos x)) (mul-pos C Q)
+    (scaled f x (den y) (num y * den x) (h .0)) (quotient-same _ _ _ _ _ p n c q d (h .1) e)
 
 -- (p - n) / c over q / d is (p - n) * d / (c * q)
 pub div-rounds : (f : Format) (x y : Float) (p n c q d : ℕ) → 0 < c → 0 < d → 0 < q → Is x p n c
@@ -231,5 +219,5 @@ div-rounds-below f x y p n c q d C D Q h k =
     let apart = inr (sym (zero-add q)) in
     let N = nonzero-is y 0 q d q k apart Q in
     rw (div-is f x y (h .0) N, sign-is-below y 0 q d k Q, unlike-minus, ← round-opposite)
-    (rounds-neg f (round f (sign x) (num x * den y) (num y * den x)) (p * d) (n * d) (c * q)
+    (rounds-neg f _ (p * d) (n * d) (c * q)
     (by-size f x y p n c q d C Q N h (size-is y 0 q d q k apart)))

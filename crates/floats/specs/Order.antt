@@ -76,9 +76,7 @@ le-trans (fin s m e) y (fin u o c) h k =
     let x = fin s m e in
     let z = fin u o c in
     let f = finite-between x y z tt tt h k in
-    le-of x z tt tt
-    (le-through (top x) (bot x) (den x) (top y) (bot y) (den y) (top z) (bot z) (den z) (den-pos y)
-    (of-le x y tt f h) (of-le y z f tt k))
+    le-of x z tt tt (le-through _ _ _ _ _ _ _ _ _ (den-pos y) (of-le x y tt f h) (of-le y z f tt k))
 
 -- ---- floats of one value are in the same order
 pub above-equal : (x y z : Float) (p n c : ℕ) → 0 < c → Is x p n c → Is y p n c → T (le y z)
@@ -150,10 +148,8 @@ le-neg (fin s m e) (inf false) h = tt
 le-neg (fin s m e) (fin t n d) h =
     let x = fin s m e in
     let y = fin t n d in
-    le-of-is (fin (not t) n d) (fin (not s) m e) (bot y) (top y) (den y) (bot x) (top x) (den x)
-    (den-pos y) (den-pos x)
-    (is-neg y (top y) (bot y) (den y) (own y tt)) (is-neg x (top x) (bot x) (den x) (own x tt))
-    (omega (arith, of-le x y tt tt h))
+    le-of-is (fin (not t) n d) (fin (not s) m e) _ _ _ _ _ _ (den-pos y) (den-pos x)
+    (is-neg y _ _ _ (own y tt)) (is-neg x _ _ _ (own x tt)) (omega (arith, of-le x y tt tt h))
 
 -- what has a sign is not above what has none
 pub le-cross : (x y : Float) → T (unsigned x) → T (unsigned y) → T (le (neg x) y)

@@ -43,9 +43,9 @@ in-range : (a c : ℕ) → 0 < c → a < bound * c → grid binary32 a c < overf
 in-range a c C h =
     let u : a * 2 ^ 149 < bound * 2 ^ 149 * c =
     lt-of-lt-of-le (mul-lt-mul-of-pos-right h (pow-pos 149))
-    (le-of-eq (mul-right-comm bound c (2 ^ 149))) in
+    (le-of-eq (mul-right-comm bound c _)) in
     let w : a * 2 ^ 149 < 2 ^ 277 * c = lt-of-lt-of-le u (mul-le-mul-right c (lit≤ tt)) in
-    less a c (grid binary32 a c) (2 ^ 252) (2 ^ 149) C u (grid-near binary32 a c 253 C w .0)
+    less a c _ (2 ^ 252) _ C u (grid-near binary32 a c 253 C w .0)
 
 finite-of : (x : Float) (s : Bool) (a c : ℕ) → HasValue x s a c → T (finite x)
 finite-of nan s a c h = absurd h
@@ -55,34 +55,31 @@ finite-of (fin t m e) s a c h = tt
 pub rounds-finite : (z : Float) (p n c : ℕ) → 0 < c → Rounds binary32 z p n c → p < n + bound * c
     → n < p + bound * c → T (finite z)
 rounds-finite z p n c C (over a e i) h g =
-    let l : a < bound * c = part-less p n a (bound * c) e h in
-    rw i (finite-of (round binary32 false a c) false (grid binary32 a c) (2 ^ 149)
-    (round-at binary32 false a c (in-range a c C l)))
+    let l : a < bound * c = part-less p n a _ e h in
+    rw i (finite-of (round binary32 false a c) false _ _ (round-at _ false a c (in-range a c C l)))
 rounds-finite z p n c C (under a e i) h g =
-    let l : a < bound * c = part-less n p a (bound * c) e g in
-    rw i (finite-of (round binary32 true a c) true (grid binary32 a c) (2 ^ 149)
-    (round-at binary32 true a c (in-range a c C l)))
+    let l : a < bound * c = part-less n p a _ e g in
+    rw i (finite-of (round binary32 true a c) true _ _ (round-at _ true a c (in-range a c C l)))
 
 -- so it is the nearest float
 pub rounds-nearest-below : (z : Float) (p n c : ℕ) → 0 < c → Rounds binary32 z p n c
     → p < n + bound * c → n < p + bound * c
     → NearestFloat binary32 z p n c
 rounds-nearest-below z p n c C r h g =
-    rounds-nearest binary32 z p n c C r (rounds-finite z p n c C r h g)
+    rounds-nearest _ z p n c C r (rounds-finite z p n c C r h g)
 
 -- ---- from it on an infinity
 infinite : (a c : ℕ) → 0 < c → bound * c ≤ a → round binary32 false a c ≡ inf false
 infinite a c C h =
-    over-top (round binary32 false a c)
-    (rw infinite-at-bound at (round-mono binary32 bound 1 a c (lit< tt) C
-    (le-trans h (le-of-eq (sym (mul-one a))))))
+    over-top _ (rw infinite-at-bound at
+    (round-mono binary32 bound 1 a c (lit< tt) C (le-trans h (le-of-eq (sym (mul-one a))))))
 
 positive : (c : ℕ) → 0 < c → 0 < bound * c
 positive c C = mul-pos (lit< tt) C
 
 pub rounds-infinite-above : (z : Float) (p n c : ℕ) → 0 < c → Rounds binary32 z p n c
     → n + bound * c ≤ p → z ≡ inf false
-rounds-infinite-above z p n c C (over a e i) h = i ∙ infinite a c C (at-least n a p (bound * c) e h)
+rounds-infinite-above z p n c C (over a e i) h = i ∙ infinite a c C (at-least n a p _ e h)
   where
     at-least : (n a p b : ℕ) → p ≡ n + a → n + b ≤ p → b ≤ a
     at-least n a p b e h = omega arith
@@ -94,7 +91,7 @@ rounds-infinite-above z p n c C (under a e i) h = absurd (none n a p (bound * c)
 pub rounds-infinite-below : (z : Float) (p n c : ℕ) → 0 < c → Rounds binary32 z p n c
     → p + bound * c ≤ n → z ≡ inf true
 rounds-infinite-below z p n c C r h =
-    let i = rounds-infinite-above (neg z) n p c C (rounds-neg binary32 z p n c r) h in
+    let i = rounds-infinite-above _ n p c C (rounds-neg _ z p n c r) h in
     sym (neg-twice z) ∙ ap neg i ∙ minus
   where
     minus : neg (inf false) ≡ inf true

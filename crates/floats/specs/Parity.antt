@@ -45,31 +45,30 @@ even-neg f (inf s) t h = absurd t
 even-neg f (fin s m e) t h =
     let n = m * up e * 2 ^ low f / down e in
     let k = size n - prec f in
-    pattern-even f (not s) k (n / 2 ^ k) (even-pattern f s k (n / 2 ^ k) h)
+    pattern-even f (not s) k _ (even-pattern f s k _ h)
 
 -- ---- the p leading digits of q * 2 ^ k
 double : (m n : ℕ) → m ≡ n * 2 → m % 2 ≡ 0
-double m n e = ap (λ (x : ℕ). x % 2) e ∙ mul-mod-left n 2
+double m n e = ap (_% 2) e ∙ mul-mod-left n 2
 
 power-double : (p : ℕ) → 0 < p → 2 ^ p ≡ 2 ^ (p - 1) * 2
 power-double p P =
-    let e : p ≡ suc (p - 1) = omega arith in ap (λ (x : ℕ). 2 ^ x) e ∙ pow-suc 2 (p - 1)
+    let e : p ≡ suc (p - 1) = omega arith in ap (2 ^_) e ∙ pow-suc 2 (p - 1)
 
 module _ (p q k n : ℕ) (P : 2 ≤ p) (most : q ≤ 2 ^ p) (is : n ≡ q * 2 ^ k) where
   abbrev dropped : ℕ
   dropped = size n - p
 
   quotient : (w : ℕ) → n ≡ w * 2 ^ dropped → n / 2 ^ dropped ≡ w
-  quotient w e = ap (λ (x : ℕ). x / 2 ^ dropped) e ∙ mul-div-cancel w (pow-pos dropped)
+  quotient w e = ap (λ x. x / 2 ^ dropped) e ∙ mul-div-cancel w (pow-pos dropped)
 
   -- with fewer than k digits dropped they end in q's digits and zeros
   fewer : dropped ≤ k → n / 2 ^ dropped ≡ q * 2 ^ (k - dropped)
   fewer h =
-      quotient (q * 2 ^ (k - dropped))
-      (is ∙ ap (λ (x : ℕ). q * x) split ∙ sym (mul-assoc q (2 ^ (k - dropped)) (2 ^ dropped)))
+      quotient _ (is ∙ ap (q *_) split ∙ sym (mul-assoc q _ _))
     where
       split : 2 ^ k ≡ 2 ^ (k - dropped) * 2 ^ dropped
-      split = ap (λ (x : ℕ). 2 ^ x) (sym (back k dropped h)) ∙ pow-add 2 (k - dropped) dropped
+      split = ap (2 ^_) (sym (back k dropped h)) ∙ pow-add 2 _ dropped
 
   -- with more, q is 2 ^ p
   carried : k < dropped → n / 2 ^ dropped ≡ 2 ^ (p - 1)
@@ -78,29 +77,27 @@ module _ (p q k n : ℕ) (P : 2 ≤ p) (most : q ≤ 2 ^ p) (is : n ≡ q * 2 ^ 
       le-trans (le-of-eq (sym (pow-add 2 p k))) (size-reaches n (p + k) (omega arith)) in
       let least : 2 ^ p ≤ q = le-of-mul-le-mul-right (le-trans large (le-of-eq is)) (pow-pos k) in
       let all : n ≡ 2 ^ (p + k) =
-      is ∙ ap (λ (x : ℕ). x * 2 ^ k) (le-antisymm most least) ∙ sym (pow-add 2 p k) in
+      is ∙ ap (_* 2 ^ k) (le-antisymm most least) ∙ sym (pow-add 2 p k) in
       let s : size n ≤ suc (p + k) =
       size-le n (suc (p + k)) (rw all (pow-lt {i = p + k} (omega arith))) in
       let j : p + k ≡ p - 1 + dropped = omega arith in
-      quotient (2 ^ (p - 1)) (all ∙ ap (λ (x : ℕ). 2 ^ x) j ∙ pow-add 2 (p - 1) dropped)
+      quotient _ (all ∙ ap (2 ^_) j ∙ pow-add 2 (p - 1) dropped)
 
   leading-even : q % 2 ≡ 0 → n / 2 ^ dropped % 2 ≡ 0
   leading-even even = elim (decLe dropped k) [
-    | yes h ↦ double (n / 2 ^ dropped) (q / 2 * 2 ^ (k - dropped))
-        (fewer h ∙ twice (2 ^ (k - dropped)))
-    | no h ↦ double (n / 2 ^ dropped) (2 ^ (p - 1 - 1))
-        (carried (lt-of-not-le h) ∙ power-double (p - 1) (omega arith))
+    | yes h ↦ double _ _ (fewer h ∙ twice _)
+    | no h ↦ double _ _ (carried (lt-of-not-le h) ∙ power-double (p - 1) (omega arith))
   ]
     where
       twice : (t : ℕ) → q * t ≡ q / 2 * t * 2
-      twice t = let e : q ≡ q / 2 * 2 = omega arith in omega (arith, ap (λ (x : ℕ). x * t) e)
+      twice t = let e : q ≡ q / 2 * 2 = omega arith in omega (arith, ap (_* t) e)
 
   -- an odd q that has all p digits, or has none dropped, is what is left
   leading-odd : (0 < k → 2 ^ (p - 1) ≤ q) → q % 2 ≡ 1 → n / 2 ^ dropped ≡ q
-  leading-odd least odd = quotient q (is ∙ ap (λ (x : ℕ). q * 2 ^ x) (sym same))
+  leading-odd least odd = quotient q (is ∙ ap (λ x. q * 2 ^ x) (sym same))
     where
       clash : q ≡ 2 ^ p → ⊥
-      clash e = let even = double q (2 ^ (p - 1)) (e ∙ power-double p (omega arith)) in omega arith
+      clash e = let even = double q _ (e ∙ power-double p (omega arith)) in omega arith
 
       few : size n ≤ p + k
       few = size-le n (p + k) (rw is (shl-lt p k (lt-of-le-ne most clash)))
@@ -109,7 +106,7 @@ module _ (p q k n : ℕ) (P : 2 ≤ p) (most : q ≤ 2 ^ p) (is : n ≡ q * 2 ^ 
       many K =
           let l : 2 ^ (p - 1) * 2 ^ k ≤ n =
           le-trans (mul-le-mul-right (2 ^ k) (least K)) (le-of-eq (sym is)) in
-          size-above n (p - 1 + k) (le-trans (le-of-eq (pow-add 2 (p - 1) k)) l)
+          size-above n _ (le-trans (le-of-eq (pow-add 2 (p - 1) k)) l)
 
       same : dropped ≡ k
       same =
@@ -121,7 +118,7 @@ module _ (p q k n : ℕ) (P : 2 ≤ p) (most : q ≤ 2 ^ p) (is : n ≡ q * 2 ^ 
 
 -- ---- a float of q * 2 ^ k smallest values
 in-units : (n d q : ℕ) → 0 < d → n ≡ q * d → n / d ≡ q
-in-units n d q D e = ap (λ (x : ℕ). x / d) e ∙ mul-div-cancel q D
+in-units n d q D e = ap (_/ d) e ∙ mul-div-cancel q D
 
 module _ (f : Format) (s : Bool) (q k : ℕ) (most : q ≤ 2 ^ prec f) where
   pub units-even : (z : Float) → HasValue z s (q * 2 ^ k) (2 ^ low f) → q % 2 ≡ 0 → Even f z
@@ -131,9 +128,9 @@ module _ (f : Format) (s : Bool) (q k : ℕ) (most : q ≤ 2 ^ prec f) where
   units-even (fin t m i) h e =
       let n = m * up i * 2 ^ low f / down i in
       let is : n ≡ q * 2 ^ k =
-      in-units (m * up i * 2 ^ low f) (down i) (q * 2 ^ k) (down-pos i) (h .1) in
+      in-units _ _ _ (down-pos i) (h .1) in
       let d = size n - prec f in
-      pattern-even f t d (n / 2 ^ d) (leading-even (prec f) q k n (two f) most is e)
+      pattern-even f t d _ (leading-even _ q k n (two f) most is e)
 
   pub units-odd : (z : Float) → HasValue z s (q * 2 ^ k) (2 ^ low f)
       → (0 < k → 2 ^ (prec f - 1) ≤ q)
@@ -144,8 +141,8 @@ module _ (f : Format) (s : Bool) (q k : ℕ) (most : q ≤ 2 ^ prec f) where
   units-odd (fin t m i) h least odd e =
       let n = m * up i * 2 ^ low f / down i in
       let is : n ≡ q * 2 ^ k =
-      in-units (m * up i * 2 ^ low f) (down i) (q * 2 ^ k) (down-pos i) (h .1) in
+      in-units _ _ _ (down-pos i) (h .1) in
       let d = size n - prec f in
-      let last : n / 2 ^ d ≡ q = leading-odd (prec f) q k n (two f) most is least odd in
-      let even : n / 2 ^ d % 2 ≡ 0 = even-pattern f t d (n / 2 ^ d) e in
+      let last : n / 2 ^ d ≡ q = leading-odd _ q k n (two f) most is least odd in
+      let even : n / 2 ^ d % 2 ≡ 0 = even-pattern f t d _ e in
       omega (arith, rw last at even)

@@ -33,12 +33,12 @@ pub record Position (x0 x1 v : Float) (k h : ℕ) : Type 0 where
 
 pub part-start : {x0 x1 v : Float} {h : ℕ} → Position x0 x1 v 0 h → Is (part x0 x1 v) 0 0 1
 part-start {x0} {x1} {v} {h} at =
-    zero-div binary32 (v ⊖ x0) (x1 ⊖ x0) h (at .c) (at .some) (at .unit)
+    zero-div _ _ _ h (at .c) (at .some) (at .unit)
     (is-same (v ⊖ x0) 0 0 (at .c) 0 0 1 (at .unit) (at .far) (omega arith)) (at .width)
 
 pub part-end : {x0 x1 v : Float} {h : ℕ} → Position x0 x1 v h h → Is (part x0 x1 v) 1 0 1
 part-end {x0} {x1} {v} {h} at =
-    div-self (v ⊖ x0) (x1 ⊖ x0) h (at .c) (at .some) (at .unit) (at .far) (at .width)
+    div-self _ _ h (at .c) (at .some) (at .unit) (at .far) (at .width)
 
 abbrev zero : Float
 zero = fin false 0 (pos 0)
@@ -50,36 +50,32 @@ module _ {x0 x1 v : Float} {k h : ℕ} (at : Position x0 x1 v k h) where
   rounded : Rounds binary32 (part x0 x1 v) k 0 h
   rounded =
       let c = at .c in
-      rounds-same binary32 (part x0 x1 v) (k * c) (0 * c) (c * h) k 0 h
-      (mul-pos (at .unit) (at .some)) (at .some)
-      (div-rounds binary32 (v ⊖ x0) (x1 ⊖ x0) k 0 c h c (at .unit) (at .unit) (at .some) (at .far)
-      (at .width)) (omega arith)
+      rounds-same _ _ (k * c) (0 * c) (c * h) k 0 h (mul-pos (at .unit) (at .some)) (at .some)
+      (div-rounds _ _ _ k 0 c h c (at .unit) (at .unit) (at .some) (at .far) (at .width))
+      (omega arith)
 
   pub part-near : Approx 1 (part x0 x1 v) (frac k 0 h)
   part-near =
-      rounds-by (part x0 x1 v) (frac k 0 h) 1 (lit< tt) (lit< tt) (at .some)
-      (omega arith, omega arith) rounded
+      rounds-by _ _ 1 (lit< tt) (lit< tt) (at .some) (omega arith) rounded
 
   between : T (finite (part x0 x1 v)) × T (le zero (part x0 x1 v)) × T (le (part x0 x1 v) one)
   between =
-      rounds-between binary32 zero (part x0 x1 v) one k 0 h (at .some) (unfold fits in tt)
-      (unfold fits in tt) tt tt rounded
-      (omega arith) (omega arith)
+      rounds-between binary32 zero _ one k 0 h (at .some) (unfold fits in tt) (unfold fits in tt) tt
+      tt rounded (omega arith) (omega arith)
 
   -- at least 0 and at most 1
   pub part-low : (z : Float) → Is z 0 0 1 → T (le z (part x0 x1 v))
-  part-low z i = above-equal z zero (part x0 x1 v) 0 0 1 (lit< tt) i (tt, refl) (between .1)
+  part-low z i = above-equal z zero _ 0 0 1 (lit< tt) i (tt, refl) (between .1)
 
   pub part-high : (z : Float) → Is z 1 0 1 → T (le (part x0 x1 v) z)
-  part-high z i = below-equal z one (part x0 x1 v) 1 0 1 (lit< tt) i (tt, refl) (between .2)
+  part-high z i = below-equal z one _ 1 0 1 (lit< tt) i (tt, refl) (between .2)
 
 -- ---- the order
 pub part-order : {x0 x1 v w : Float} {k h j g : ℕ} → Position x0 x1 v k h → Position x0 x1 w j g
     → T (finite x0) → T (le v w)
     → T (le (part x0 x1 v) (part x0 x1 w))
 part-order {x0} {x1} {v} {w} {k} {h} {j} at to f l =
-    div-mono-left binary32 (v ⊖ x0) (w ⊖ x0) (x1 ⊖ x0) k 0 (at .c) j 0 (to .c) h (at .c) (at .unit)
-    (to .unit) (at .unit) (at .some)
-    (at .far) (to .far) (at .width)
-    (is-of-le (v ⊖ x0) (w ⊖ x0) k 0 (at .c) j 0 (to .c) (at .far) (to .far)
-    (sub-mono-left binary32 v w x0 (at .fin) (to .fin) f l))
+    div-mono-left _ _ _ _ k 0 (at .c) j 0 (to .c) h (at .c) (at .unit) (to .unit) (at .unit)
+    (at .some) (at .far) (to .far) (at .width)
+    (is-of-le _ _ k 0 (at .c) j 0 (to .c) (at .far) (to .far)
+    (sub-mono-left _ v w x0 (at .fin) (to .fin) f l))

@@ -41,7 +41,7 @@ neg-units f q k = go (ltb (q * 2 ^ k) (2 ^ (low f + suc (emax f))))
     go : (b : Bool)
         → neg (cond b (odd (suc (prec f)) false q k (low f)) (inf false))
         ≡ cond b (odd (suc (prec f)) true q k (low f)) (inf true)
-    go true = neg-odd (suc (prec f)) q k (low f)
+    go true = neg-odd _ q k _
     go false = unfold neg in refl
 
 pub round-neg : (f : Format) (a c : ℕ) → neg (round f false a c) ≡ round f true a c
@@ -60,7 +60,7 @@ neg-twice (fin false m e) = refl
 
 pub round-opposite : (f : Format) (s : Bool) (a c : ℕ) → neg (round f s a c) ≡ round f (not s) a c
 round-opposite f false a c = round-neg f a c
-round-opposite f true a c = ap neg (sym (round-neg f a c)) ∙ neg-twice (round f false a c)
+round-opposite f true a c = ap neg (sym (round-neg f a c)) ∙ neg-twice _
 
 pub rounds-neg : (f : Format) (z : Float) (p n c : ℕ) → Rounds f z p n c → Rounds f (neg z) n p c
 rounds-neg f z p n c (over a e i) = under a e (ap neg i ∙ round-opposite f false a c)
@@ -76,19 +76,17 @@ unfolding units
 units-unsigned f q k = go (ltb (q * 2 ^ k) (2 ^ (low f + suc (emax f))))
   where
     go : (b : Bool) → T (unsigned (cond b (odd (suc (prec f)) false q k (low f)) (inf false)))
-    go true = odd-unsigned (suc (prec f)) q k (low f)
+    go true = odd-unsigned _ q k _
     go false = tt
 
 pub round-unsigned : (f : Format) (a c : ℕ) → T (unsigned (round f false a c))
 round-unsigned f a c =
-    rw round-is
-    (units-unsigned f (kept (prec f) (a * 2 ^ low f) c) (drop (prec f) (a * 2 ^ low f) c))
+    rw round-is (units-unsigned f _ _)
 
 -- ---- zero
 zero-is : (f : Format) (s : Bool) (c : ℕ) → 0 < c → HasValue (round f s 0 c) s 0 c
 zero-is f s c C =
-    round-exact f s 0 c 0 0 C (pow-pos (prec f))
-    (lt-of-le-of-lt (le-of-eq (zero-mul (2 ^ 0))) (pow-pos (low f + suc (emax f))))
+    round-exact f s 0 c 0 0 C (pow-pos _) (lt-of-le-of-lt (le-of-eq (zero-mul (2 ^ 0))) (pow-pos _))
     (simp zero-mul)
 
 pub round-zero : (f : Format) (s : Bool) (c : ℕ) → 0 < c → Is (round f s 0 c) 0 0 c
@@ -99,39 +97,36 @@ round-zero f false c C = is-of-pos (round f false 0 c) 0 c (zero-is f false c C)
 zeros : (f : Format) (a c b d : ℕ) → 0 < c → 0 < d → a ≡ 0 → b ≡ 0
     → T (le (round f false a c) (round f true b d))
 zeros f a c b d C D z w =
-    rw (z, w)
-    (le-of-is (round f false 0 c) (round f true 0 d) 0 0 c 0 0 d C D (round-zero f false c C)
-    (round-zero f true d D) (omega arith))
+    rw (z, w) (le-of-is _ _ 0 0 c 0 0 d C D (round-zero f false c C) (round-zero f true d D)
+    (omega arith))
 
 pub rounds-mono : (f : Format) (z w : Float) (p n c q m d : ℕ) → 0 < c → 0 < d → Rounds f z p n c
     → Rounds f w q m d → Le p n c q m d → T (le z w)
 rounds-mono f z w p n c q m d C D (over a e i) (over b g j) h =
-    let pd : p * d ≡ (n + a) * d = ap (λ (x : ℕ). x * d) e in
-    let qc : q * c ≡ (m + b) * c = ap (λ (x : ℕ). x * c) g in
+    let pd : p * d ≡ (n + a) * d = ap (_* d) e in
+    let qc : q * c ≡ (m + b) * c = ap (_* c) g in
     rw (i, j) (round-mono f a c b d C D (omega arith))
 rounds-mono f z w p n c q m d C D (over a e i) (under b g j) h =
-    let pd : p * d ≡ (n + a) * d = ap (λ (x : ℕ). x * d) e in
-    let mc : m * c ≡ (q + b) * c = ap (λ (x : ℕ). x * c) g in
+    let pd : p * d ≡ (n + a) * d = ap (_* d) e in
+    let mc : m * c ≡ (q + b) * c = ap (_* c) g in
     rw (i, j)
     (zeros f a c b d C D (eq-of-mul-eq-mul-right d D a 0 (omega arith))
     (eq-of-mul-eq-mul-right c C b 0 (omega arith)))
 rounds-mono f z w p n c q m d C D (under a e i) (over b g j) h =
-    rw (i, j, ← round-neg)
-    (le-cross (round f false a c) (round f false b d) (round-unsigned f a c)
-    (round-unsigned f b d))
+    rw (i, j, ← round-neg) (le-cross _ _ (round-unsigned f a c) (round-unsigned f b d))
 rounds-mono f z w p n c q m d C D (under a e i) (under b g j) h =
-    let nd : n * d ≡ (p + a) * d = ap (λ (x : ℕ). x * d) e in
-    let mc : m * c ≡ (q + b) * c = ap (λ (x : ℕ). x * c) g in
+    let nd : n * d ≡ (p + a) * d = ap (_* d) e in
+    let mc : m * c ≡ (q + b) * c = ap (_* c) g in
     rw (i, j, ← round-neg f a c, ← round-neg f b d)
-    (le-neg (round f false b d) (round f false a c) (round-mono f b d a c D C (omega arith)))
+    (le-neg _ _ (round-mono f b d a c D C (omega arith)))
 
 -- ---- only the fraction's value counts
 size-of : (p n c q m d a : ℕ) → 0 < c → p ≡ n + a → Equal p n c q m d
     → (b : ℕ) × (q ≡ m + b) × (a * d ≡ b * c)
 size-of p n c q m d a C e h =
-    let pd : p * d ≡ (n + a) * d = ap (λ (x : ℕ). x * d) e in
+    let pd : p * d ≡ (n + a) * d = ap (_* d) e in
     let k = le-dest (le-of-mul-le-mul-right {m = m} {n = q} {k = c} (omega arith) C) in
-    (k .0, sym (k .1), omega (arith, ap (λ (x : ℕ). x * c) (k .1)))
+    (k .0, sym (k .1), omega (arith, ap (_* c) (k .1)))
 
 pub rounds-same : (f : Format) (z : Float) (p n c q m d : ℕ) → 0 < c → 0 < d → Rounds f z p n c
     → Equal p n c q m d → Rounds f z q m d

@@ -86,7 +86,7 @@ module _ {x0 y0 x1 y1 : Float} {a0 n0 a1 n1 : ℕ} (s : Segment x0 y0 x1 y1 a0 n
 
   pub at-start : (v : Float) → Is v a0 0 1 → Position x0 x1 v 0 (a1 - a0)
   at-start v i =
-      subst (λ (k : ℕ). Position x0 x1 v k (a1 - a0)) (omega arith)
+      subst (λ k. Position x0 x1 v k (a1 - a0)) (omega arith)
       (at-whole v a0 i (omega arith) (omega arith))
 
   pub at-end : (v : Float) → Is v a1 0 1 → Position x0 x1 v (a1 - a0) (a1 - a0)
@@ -98,21 +98,20 @@ module _ {x0 y0 x1 y1 : Float} {a0 n0 a1 n1 : ℕ} (s : Segment x0 y0 x1 y1 a0 n
       let c = den v in
       let C : 0 < c = den-pos v in
       let f : T (finite v) = finite-between x0 v x1 (s .x0-is .0) (s .x1-is .0) l u in
-      let low = is-of-le x0 v a0 0 1 (top v) (bot v) c (s .x0-is) (own v f) l in
-      let i : Is v (top v) 0 c = not-below v f (omega (arith, low)) in
-      let high = is-of-le v x1 (top v) 0 c a1 0 1 i (s .x1-is) u in
+      let low = is-of-le x0 v a0 0 1 _ _ c (s .x0-is) (own v f) l in
+      let i : Is v (top v) 0 c = not-below v f (omega arith) in
+      let high = is-of-le v x1 _ 0 c a1 0 1 i (s .x1-is) u in
       let split : (a0 + (a1 - a0)) * c ≡ a1 * c =
-      ap (λ (z : ℕ). z * c) (add-sub-of-le (omega arith)) in
+      ap (_* c) (add-sub-of-le (omega arith)) in
       record {
         fin = f;
         c = c;
         unit = C;
-        far = minus-whole v x0 a0 (top v) c t C i (s .x0-is) (omega (arith, low))
+        far = minus-whole v x0 a0 _ c t C i (s .x0-is) (omega arith)
             (omega (arith, high, mul-le-mul-right c (s .last)));
-        width = is-same (x1 ⊖ x0) (a1 - a0) 0 1 ((a1 - a0) * c) 0 c (lit< tt) width-is
-            (omega arith);
+        width = is-same (x1 ⊖ x0) _ 0 1 _ 0 c (lit< tt) width-is (omega arith);
         some = mul-pos width-some C;
-        inside = omega (arith, high);
+        inside = omega arith;
       }
 
   -- ---- the height of the line at v
@@ -124,7 +123,7 @@ module _ {x0 y0 x1 y1 : Float} {a0 n0 a1 n1 : ℕ} (s : Segment x0 y0 x1 y1 a0 n
 
   rise : Is (y1 ⊖ y0) n1 n0 256
   rise =
-      is-same (y1 ⊖ y0) (n1 + 0) (0 + n0) 256 n1 n0 256 (lit< tt)
+      is-same (y1 ⊖ y0) _ _ 256 n1 n0 256 (lit< tt)
       (dyadic-sub y1 y0 n1 0 n0 0 8 (lit≤ tt) (omega arith) (omega arith) (s .y1-is) (s .y0-is))
       (omega arith)
 
@@ -134,11 +133,9 @@ module _ {x0 y0 x1 y1 : Float} {a0 n0 a1 n1 : ℕ} (s : Segment x0 y0 x1 y1 a0 n
   exact v e m l q i =
       let a : n0 * e ≤ n0 * 1 = mul-le-mul-left n0 l in
       let b : n1 * e ≤ n1 * 1 = mul-le-mul-left n1 l in
-      is-same (height v) (n0 + (n1 * e + n0 * 0)) (0 + (n1 * 0 + n0 * e)) 256 m 0 256 (lit< tt)
-      (dyadic-add y0 (product v) n0 0 (n1 * e + n0 * 0) (n1 * 0 + n0 * e) 8 (lit≤ tt) (omega arith)
-      (omega arith) (s .y0-is)
-      (dyadic-mul (y1 ⊖ y0) (part x0 x1 v) n1 n0 e 0 8 0 (lit≤ tt) (omega arith) (omega arith) rise
-      i)) (omega arith)
+      is-same (height v) _ _ 256 m 0 256 (lit< tt)
+      (dyadic-add y0 _ n0 0 _ _ 8 (lit≤ tt) (omega arith) (omega arith) (s .y0-is)
+      (dyadic-mul _ _ n1 n0 e 0 8 0 (lit≤ tt) (omega arith) (omega arith) rise i)) (omega arith)
 
   pub line-start : {v : Float} {h : ℕ} → Position x0 x1 v 0 h → Is (height v) n0 0 256
   line-start {v} at = exact v 0 n0 (omega arith) (omega arith) (part-start at)
@@ -159,24 +156,21 @@ module _ {x0 y0 x1 y1 : Float} {a0 n0 a1 n1 : ℕ} (s : Segment x0 y0 x1 y1 a0 n
     S = frac k 0 h
 
     D-size : Size 255 D
-    D-size = (omega arith, omega arith)
+    D-size = omega arith
 
     S-size : Size 1 S
-    S-size = (omega arith, omega arith)
+    S-size = omega arith
 
     product-near : Approx 511 (product v) (times D S)
     product-near =
-        mul-approx 0 1 255 1 255 (y1 ⊖ y0) (part x0 x1 v) D S (lit< tt) (at .some) (lit≤ tt)
-        (lit≤ tt) (lit< tt)
-        D-size S-size (size-times 255 1 D S D-size S-size) (approx-is (y1 ⊖ y0) D rise)
-        (part-near at)
+        mul-approx 0 1 255 1 255 _ _ D S (lit< tt) (at .some) (lit≤ tt) (lit≤ tt) (lit< tt) D-size
+        S-size (size-times 255 1 D S D-size S-size) (approx-is _ D rise) (part-near at)
 
     sum-near : Approx 1022 (height v) (plus Y (times D S))
     sum-near =
-        add-approx 0 511 510 y0 (product v) Y (times D S) (lit< tt) (mul-pos (lit< tt) (at .some))
-        (lit≤ tt) (lit< tt)
-        (size-plus 255 255 Y (times D S) (omega arith, omega arith)
-        (size-times 255 1 D S D-size S-size)) (approx-is y0 Y (s .y0-is)) product-near
+        add-approx 0 511 510 y0 _ Y _ (lit< tt) (mul-pos (lit< tt) (at .some)) (lit≤ tt) (lit< tt)
+        (size-plus 255 255 Y _ (omega arith) (size-times 255 1 D S D-size S-size))
+        (approx-is y0 Y (s .y0-is)) product-near
 
     pub line-finite : T (finite (height v))
     line-finite = sum-near .fin
@@ -185,31 +179,27 @@ module _ {x0 y0 x1 y1 : Float} {a0 n0 a1 n1 : ℕ} (s : Segment x0 y0 x1 y1 a0 n
     pub line-near : Close 1 16384 (val (height v)) (frac (n0 * h + n1 * k) (n0 * k) (256 * h))
     line-near =
         let r = plus Y (times D S) in
-        close-same 1 16384 (val (height v)) r (frac (n0 * h + n1 * k) (n0 * k) (256 * h))
-        (mul-pos (lit< tt) (mul-pos (lit< tt) (at .some)))
-        (close-cut 1024 1 16384 (val (height v)) r (lit< tt)
-        (close-more 1022 1024 (2 ^ 24) (val (height v)) r (lit≤ tt) (sum-near .near)))
-        (omega arith) (omega arith)
+        close-same 1 16384 _ r _ (mul-pos (lit< tt) (mul-pos (lit< tt) (at .some)))
+        (close-cut 1024 1 16384 _ r (lit< tt)
+        (close-more 1022 1024 _ _ r (lit≤ tt) (sum-near .near))) (omega arith) (omega arith)
 
   -- ---- in order
   module _ {v w : Float} {k h j g : ℕ} (at : Position x0 x1 v k h) (to : Position x0 x1 w j g) where
     lift : T (le (product v) (product w)) → T (le (height v) (height w))
     lift =
         let f = s .y0-is .0 in
-        add-mono binary32 y0 y0 (product v) (product w) f f (product-near at .fin)
-        (product-near to .fin) (le-of y0 y0 f f (le-refl _))
+        add-mono _ y0 y0 _ _ f f (product-near at .fin) (product-near to .fin)
+        (le-of y0 y0 f f (le-refl _))
 
     up : n0 ≤ n1 → T (le (part x0 x1 v) (part x0 x1 w)) → T (le (height v) (height w))
     up n l =
-        lift
-        (mul-mono-left binary32 (y1 ⊖ y0) (part x0 x1 v) (part x0 x1 w) (n1 - n0) 256 (lit< tt)
+        lift (mul-mono-left _ _ _ _ _ 256 (lit< tt)
         (is-same (y1 ⊖ y0) n1 n0 256 (n1 - n0) 0 256 (lit< tt) rise (omega arith))
         (part-near at .fin) (part-near to .fin) l)
 
     down : n1 ≤ n0 → T (le (part x0 x1 w) (part x0 x1 v)) → T (le (height v) (height w))
     down n l =
-        lift
-        (mul-anti-left binary32 (y1 ⊖ y0) (part x0 x1 w) (part x0 x1 v) (n0 - n1) 256 (lit< tt)
+        lift (mul-anti-left _ _ _ _ _ 256 (lit< tt)
         (is-same (y1 ⊖ y0) n1 n0 256 0 (n0 - n1) 256 (lit< tt) rise (omega arith))
         (part-near to .fin) (part-near at .fin) l)
 
@@ -226,24 +216,22 @@ module _ {x0 y0 x1 y1 : Float} {a0 n0 a1 n1 : ℕ} (s : Segment x0 y0 x1 y1 a0 n
 
   module _ {v : Float} {k h : ℕ} (at : Position x0 x1 v k h) where
     from-first : T (le (part x0 x1 x0) (part x0 x1 v))
-    from-first = part-low at (part x0 x1 x0) (part-start first)
+    from-first = part-low at _ (part-start first)
 
     to-final : T (le (part x0 x1 v) (part x0 x1 x1))
-    to-final = part-high at (part x0 x1 x1) (part-end final)
+    to-final = part-high at _ (part-end final)
 
     pub rising-within : n0 ≤ n1 → T (le y0 (height v)) × T (le (height v) y1)
     rising-within n = (
-      above-equal y0 (height x0) (height v) n0 0 256 (lit< tt) (s .y0-is) (line-start first)
+      above-equal y0 _ _ n0 0 256 (lit< tt) (s .y0-is) (line-start first)
           (up first at n from-first),
-      below-equal y1 (height x1) (height v) n1 0 256 (lit< tt) (s .y1-is) (line-end final)
-          (up at final n to-final),
+      below-equal y1 _ _ n1 0 256 (lit< tt) (s .y1-is) (line-end final) (up at final n to-final),
     )
 
     pub falling-within : n1 ≤ n0 → T (le y1 (height v)) × T (le (height v) y0)
     falling-within n = (
-      above-equal y1 (height x1) (height v) n1 0 256 (lit< tt) (s .y1-is) (line-end final)
-          (down final at n to-final),
-      below-equal y0 (height x0) (height v) n0 0 256 (lit< tt) (s .y0-is) (line-start first)
+      above-equal y1 _ _ n1 0 256 (lit< tt) (s .y1-is) (line-end final) (down final at n to-final),
+      below-equal y0 _ _ n0 0 256 (lit< tt) (s .y0-is) (line-start first)
           (down at first n from-first),
     )
 
@@ -253,7 +241,6 @@ pub line-across : {x0 y0 x1 y1 x2 y2 x3 y3 v w : Float} {a0 n0 a1 n1 a2 n2 a3 n3
     → Position x0 x1 v k h → Position x2 x3 w j g
     → n0 ≤ n1 → n1 ≤ n2 → n2 ≤ n3 → T (le (height s v) (height t w))
 line-across {y1 = y1} {y2 = y2} {v = v} {w = w} {n1 = n1} {n2 = n2} s t at to l m n =
-    le-trans (height s v) y1 (height t w) (rising-within s at l .1)
-    (le-trans y1 y2 (height t w)
-    (le-of-is y1 y2 n1 0 256 n2 0 256 (lit< tt) (lit< tt) (s .y1-is) (t .y0-is) (omega arith))
-    (rising-within t to n .0))
+    le-trans _ y1 _ (rising-within s at l .1)
+    (le-trans y1 y2 _ (le-of-is y1 y2 n1 0 256 n2 0 256 (lit< tt) (lit< tt) (s .y1-is) (t .y0-is)
+    (omega arith)) (rising-within t to n .0))

@@ -32,7 +32,7 @@ neg-sign (fin false m e) u = refl
 pub round-sign : (f : Format) (s : Bool) (a c : ℕ) → sign (round f s a c) ≡ s
 round-sign f false a c = unsigned-sign (round f false a c) (round-unsigned f a c)
 round-sign f true a c =
-    ap sign (sym (round-neg f a c)) ∙ neg-sign (round f false a c) (round-unsigned f a c)
+    ap sign (sym (round-neg f a c)) ∙ neg-sign _ (round-unsigned f a c)
 
 pub rounds-sign-above : (f : Format) (z : Float) (p n c : ℕ) → Rounds f z p n c → n < p
     → sign z ≡ false
@@ -49,14 +49,12 @@ rounds-sign-below f z p n c (under a e i) h = ap sign i ∙ round-sign f true a 
 same-size : (X D Y E p n c : ℕ) → 0 < c → X * c + n * D ≡ p * D → Y * c + n * E ≡ p * E
     → X * E ≡ Y * D
 same-size X D Y E p n c C h k =
-    eq-of-mul-eq-mul-right c C (X * E) (Y * D)
-    (omega (arith, ap (λ (z : ℕ). z * E) h, ap (λ (z : ℕ). z * D) k))
+    eq-of-mul-eq-mul-right c C (X * E) (Y * D) (omega (arith, ap (_* E) h, ap (_* D) k))
 
 both-zero : (X D Y E p n c : ℕ) → 0 < c → X * c + n * D ≡ p * D → Y * c + p * E ≡ n * E
     → X * E + Y * D ≡ 0
 both-zero X D Y E p n c C h k =
-    eq-of-mul-eq-mul-right c C (X * E + Y * D) 0
-    (omega (arith, ap (λ (z : ℕ). z * E) h, ap (λ (z : ℕ). z * D) k))
+    eq-of-mul-eq-mul-right c C _ 0 (omega (arith, ap (_* E) h, ap (_* D) k))
 
 pub sum-zero : (f : Format) (x y : Float) (p n c : ℕ) → 0 < c → Is x p n c → Is y n p c
     → add f x y ≡ nought (sign x && sign y)
@@ -66,33 +64,25 @@ sum-zero f (inf s) y p n c C h k = absurd (h .0)
 sum-zero f (fin s m e) nan p n c C h k = absurd (k .0)
 sum-zero f (fin s m e) (inf t) p n c C h k = absurd (k .0)
 sum-zero f (fin false m e) (fin false l d) p n c C h k =
-    round-nought f false (m * up e * down d + l * up d * down e) (down e * down d)
-    (mul-pos (down-pos e) (down-pos d))
-    (both-zero (m * up e) (down e) (l * up d) (down d) p n c C (omega (arith, h .1))
-    (omega (arith, k .1)))
+    round-nought f false _ _ (mul-pos (down-pos e) (down-pos d))
+    (both-zero _ _ _ _ p n c C (omega arith) (omega arith))
 sum-zero f (fin true m e) (fin true l d) p n c C h k =
-    round-nought f true (m * up e * down d + l * up d * down e) (down e * down d)
-    (mul-pos (down-pos e) (down-pos d))
-    (both-zero (m * up e) (down e) (l * up d) (down d) n p c C (omega (arith, h .1))
-    (omega (arith, k .1)))
+    round-nought f true _ _ (mul-pos (down-pos e) (down-pos d))
+    (both-zero _ _ _ _ n p c C (omega arith) (omega arith))
 sum-zero f (fin false m e) (fin true l d) p n c C h k =
     let a = m * up e * down d in
     let b = l * up d * down e in
     let i : a ≡ b =
-    same-size (m * up e) (down e) (l * up d) (down d) p n c C (omega (arith, h .1))
-    (omega (arith, k .1)) in
+    same-size _ _ _ _ p n c C (omega arith) (omega arith) in
     rw (le-ltb a b (le-of-eq (sym i)))
-    (round-nought f false (a - b) (down e * down d) (mul-pos (down-pos e) (down-pos d))
-    (omega arith))
+    (round-nought f false (a - b) _ (mul-pos (down-pos e) (down-pos d)) (omega arith))
 sum-zero f (fin true m e) (fin false l d) p n c C h k =
     let a = m * up e * down d in
     let b = l * up d * down e in
     let i : a ≡ b =
-    same-size (m * up e) (down e) (l * up d) (down d) n p c C (omega (arith, h .1))
-    (omega (arith, k .1)) in
+    same-size _ _ _ _ n p c C (omega arith) (omega arith) in
     rw (le-ltb a b (le-of-eq (sym i)), le-ltb b a (le-of-eq i))
-    (round-nought f false (a - b) (down e * down d) (mul-pos (down-pos e) (down-pos d))
-    (omega arith))
+    (round-nought f false (a - b) _ (mul-pos (down-pos e) (down-pos d)) (omega arith))
 
 finite-sign-neg : (x : Float) → T (finite x) → sign (neg x) ≡ not (sign x)
 unfolding neg
@@ -104,8 +94,8 @@ finite-sign-neg (fin s m e) p = refl
 pub difference-zero : (f : Format) (x y : Float) (p n c : ℕ) → 0 < c → Is x p n c → Is y p n c
     → sub f x y ≡ nought (sign x && not (sign y))
 difference-zero f x y p n c C h k =
-    sub-is f x y ∙ sum-zero f x (neg y) p n c C h (is-neg y p n c k)
-    ∙ ap (λ (s : Bool). nought (sign x && s)) (finite-sign-neg y (k .0))
+    sub-is f x y ∙ sum-zero f x _ p n c C h (is-neg y p n c k)
+    ∙ ap (λ s. nought (sign x && s)) (finite-sign-neg y (k .0))
 
 -- ---- the sign of a product and of a quotient, unless they are NaN
 or-nan : (b : Bool) (s : Bool) → T (not (isNan (cond b nan (inf s))))
@@ -120,11 +110,11 @@ unfolding mul isNan
 mul-sign f nan y h = absurd h
 mul-sign f (inf s) nan h = absurd h
 mul-sign f (inf s) (inf t) h = refl
-mul-sign f (inf s) (fin t n d) h = or-nan (eqb n 0) (unlike s t) h
+mul-sign f (inf s) (fin t n d) h = or-nan (eqb n 0) _ h
 mul-sign f (fin s m e) nan h = absurd h
-mul-sign f (fin s m e) (inf t) h = or-nan (eqb m 0) (unlike s t) h
+mul-sign f (fin s m e) (inf t) h = or-nan (eqb m 0) _ h
 mul-sign f (fin s m e) (fin t n d) h =
-    round-sign f (unlike s t) (m * up e * (n * up d)) (down e * down d)
+    round-sign f _ _ _
 
 pub div-sign : (f : Format) (x y : Float) → T (not (isNan (div f x y)))
     → sign (div f x y) ≡ unlike (sign x) (sign y)
@@ -142,16 +132,15 @@ div-sign f (fin s m e) (fin t n d) h = go (eqb n 0) h
 
     go : (b : Bool) → T (not (isNan (cond b (cond (eqb m 0) nan (inf (unlike s t))) z)))
         → sign (cond b (cond (eqb m 0) nan (inf (unlike s t))) z) ≡ unlike s t
-    go true i = or-nan (eqb m 0) (unlike s t) i
-    go false i = round-sign f (unlike s t) (m * up e * down d) (n * up d * down e)
+    go true i = or-nan (eqb m 0) _ i
+    go false i = round-sign f _ _ (n * up d * down e)
 
 -- ---- results that have no sign bit
 pub add-unsigned : (f : Format) (x y : Float) → T (finite x) → T (finite y) → T (unsigned x)
     → T (unsigned y) → T (unsigned (add f x y))
 unfolding sum
 add-unsigned f x y p q u w =
-    rw (add-is f x y p q, unsigned-sign x u, unsigned-sign y w)
-    (round-unsigned f (num x * den y + num y * den x) (den x * den y))
+    rw (add-is f x y p q, unsigned-sign x u, unsigned-sign y w) (round-unsigned f _ _)
 
 pub sub-unsigned : (f : Format) (x y : Float) → T (finite x) → T (finite y) → T (unsigned x)
     → T (unsigned y) → T (le y x) → T (unsigned (sub f x y))
@@ -165,9 +154,8 @@ sub-unsigned f (fin false m e) (fin true n d) p q u w h = absurd w
 sub-unsigned f (fin false m e) (fin false n d) p q u w h =
     let a = m * up e * down d in
     let b = n * up d * down e in
-    rw (le-ltb a b (omega (arith, of-le (fin false n d) (fin false m e) tt tt h)))
-    (round-unsigned f (a - b) (down e * down d))
+    rw (le-ltb a b (omega (arith, of-le _ _ tt tt h))) (round-unsigned f (a - b) _)
 
 pub square-unsigned : (f : Format) (x : Float) → T (finite x) → T (unsigned (mul f x x))
 square-unsigned f x p =
-    rw (mul-is f x x p p, unlike-self (sign x)) (round-unsigned f (num x * num x) (den x * den x))
+    rw (mul-is f x x p p, unlike-self _) (round-unsigned f _ _)

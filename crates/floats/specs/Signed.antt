@@ -81,26 +81,26 @@ up-more i j k p n c q m d l h = le-trans h (omega (arith, mul-le-mul-right (c * 
 pub sum-same : (a b c e f g p n d q m h : ℕ) → Equal a b c p n d → Equal e f g q m h
     → Equal (a * g + e * c) (b * g + f * c) (c * g) (p * h + q * d) (n * h + m * d) (d * h)
 sum-same a b c e f g p n d q m h x y =
-    let first = simp poly at (ap (λ (z : ℕ). z * (g * h)) x) in
-    let second = simp poly at (ap (λ (z : ℕ). z * (c * d)) y) in
+    let first = simp poly at (ap (λ z. z * (g * h)) x) in
+    let second = simp poly at (ap (λ z. z * (c * d)) y) in
     simp poly (omega arith)
 
 pub product-same : (a b c e f g p n d q m h : ℕ) → Equal a b c p n d → Equal e f g q m h
     → Equal (a * e + b * f) (a * f + b * e) (c * g) (p * q + n * m) (p * m + n * q) (d * h)
 product-same a b c e f g p n d q m h x y =
-    let x₁ = simp poly at (ap (λ (z : ℕ). z * (e * h)) x) in
-    let x₂ = simp poly at (ap (λ (z : ℕ). z * (f * h)) x) in
-    let y₁ = simp poly at (ap (λ (z : ℕ). z * (p * c)) y) in
-    let y₂ = simp poly at (ap (λ (z : ℕ). z * (n * c)) y) in
+    let x₁ = simp poly at (ap (λ z. z * (e * h)) x) in
+    let x₂ = simp poly at (ap (λ z. z * (f * h)) x) in
+    let y₁ = simp poly at (ap (λ z. z * (p * c)) y) in
+    let y₂ = simp poly at (ap (λ z. z * (n * c)) y) in
     simp poly (omega arith)
 
 -- by e / g = q / h
 pub quotient-same : (a b c e g p n d q h : ℕ) → Equal a b c p n d → e * h ≡ q * g
     → Equal (a * g) (b * g) (e * c) (p * h) (n * h) (d * q)
 quotient-same a b c e g p n d q h x y =
-    let first = simp poly at (ap (λ (z : ℕ). z * (q * g)) x) in
-    let y₁ = simp poly at (ap (λ (z : ℕ). z * (n * c)) y) in
-    let y₂ = simp poly at (ap (λ (z : ℕ). z * (p * c)) y) in
+    let first = simp poly at (ap (λ z. z * (q * g)) x) in
+    let y₁ = simp poly at (ap (λ z. z * (n * c)) y) in
+    let y₂ = simp poly at (ap (λ z. z * (p * c)) y) in
     simp poly (omega arith)
 
 -- a sum grows with each term

@@ -22,17 +22,15 @@ spare a b k K h = omega arith
 dyadic : (z : Float) (p n i : ℕ) → i ≤ 149 → p < n + 2 ^ 24 → n < p + 2 ^ 24
     → Rounds binary32 z p n (2 ^ i) → Is z p n (2 ^ i)
 dyadic z p n i I a b r =
-    rounds-exact binary32 z p n (2 ^ i) (pow-pos i) r
-    (rep-dyadic (p - n) i I (spare p n (2 ^ 24) (pow-pos 24) a))
-    (rep-dyadic (n - p) i I (spare n p (2 ^ 24) (pow-pos 24) b))
+    rounds-exact _ z p n (2 ^ i) (pow-pos i) r (rep-dyadic (p - n) i I (spare p n _ (pow-pos 24) a))
+    (rep-dyadic (n - p) i I (spare n p _ (pow-pos 24) b))
 
 -- over a common denominator
 common : (z : Float) (p n q m d : ℕ) → 0 < d
     → Rounds binary32 z (p * d + q * d) (n * d + m * d) (d * d)
     → Rounds binary32 z (p + q) (n + m) d
 common z p n q m d D r =
-    rounds-same binary32 z (p * d + q * d) (n * d + m * d) (d * d) (p + q) (n + m) d (mul-pos D D) D
-    r (omega arith)
+    rounds-same _ z _ _ (d * d) (p + q) (n + m) d (mul-pos D D) D r (omega arith)
 
 pub dyadic-add : (x y : Float) (p n q m i : ℕ) → i ≤ 149 → p + q < n + m + 2 ^ 24
     → n + m < p + q + 2 ^ 24
@@ -40,7 +38,7 @@ pub dyadic-add : (x y : Float) (p n q m i : ℕ) → i ≤ 149 → p + q < n + m
 dyadic-add x y p n q m i I a b h k =
     dyadic (x ⊕ y) (p + q) (n + m) i I a b
     (common (x ⊕ y) p n q m (2 ^ i) (pow-pos i)
-    (add-rounds binary32 x y p n (2 ^ i) q m (2 ^ i) (pow-pos i) (pow-pos i) h k))
+    (add-rounds _ x y p n (2 ^ i) q m (2 ^ i) (pow-pos i) (pow-pos i) h k))
 
 pub dyadic-sub : (x y : Float) (p n q m i : ℕ) → i ≤ 149 → p + m < n + q + 2 ^ 24
     → n + q < p + m + 2 ^ 24
@@ -48,14 +46,14 @@ pub dyadic-sub : (x y : Float) (p n q m i : ℕ) → i ≤ 149 → p + m < n + q
 dyadic-sub x y p n q m i I a b h k =
     dyadic (x ⊖ y) (p + m) (n + q) i I a b
     (common (x ⊖ y) p n m q (2 ^ i) (pow-pos i)
-    (sub-rounds binary32 x y p n (2 ^ i) q m (2 ^ i) (pow-pos i) (pow-pos i) h k))
+    (sub-rounds _ x y p n (2 ^ i) q m (2 ^ i) (pow-pos i) (pow-pos i) h k))
 
 pub dyadic-mul : (x y : Float) (p n q m i j : ℕ) → i + j ≤ 149
     → p * q + n * m < p * m + n * q + 2 ^ 24 → p * m + n * q < p * q + n * m + 2 ^ 24
     → Is x p n (2 ^ i) → Is y q m (2 ^ j) → Is (x ⊗ y) (p * q + n * m) (p * m + n * q) (2 ^ (i + j))
 dyadic-mul x y p n q m i j I a b h k =
-    dyadic (x ⊗ y) (p * q + n * m) (p * m + n * q) (i + j) I a b
-    (rw pow-add (mul-rounds binary32 x y p n (2 ^ i) q m (2 ^ j) (pow-pos i) (pow-pos j) h k))
+    dyadic (x ⊗ y) _ _ (i + j) I a b
+    (rw pow-add (mul-rounds _ x y p n (2 ^ i) q m (2 ^ j) (pow-pos i) (pow-pos j) h k))
 
 -- ---- whole numbers that are not negative, nor their difference; for the others there are
 -- the laws above, at i = 0
@@ -72,7 +70,7 @@ whole-sub x y a b l s h k =
 pub whole-mul : (x y : Float) (a b : ℕ) → a * b < 2 ^ 24 → Is x a 0 1 → Is y b 0 1
     → Is (x ⊗ y) (a * b) 0 1
 whole-mul x y a b s h k =
-    is-same (x ⊗ y) (a * b + 0 * 0) (a * 0 + 0 * b) 1 (a * b) 0 1 (lit< tt)
+    is-same (x ⊗ y) _ _ 1 (a * b) 0 1 (lit< tt)
     (dyadic-mul x y a 0 b 0 0 0 (lit≤ tt) (omega arith) (omega arith) h k) (omega arith)
 
 -- ---- quotients by a number above zero: of zero, and of the number itself. By one of either sign,
@@ -85,7 +83,7 @@ zero-div f x y q d Q D h k =
 
 pub div-self : (x y : Float) (h d : ℕ) → 0 < h → 0 < d → Is x h 0 d → Is y h 0 d → Is (x ⊘ y) 1 0 1
 div-self x y h d H D i k =
-    rounds-exact binary32 (x ⊘ y) 1 0 1 (lit< tt)
-    (rounds-same binary32 (x ⊘ y) (h * d) (0 * d) (d * h) 1 0 1 (mul-pos D H) (lit< tt)
-    (div-rounds binary32 x y h 0 d h d D D H i k) (omega arith))
-    (rep-dyadic 1 0 (lit≤ tt) (lit< tt)) (rep-zero binary32 1)
+    rounds-exact _ (x ⊘ y) 1 0 1 (lit< tt)
+    (rounds-same _ (x ⊘ y) (h * d) (0 * d) (d * h) 1 0 1 (mul-pos D H) (lit< tt)
+    (div-rounds _ x y h 0 d h d D D H i k) (omega arith)) (rep-dyadic 1 0 (lit≤ tt) (lit< tt))
+    (rep-zero _ 1)

@@ -37,9 +37,8 @@ use Rattle.floats.specs.Exact.{fits-rep, round-rep}
 cross : (x y u w a c l : ℕ) → 0 < c → x * c ≡ a * u → y * c ≡ a * w → x * l * w ≡ y * l * u
 cross x y u w a c l C h k =
     let e : x * w ≡ y * u =
-    eq-of-mul-eq-mul-right c C (x * w) (y * u)
-    (omega (arith, ap (λ (z : ℕ). z * w) h, ap (λ (z : ℕ). z * u) k)) in
-    omega (arith, ap (λ (z : ℕ). z * l) e)
+    eq-of-mul-eq-mul-right c C (x * w) (y * u) (omega (arith, ap (_* w) h, ap (_* u) k)) in
+    omega (arith, ap (_* l) e)
 
 -- the bit pattern of n smallest values with the sign s
 abbrev pattern : Format → Bool → ℕ → ℕ
@@ -54,8 +53,7 @@ same-bits f (fin t m e) nan s a c C v w = absurd w
 same-bits f (fin t m e) (inf u) s a c C v w = absurd w
 same-bits f (fin t m e) (fin u n d) s a c C v w =
     ap₂ (pattern f) (v .0 ∙ sym (w .0))
-    (div-same (m * up e * 2 ^ low f) (down e) (n * up d * 2 ^ low f) (down d) (down-pos e)
-    (down-pos d)
+    (div-same _ _ _ _ (down-pos e) (down-pos d)
     (cross (m * up e) (n * up d) (down e) (down d) a c (2 ^ low f) C (v .1) (w .1)))
 
 pub value-unique : (f : Format) (x y : Float) (s : Bool) (a c : ℕ) → 0 < c → T (fits f x)
@@ -70,23 +68,22 @@ pub round-own : (f : Format) (x : Float) → T (finite x) → T (fits f x)
 round-own f nan p t = absurd p
 round-own f (inf s) p t = absurd p
 round-own f (fin s m e) p t =
-    value-unique f (round f s (m * up e) (down e)) (fin s m e) s (m * up e) (down e) (down-pos e)
-    (round-fits f s (m * up e) (down e)) t
-    (round-rep f s (m * up e) (down e) (down-pos e) (fits-rep f (fin s m e) tt t)) (refl, refl)
+    value-unique f _ _ s _ _ (down-pos e) (round-fits f s _ _) t
+    (round-rep f s _ _ (down-pos e) (fits-rep f _ tt t)) (refl, refl)
 
 pub rounds-to : (f : Format) (x : Float) (a c : ℕ) → T (finite x) → T (fits f x) → 0 < c
     → a * den x ≡ num x * c → round f (sign x) a c ≡ x
 rounds-to f x a c p t C h =
-    round-same f (sign x) a c (num x) (den x) C (den-pos x) h ∙ round-own f x p t
+    round-same f _ a c _ _ C (den-pos x) h ∙ round-own f x p t
 
 pub rounds-own : (f : Format) (x : Float) → T (finite x) → T (fits f x)
     → Rounds f x (top x) (bot x) (den x)
 rounds-own f nan p t = absurd p
 rounds-own f (inf s) p t = absurd p
 rounds-own f (fin false m e) p t =
-    over (m * up e) (omega arith) (sym (round-own f (fin false m e) p t))
+    over (m * up e) (omega arith) (sym (round-own f _ p t))
 rounds-own f (fin true m e) p t =
-    under (m * up e) (omega arith) (sym (round-own f (fin true m e) p t))
+    under (m * up e) (omega arith) (sym (round-own f _ p t))
 
 -- ---- zeros are values of every format
 pub nought-fits : (f : Format) (s : Bool) → T (fits f (nought s))

@@ -48,8 +48,7 @@ own x f = (f, refl)
 pub is-same : (x : Float) (p n c q m d : ℕ) → 0 < c → Is x p n c → Equal p n c q m d → Is x q m d
 is-same x p n c q m d C h e = (
   h .0,
-  eq-of-mul-eq-mul-right c C (top x * d + m * den x) (q * den x + bot x * d)
-      (omega (arith, ap (λ (z : ℕ). z * d) (h .1), ap (λ (z : ℕ). z * den x) e)),
+  eq-of-mul-eq-mul-right c C _ _ (omega (arith, ap (_* d) (h .1), ap (_* den x) e)),
 )
 
 -- ---- the sign changed
@@ -77,11 +76,11 @@ pub is-neg : (x : Float) (p n c : ℕ) → Is x p n c → Is (neg x) n p c
 unfolding neg
 is-neg nan p n c h = absurd (h .0)
 is-neg (inf s) p n c h = absurd (h .0)
-is-neg (fin false m e) p n c h = (tt, omega (arith, h .1))
-is-neg (fin true m e) p n c h = (tt, omega (arith, h .1))
+is-neg (fin false m e) p n c h = (tt, omega arith)
+is-neg (fin true m e) p n c h = (tt, omega arith)
 
 pub finite-neg : (x : Float) → T (finite x) → T (finite (neg x))
-finite-neg x f = is-neg x (top x) (bot x) (den x) (own x f) .0
+finite-neg x f = is-neg x _ _ _ (own x f) .0
 
 -- ---- size
 -- |p - n| = a
@@ -92,15 +91,15 @@ Apart p n a = (p ≡ n + a) ⊎ (n ≡ p + a)
 pub size-is : (x : Float) (p n c a : ℕ) → Is x p n c → Apart p n a → num x * c ≡ a * den x
 size-is nan p n c a h e = absurd (h .0)
 size-is (inf s) p n c a h e = absurd (h .0)
-size-is (fin false m k) p n c a h (inl e) = omega (arith, h .1, ap (λ (z : ℕ). z * down k) e)
-size-is (fin false m k) p n c a h (inr e) = omega (arith, h .1, ap (λ (z : ℕ). z * down k) e)
-size-is (fin true m k) p n c a h (inl e) = omega (arith, h .1, ap (λ (z : ℕ). z * down k) e)
-size-is (fin true m k) p n c a h (inr e) = omega (arith, h .1, ap (λ (z : ℕ). z * down k) e)
+size-is (fin false m k) p n c a h (inl e) = omega (arith, h .1, ap (_* down k) e)
+size-is (fin false m k) p n c a h (inr e) = omega (arith, h .1, ap (_* down k) e)
+size-is (fin true m k) p n c a h (inl e) = omega (arith, h .1, ap (_* down k) e)
+size-is (fin true m k) p n c a h (inr e) = omega (arith, h .1, ap (_* down k) e)
 
 -- 0 < num x says that x is finite and no zero
 pub nonzero-is : (x : Float) (p n c a : ℕ) → Is x p n c → Apart p n a → 0 < a → 0 < num x
 nonzero-is x p n c a h e A =
-    first-pos (num x) c (rw (size-is x p n c a h e) (mul-pos A (den-pos x)))
+    first-pos _ c (rw (size-is x p n c a h e) (mul-pos A (den-pos x)))
 
 -- ---- sign
 -- the sign bit, which a NaN has not
@@ -157,13 +156,13 @@ pub is-of-pos : (x : Float) (a c : ℕ) → HasValue x false a c → Is x a 0 c
 is-of-pos nan a c h = absurd h
 is-of-pos (inf s) a c h = absurd h
 is-of-pos (fin true m e) a c h = absurd (true≢false (h .0))
-is-of-pos (fin false m e) a c h = (tt, omega (arith, h .1))
+is-of-pos (fin false m e) a c h = (tt, omega arith)
 
 pub is-of-neg : (x : Float) (a c : ℕ) → HasValue x true a c → Is x 0 a c
 is-of-neg nan a c h = absurd h
 is-of-neg (inf s) a c h = absurd h
 is-of-neg (fin false m e) a c h = absurd (true≢false (sym (h .0)))
-is-of-neg (fin true m e) a c h = (tt, omega (arith, h .1))
+is-of-neg (fin true m e) a c h = (tt, omega arith)
 
 pub value-is : (x : Float) (p n c a : ℕ) → Is x p n c → Apart p n a → HasValue x (sign x) a c
 value-is nan p n c a h e = absurd (h .0)
@@ -172,7 +171,7 @@ value-is (fin s m k) p n c a h e = (refl, size-is (fin s m k) p n c a h e)
 
 pub unsigned-value : (x : Float) (a c : ℕ) → T (unsigned x) → Is x a 0 c → HasValue x false a c
 unsigned-value x a c u h =
-    subst (λ (s : Bool). HasValue x s a c) (unsigned-sign x u)
+    subst (λ s. HasValue x s a c) (unsigned-sign x u)
     (value-is x a 0 c a h (inl (sym (zero-add a))))
 
 -- ---- the order: `le` asks whether one size is less than the other, or else whether they are equal
@@ -219,18 +218,18 @@ le-of (fin false m e) (fin false n d) p q h =
     let b = n * up d * down e in
     less-or-equal a b (eqb a b && true) (equal a b) (omega arith)
 le-of (fin false m e) (fin true n d) p q h =
-    both-zero (m * up e * down d) (n * up d * down e) (omega arith) (omega arith)
+    both-zero _ (n * up d * down e) (omega arith) (omega arith)
 le-of (fin true m e) nan p q h = absurd q
 le-of (fin true m e) (inf t) p q h = absurd q
 le-of (fin true m e) (fin false n d) p q h =
     let a = m * up e * down d in
     let b = n * up d * down e in
-    less-or-equal 0 (a + b) (eqb a b && eqb a 0)
-    (λ (z : 0 ≡ a + b). both-zero a b (omega arith) (omega arith)) zero-le
+    less-or-equal 0 (a + b) (eqb a b && eqb a 0) (λ z. both-zero a b (omega arith) (omega arith))
+    zero-le
 le-of (fin true m e) (fin true n d) p q h =
     let a = m * up e * down d in
     let b = n * up d * down e in
-    less-or-equal b a (eqb a b && true) (λ (z : b ≡ a). equal a b (sym z)) (omega arith)
+    less-or-equal b a (eqb a b && true) (λ z. equal a b (sym z)) (omega arith)
 
 pub of-le : (x y : Float) → T (finite x) → T (finite y) → T (le x y)
     → Le (top x) (bot x) (den x) (top y) (bot y) (den y)
@@ -265,24 +264,23 @@ of-le (fin true m e) (fin true n d) p q h =
 
 -- ---- the order by any fractions that the two equal
 pub is→le : (x : Float) (p n c : ℕ) → Is x p n c → Le (top x) (bot x) (den x) p n c
-is→le x p n c h = omega (arith, h .1)
+is→le x p n c h = omega arith
 
 pub is→ge : (x : Float) (p n c : ℕ) → Is x p n c → Le p n c (top x) (bot x) (den x)
-is→ge x p n c h = omega (arith, h .1)
+is→ge x p n c h = omega arith
 
 pub le-of-is : (x y : Float) (p n c q m d : ℕ) → 0 < c → 0 < d → Is x p n c → Is y q m d
     → Le p n c q m d → T (le x y)
 le-of-is x y p n c q m d C D h k l =
     le-of x y (h .0) (k .0)
-    (le-through (top x) (bot x) (den x) p n c (top y) (bot y) (den y) C (is→le x p n c h)
-    (le-through p n c q m d (top y) (bot y) (den y) D l (is→ge y q m d k)))
+    (le-through _ _ _ p n c _ _ _ C (is→le x p n c h)
+    (le-through p n c q m d _ _ _ D l (is→ge y q m d k)))
 
 pub is-of-le : (x y : Float) (p n c q m d : ℕ) → Is x p n c → Is y q m d → T (le x y)
     → Le p n c q m d
 is-of-le x y p n c q m d h k l =
-    le-through p n c (top x) (bot x) (den x) q m d (den-pos x) (is→ge x p n c h)
-    (le-through (top x) (bot x) (den x) (top y) (bot y) (den y) q m d (den-pos y)
-    (of-le x y (h .0) (k .0) l) (is→le y q m d k))
+    le-through p n c _ _ _ q m d (den-pos x) (is→ge x p n c h)
+    (le-through _ _ _ _ _ _ q m d (den-pos y) (of-le x y (h .0) (k .0) l) (is→le y q m d k))
 
 -- ---- the strict order, and a test that failed
 pub lt-of : (x y : Float) → T (finite x) → T (finite y)
@@ -315,11 +313,8 @@ of-lt (fin true m e) (fin true n d) p q h = omega (arith, ltb→lt)
 
 pub le-of-nlt : (x y : Float) → T (finite x) → T (finite y) → T (not (lt x y)) → T (le y x)
 le-of-nlt x y p q h =
-    le-of y x q p
-    (le-of-suc-le-suc
-    (lt-of-not-le
-    (λ (l : Lt (top x) (bot x) (den x) (top y) (bot y) (den y)). T-not (lt x y) h
-    (lt-of x y p q l))))
+    le-of y x q p (le-of-suc-le-suc
+    (lt-of-not-le (λ (l : Lt _ _ _ _ _ _). T-not (lt x y) h (lt-of x y p q l))))
 
 -- a float that is at least 0 as a fraction without a sign
 pub not-below : (v : Float) → T (finite v) → bot v ≤ top v → Is v (top v) 0 (den v)

@@ -50,11 +50,11 @@ few m p P h k = omega arith
 
 whole-from : (m : ℕ) (e : ℤ) → T (fits binary32 (fin false m e)) → 2 ^ 23 * down e ≤ m * up e
     → (q : ℕ) × (m * up e ≡ q * down e)
-whole-from m (pos k) t h = (m * 2 ^ k, sym (mul-one (m * 2 ^ k)))
+whole-from m (pos k) t h = (m * 2 ^ k, sym (mul-one _))
 whole-from zero (negsuc k) t h =
     absurd (few 0 (2 ^ k) (pow-pos k) (lit< tt) (rw (pow-succ' 2 k) at h))
 whole-from (suc m) (negsuc k) t h =
-    absurd (few (suc m) (2 ^ k) (pow-pos k) (fits-parts binary32 false m (negsuc k) t .0)
+    absurd (few _ (2 ^ k) (pow-pos k) (fits-parts _ false m (negsuc k) t .0)
     (rw (pow-succ' 2 k) at h))
 
 pub big-whole : (x : Float) → T (fits binary32 x) → T (finite x)
@@ -64,10 +64,9 @@ big-whole (inf s) t f h = absurd f
 big-whole (fin true m e) t f h = let none : ⊥ = omega (arith, down-pos e) in absurd none
 big-whole (fin false m e) t f h =
     let w = whole-from m e t (omega arith) in
-    let r = le-dest
-    (le-of-mul-le-mul-right {m = 2 ^ 23} {n = w .0} {k = down e} (omega (arith, w .1))
+    let r = le-dest (le-of-mul-le-mul-right {m = 2 ^ 23} {n = w .0} {k = down e} (omega arith)
     (down-pos e)) in
-    (r .0, (tt, omega (arith, w .1, ap (λ (z : ℕ). z * down e) (r .1))))
+    (r .0, (tt, omega (arith, w .1, ap (_* down e) (r .1))))
 
 -- ---- whole numbers as floats
 pub whole-is : (n : ℕ) → n ≤ 2 ^ 24 → Is (ofInt binary32 (pos n)) n 0 1
@@ -78,8 +77,8 @@ whole-float : (z : Float) (k : ℕ) → k ≤ 2 ^ 24 → T (fits binary32 z) →
     → z ≡ ofInt binary32 (pos k)
 unfolding ofInt
 whole-float z k l t u h =
-    whole-unique binary32 z (round binary32 false k 1) false k t (ofInt-fits binary32 (pos k))
-    (unsigned-value z k 1 u h) (round-whole binary32 false k l)
+    whole-unique _ z _ false k t (ofInt-fits _ (pos k)) (unsigned-value z k 1 u h)
+    (round-whole binary32 false k l)
 
 whole-unsigned : (k : ℕ) → T (unsigned (ofInt binary32 (pos k)))
 unfolding ofInt
@@ -92,10 +91,9 @@ whole-less a b h l =
     let y = ofInt binary32 (pos b) in
     let p = whole-is a (omega arith) in
     let q = whole-is b (omega arith) in
-    whole-float (x ⊖ y) (a - b) (omega arith) (sub-fits binary32 x y)
-    (sub-unsigned binary32 x y (p .0) (q .0) (whole-unsigned a) (whole-unsigned b)
-    (le-of-is y x b 0 1 a 0 1 (lit< tt) (lit< tt) q p (omega arith)))
-    (whole-sub x y a b h l p q)
+    whole-float (x ⊖ y) (a - b) (omega arith) (sub-fits _ x y)
+    (sub-unsigned _ x y (p .0) (q .0) (whole-unsigned a) (whole-unsigned b)
+    (le-of-is y x b 0 1 a 0 1 (lit< tt) (lit< tt) q p (omega arith))) (whole-sub x y a b h l p q)
 
 -- ---- the two sums
 -- 2 ^ 23
@@ -111,7 +109,7 @@ pub record Whole (a d : ℕ) (t : Float) : Type 0 where
 
 small : (a d r : ℕ) → 0 < d → a ≤ 4194304 * d
     → 2 * (8388608 + r) * d ≤ 2 * a + 2 * (8388608 * d) + d → 8388608 + r < 16777216
-small a d r D h k = lt-of-not-le (λ (l : 16777216 ≤ 8388608 + r). clash (mul-le-mul-right d l))
+small a d r D h k = lt-of-not-le (λ l. clash (mul-le-mul-right d l))
   where
     clash : 16777216 * d ≤ (8388608 + r) * d → ⊥
     clash l = omega arith
@@ -125,28 +123,26 @@ nearest-whole m e h =
     let s = x ⊕ big in
     let D = down-pos e in
     let C : 0 < d * 1 = mul-pos D (lit< tt) in
-    let rounds = add-rounds binary32 x big a 0 d (2 ^ 23) 0 1 D (lit< tt) (own x tt) (tt, refl) in
+    let rounds = add-rounds _ x big a 0 d _ 0 1 D (lit< tt) (own x tt) (tt, refl) in
     let between =
-    rounds-between binary32 big s (fin false 1 (pos 24)) (a * 1 + 2 ^ 23 * d) (0 * 1 + 0 * d)
-    (d * 1) C
+    rounds-between binary32 big s (fin false 1 (pos 24)) (a * 1 + 2 ^ 23 * d) _ (d * 1) C
     (unfold fits in tt) (unfold fits in tt) tt tt rounds (omega arith) (omega arith) in
-    let w = big-whole s (add-fits binary32 x big) (between .0)
+    let w = big-whole s (add-fits _ x big) (between .0)
     (of-le big s tt (between .0) (between .1)) in
     let r = w .0 in
     let near =
-    is-near s (2 ^ 23 + r) 0 1 (a * 1 + 2 ^ 23 * d) (0 * 1 + 0 * d) (d * 1) (2 ^ 24) (2 ^ 25) (w .1)
-    (rounds-near s (a * 1 + 2 ^ 23 * d) (0 * 1 + 0 * d) (d * 1) 24 (lit≤ tt) C rounds (omega arith)
-    (omega arith) .1) in
-    let l : 2 ^ 23 + r < 2 ^ 24 = small a d r D h (omega (arith, near .0)) in
+    is-near s _ 0 1 _ _ (d * 1) _ _ (w .1)
+    (rounds-near s _ _ (d * 1) 24 (lit≤ tt) C rounds (omega arith) (omega arith) .1) in
+    let l : 2 ^ 23 + r < 2 ^ 24 = small a d r D h (omega arith) in
     let value : Is (s ⊖ big) r 0 1 =
-    rw (add-sub-cancel-left (2 ^ 23) r) at
-    (whole-sub s big (2 ^ 23 + r) (2 ^ 23) (omega arith) l (w .1) (tt, refl)) in
+    rw (add-sub-cancel-left _ r) at
+    (whole-sub s big _ (2 ^ 23) (omega arith) l (w .1) (tt, refl)) in
     record {
       whole = r;
       float =
-          whole-float (s ⊖ big) r (omega arith) (sub-fits binary32 s big)
-          (sub-unsigned binary32 s big (between .0) tt (add-unsigned binary32 x big tt tt tt tt) tt
-          (between .1)) value;
-      low = omega (arith, near .0);
-      high = omega (arith, near .1);
+          whole-float _ r (omega arith) (sub-fits _ s big)
+          (sub-unsigned _ s big (between .0) tt (add-unsigned _ x big tt tt tt tt) tt (between .1))
+          value;
+      low = omega arith;
+      high = omega arith;
     }

@@ -48,7 +48,7 @@ beyond-of f h = record { least = record { fin = f; unit = pow-pos 149; least = h
 pub within-is : (x : Float) (p n c a k : ℕ) → 0 < c → Is x p n c → Apart p n a
     → a * 2 ^ 149 ≤ 2 ^ k * c → Within x k
 within-is x p n c a k C h e l =
-    record { most = at-most-more (2 ^ k) (2 ^ 149) (pow-pos 149) l (at-most-is x p n c a C h e) }
+    record { most = at-most-more (2 ^ k) _ (pow-pos 149) l (at-most-is x p n c a C h e) }
 
 pub within-zero : (x : Float) (k : ℕ) → Is x 0 0 1 → Within x k
 within-zero x k h = within-is x 0 0 1 0 k (lit< tt) h (inl refl) zero-le
@@ -75,8 +75,7 @@ quotient a b t u h = omega (arith, mul-le-mul-right u h)
 pub widen : {x : Float} {j : ℕ} (k : ℕ) → Within x j → j ≤ k → Within x k
 widen k w h =
     record {
-      most = at-most-more (2 ^ k) (2 ^ 149) (pow-pos 149)
-          (mul-le-mul-right (2 ^ 149) (pow-mono h)) (w .most);
+      most = at-most-more (2 ^ k) _ (pow-pos 149) (mul-le-mul-right _ (pow-mono h)) (w .most);
     }
 
 pub within-cond : (b : Bool) {x y : Float} {k : ℕ} → Within x k → Within y k → Within (cond b x y) k
@@ -92,22 +91,22 @@ within-test false v w = w refl
 pub within-add : {x y : Float} {k : ℕ} → Within x k → Within y k → k < 276 → Within (x ⊕ y) (suc k)
 within-add {k = k} v w K =
     record {
-      most = at-most-add binary32 (2 ^ suc k) (2 ^ 149) (pow-pos 149) (rep-power (suc k) K)
-          (v .most) (w .most) (twice k (2 ^ 149));
+      most = at-most-add _ _ _ (pow-pos 149) (rep-power _ K) (v .most) (w .most)
+          (twice k (2 ^ 149));
     }
 
 pub within-sub : {x y : Float} {k : ℕ} → Within x k → Within y k → k < 276 → Within (x ⊖ y) (suc k)
 within-sub {k = k} v w K =
     record {
-      most = at-most-sub binary32 (2 ^ suc k) (2 ^ 149) (pow-pos 149) (rep-power (suc k) K)
-          (v .most) (w .most) (twice k (2 ^ 149));
+      most = at-most-sub _ _ _ (pow-pos 149) (rep-power _ K) (v .most) (w .most)
+          (twice k (2 ^ 149));
     }
 
 pub within-mul : {x y : Float} {j k : ℕ} (t : ℕ) → Within x j → Within y k → j + k ≤ t + 149
     → t ≤ 276 → Within (x ⊗ y) t
 within-mul {j = j} {k = k} t v w h K = record {
   most =
-      at-most-mul binary32 (2 ^ t) (2 ^ 149) (pow-pos 149) (rep-power t K) (v .most) (w .most)
+      at-most-mul _ (2 ^ t) _ (pow-pos 149) (rep-power t K) (v .most) (w .most)
       (product (2 ^ j) (2 ^ k) (2 ^ t) (2 ^ 149) (powers j k t 149 h));
 }
 
@@ -115,8 +114,7 @@ pub within-div : {x y : Float} {j l : ℕ} (t : ℕ) → Within x j → Beyond y
     → t ≤ 276 → Within (x ⊘ y) t
 within-div {j = j} {l = l} t v w h K = record {
   most =
-      at-most-div binary32 (2 ^ t) (2 ^ 149) (pow-pos 149) (rep-power t K) (v .most) (w .least)
-      (pow-pos l)
+      at-most-div _ (2 ^ t) _ (pow-pos 149) (rep-power t K) (v .most) (w .least) (pow-pos l)
       (quotient (2 ^ j) (2 ^ l) (2 ^ t) (2 ^ 149) (powers j 149 t l h));
 }
 
@@ -126,9 +124,8 @@ pub beyond-add : {x y : Float} {i j k : ℕ} → Beyond x k → Within y i → s
     → Within (x ⊕ y) j → k ≤ 276 → Beyond (x ⊕ y) k
 beyond-add {y = y} {k = k} v w e z K = record {
   least =
-      at-least-add binary32 (2 ^ k) (2 ^ 149) (pow-pos 149) (rep-power k K) (v .least)
-      (at-least-zero y (w .most .fin)) e
-      (alone (2 ^ k) (2 ^ 149)) (z .most .fin);
+      at-least-add _ (2 ^ k) _ (pow-pos 149) (rep-power k K) (v .least)
+      (at-least-zero y (w .most .fin)) e (alone (2 ^ k) (2 ^ 149)) (z .most .fin);
 }
   where
     alone : (a u : ℕ) → a * (u * 1) ≤ (a * 1 + 0 * u) * u
@@ -138,8 +135,8 @@ pub beyond-mul : {x y : Float} {i j k : ℕ} (t : ℕ) → Beyond x j → Beyond
     → Within (x ⊗ y) i → t ≤ 276 → Beyond (x ⊗ y) t
 beyond-mul {j = j} {k = k} t v w h z K = record {
   least =
-      at-least-mul binary32 (2 ^ t) (2 ^ 149) (pow-pos 149) (rep-power t K) (v .least) (w .least)
-      (product-least (2 ^ j) (2 ^ k) (2 ^ t) (2 ^ 149) (powers t 149 j k h)) (z .most .fin);
+      at-least-mul _ (2 ^ t) _ (pow-pos 149) (rep-power t K) (v .least) (w .least)
+      (product-least (2 ^ j) (2 ^ k) (2 ^ t) _ (powers t 149 j k h)) (z .most .fin);
 }
 
 -- what is not below a guard in size is at least what the guard is

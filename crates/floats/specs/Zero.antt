@@ -26,7 +26,7 @@ use Rattle.floats.specs.Ops.{
 
 -- a fraction that is 0 rounds to the zero of its sign
 pub round-nought : (f : Format) (s : Bool) (a c : ℕ) → 0 < c → a ≡ 0 → round f s a c ≡ nought s
-round-nought f s a c C e = rounds-to f (nought s) a c tt (nought-fits f s) C (omega arith)
+round-nought f s a c C e = rounds-to f _ a c tt (nought-fits f s) C (omega arith)
 
 none : (x : Float) → Is x 0 0 1 → num x ≡ 0
 none x h = omega (arith, size-is x 0 0 1 0 h (inl refl))
@@ -36,27 +36,25 @@ pub times-zero : (f : Format) (x y : Float) → T (finite x) → Is y 0 0 1
     → mul f x y ≡ nought (unlike (sign x) (sign y))
 times-zero f x y p h =
     mul-is f x y p (h .0)
-    ∙ round-nought f (unlike (sign x) (sign y)) (num x * num y) (den x * den y)
-    (mul-pos (den-pos x) (den-pos y)) (rw (none y h) (omega arith))
+    ∙ round-nought f _ _ _ (mul-pos (den-pos x) (den-pos y)) (rw (none y h) (omega arith))
 
 pub zero-times : (f : Format) (x y : Float) → Is x 0 0 1 → T (finite y)
     → mul f x y ≡ nought (unlike (sign x) (sign y))
 zero-times f x y h p =
-    mul-commutes f x y ∙ times-zero f y x p h ∙ ap nought (unlike-swap (sign y) (sign x))
+    mul-commutes f x y ∙ times-zero f y x p h ∙ ap nought (unlike-swap _ (sign x))
 
 pub zero-over : (f : Format) (x y : Float) → Is x 0 0 1 → 0 < num y
     → div f x y ≡ nought (unlike (sign x) (sign y))
 zero-over f x y h N =
     div-is f x y (h .0) N
-    ∙ round-nought f (unlike (sign x) (sign y)) (num x * den y) (num y * den x)
-    (mul-pos N (den-pos x)) (rw (none x h) (omega arith))
+    ∙ round-nought f _ _ _ (mul-pos N (den-pos x)) (rw (none x h) (omega arith))
 
 -- ---- a zero in a sum: the value of the other term, which fits, stays
 pub add-zero : (f : Format) (x y : Float) (p n c : ℕ) → 0 < c → T (fits f x) → Is x p n c
     → Is y 0 0 1 → Is (add f x y) p n c
 add-zero f x y p n c C t h k =
-    rounds-fits f (add f x y) x p n c C
-    (rounds-same f (add f x y) (p * 1 + 0 * c) (n * 1 + 0 * c) (c * 1) p n c (mul-pos C (lit< tt)) C
+    rounds-fits f _ x p n c C
+    (rounds-same f _ _ _ (c * 1) p n c (mul-pos C (lit< tt)) C
     (add-rounds f x y p n c 0 0 1 C (lit< tt) h k) (omega arith)) t h
 
 pub zero-add : (f : Format) (x y : Float) (q m d : ℕ) → 0 < d → T (fits f y) → Is x 0 0 1
@@ -68,11 +66,11 @@ pub times-one : (f : Format) (x y : Float) → T (finite x) → T (fits f x) →
     → mul f x y ≡ x
 times-one f x y p t h =
     mul-is f x y p (h .0)
-    ∙ ap (λ (s : Bool). round f (unlike (sign x) s) (num x * num y) (den x * den y))
+    ∙ ap (λ s. round f (unlike (sign x) s) (num x * num y) (den x * den y))
     (sign-is y 1 0 1 h (lit< tt))
-    ∙ ap (λ (s : Bool). round f s (num x * num y) (den x * den y)) (unlike-plus (sign x))
-    ∙ rounds-to f x (num x * num y) (den x * den y) p t (mul-pos (den-pos x) (den-pos y))
-    (omega (arith, ap (λ (z : ℕ). num x * den x * z) (size-is y 1 0 1 1 h (inl refl))))
+    ∙ ap (λ s. round f s (num x * num y) (den x * den y)) (unlike-plus _)
+    ∙ rounds-to f x _ _ p t (mul-pos (den-pos x) (den-pos y))
+    (omega (arith, ap (λ z. num x * den x * z) (size-is y 1 0 1 1 h (inl refl))))
 
 pub one-times : (f : Format) (x y : Float) → Is x 1 0 1 → T (finite y) → T (fits f y)
     → mul f x y ≡ y
