@@ -4,13 +4,13 @@ use Prim.Native.Nat.{ℕ, zero, suc, _+_, _*_, _^_, _≤_, _<_}
 use native.Mathlib.Nat.{lt-suc-self, mul-pos}
 use native.Mathlib.Omega.{arith}
 use lib.Dec.{T, lit<}
-use lib.Ieee.{Float, binary32, size}
+use lib.Ieee.{Float, size}
 use lib.Ieee.Digits.{size-lt, size-le, size-reaches}
 use lib.Ieee.Scale.{finite}
-use lib.Ieee.Positive.{den, den-pos}
+use lib.Ieee.Positive.{den-pos}
 use Rattle.floats.specs.Notation.{_⊕_, _⊖_, _⊗_}
 use Rattle.floats.specs.Signed.{le→up}
-use Rattle.floats.specs.Value.{top, bot, own, is→le, is→ge}
+use Rattle.floats.specs.Value.{dens-pos, own, is→le, is→ge}
 use Rattle.floats.specs.Ops.{add-rounds, sub-rounds, mul-rounds}
 use Rattle.floats.specs.Frac.{Frac, Ok, plus, minus, times, Close, Size, Sized, size-close}
 use Rattle.floats.specs.Frac.{
@@ -77,7 +77,7 @@ pub add-approx : (i j b : ℕ) (x y : Float) (r q : Frac) → Ok r → Ok q → 
     → b + 1 < 2 ^ 127 → Size b (plus r q)
     → Approx i x r → Approx j y q → Approx (b + 1 + (i + j)) (x ⊕ y) (plus r q)
 add-approx i j b x y r q R Q l L s h g =
-    rounds-approx (x ⊕ y) _ _ (i + j) b (mul-pos (den-pos x) (den-pos y)) (mul-pos R Q) l L s
+    rounds-approx (x ⊕ y) _ _ (i + j) b (dens-pos x y) (mul-pos R Q) l L s
     (close-plus i j u⁻¹ _ r _ q (h .near) (g .near))
     (add-rounds _ x y _ _ _ _ _ _ (den-pos x) (den-pos y) (own x (h .fin)) (own y (g .fin)))
 
@@ -85,7 +85,7 @@ pub sub-approx : (i j b : ℕ) (x y : Float) (r q : Frac) → Ok r → Ok q → 
     → b + 1 < 2 ^ 127 → Size b (minus r q)
     → Approx i x r → Approx j y q → Approx (b + 1 + (i + j)) (x ⊖ y) (minus r q)
 sub-approx i j b x y r q R Q l L s h g =
-    rounds-approx (x ⊖ y) _ _ (i + j) b (mul-pos (den-pos x) (den-pos y)) (mul-pos R Q) l L s
+    rounds-approx (x ⊖ y) _ _ (i + j) b (dens-pos x y) (mul-pos R Q) l L s
     (close-minus i j u⁻¹ _ r _ q (h .near) (g .near))
     (sub-rounds _ x y _ _ _ _ _ _ (den-pos x) (den-pos y) (own x (h .fin)) (own y (g .fin)))
 
@@ -95,7 +95,7 @@ pub mul-approx : (i j a b e : ℕ) (x y : Float) (r q : Frac) → Ok r → Ok q 
     → Size a r → Size b q → Size e (times r q) → Approx i x r → Approx j y q
     → Approx (e + 1 + ((b + 1) * i + a * j)) (x ⊗ y) (times r q)
 mul-approx i j a b e x y r q R Q l m L sa sb se h g =
-    rounds-approx (x ⊗ y) _ _ _ e (mul-pos (den-pos x) (den-pos y)) (mul-pos R Q) m L se
+    rounds-approx (x ⊗ y) _ _ _ e (dens-pos x y) (mul-pos R Q) m L se
     (close-times i j u⁻¹ (b + 1) a _ r _ q R (den-pos y)
     (size-close j u⁻¹ b _ q (lit< tt) Q l sb (g .near)) sa (h .near) (g .near))
     (mul-rounds _ x y _ _ _ _ _ _ (den-pos x) (den-pos y) (own x (h .fin)) (own y (g .fin)))

@@ -6,20 +6,20 @@ use mathlib.Core.Path.{_≡_, refl, sym, _∙_}
 use mathlib.Core.Logic.{inl}
 use Prim.Native.Nat.{ℕ, _+_, _-_, _*_, _^_, _≤_, _<_, zero-le}
 use native.Mathlib.Nat.{lt-of-lt-of-le, le-trans, le-of-eq, zero-add}
-use native.Mathlib.Nat.{mul-comm, mul-mul-mul-comm, mul-pos, mul-le-mul, mul-le-mul-right}
+use native.Mathlib.Nat.{mul-pos, mul-le-mul, mul-le-mul-right}
 use native.Mathlib.Omega.{arith}
-use mathlib.Core.Bool.{Bool, true, false, true≢false, _&&_, cond, Bool·beq}
+use mathlib.Core.Bool.{Bool, true, false, _&&_, cond, Bool·beq}
 use lib.Dec.{T, ltb, lit<}
-use lib.Ieee.{Float, nan, inf, fin, Format, binary32, up, down, unlike, round}
-use lib.Ieee.{neg, sum, add, sub, mul, div, lt, le}
+use lib.Ieee.{Float, nan, inf, fin, Format, binary32, round}
+use lib.Ieee.{neg, sum, add, sub, mul, div, lt}
 use lib.Ieee.Fits.{down-pos}
-use lib.Ieee.Exact.{HasValue}
 use lib.Ieee.Order.{round-mono}
 use lib.Ieee.Scale.{finite}
 use lib.Ieee.Positive.{num, den, den-pos, first-pos, through}
 use borrow.Author.Tests.{ltb-false}
 use Rattle.floats.specs.Notation.{_⊖_, _⊗_}
 use Rattle.floats.specs.Value.{
+  dens-pos,
   Is,
   top,
   bot,
@@ -30,10 +30,12 @@ use Rattle.floats.specs.Value.{
   size-is,
   sign,
   unsigned,
+  nought,
+  finite-neg,
   absolute,
 }
-use Rattle.floats.specs.Order.{over-top}
-use Rattle.floats.specs.Round.{Rounds, over, under, round-neg, round-unsigned}
+use Rattle.floats.specs.Order.{le-cross, finite-between}
+use Rattle.floats.specs.Round.{Rounds, over, under, round-neg, round-opposite, round-unsigned}
 use Rattle.floats.specs.Exact.{Rep, rep-whole, round-rep}
 use Rattle.floats.specs.Ops.{add-is, sub-is, mul-is, div-is, sub-rounds}
 
@@ -64,32 +66,12 @@ at-most-more {a} {c} {x} b d D l h =
     record { fin = h .fin; unit = D; most = through _ a b _ c d (h .unit) (h .most) l }
 
 -- ---- rounding
-most-of-le : (x y : Float) (a d : ℕ) → 0 < d → T (unsigned x) → HasValue y false a d → T (le x y)
-    → AtMost a d x
-most-of-le nan y a d D u v h = absurd u
-most-of-le (inf true) y a d D u v h = absurd u
-most-of-le (inf false) y a d D u v h = absurd (rw (over-top y h) at v)
-most-of-le (fin true m e) y a d D u v h = absurd u
-most-of-le (fin false m e) y a d D u v h =
-    let x = fin false m e in
-    record {
-      fin = tt;
-      unit = D;
-      most = omega (arith, is-of-le x y _ 0 _ a 0 d (own x tt) (is-of-pos y a d v) h);
-    }
-
-least-of-le : (x y : Float) (a d : ℕ) → 0 < d → T (unsigned x) → T (finite x) → HasValue y false a d
-    → T (le y x) → AtLeast a d x
-least-of-le nan y a d D u p v h = absurd p
-least-of-le (inf s) y a d D u p v h = absurd p
-least-of-le (fin true m e) y a d D u p v h = absurd u
-least-of-le (fin false m e) y a d D u p v h =
-    let x = fin false m e in
-    record {
-      fin = tt;
-      unit = D;
-      least = omega (arith, is-of-le y x a 0 d _ 0 _ (is-of-pos y a d v) (own x tt) h);
-    }
+-- what has no sign is its size
+unsigned-is : (x : Float) → T (unsigned x) → T (finite x) → Is x (num x) 0 (den x)
+unsigned-is nan u p = absurd u
+unsigned-is (inf s) u p = absurd p
+unsigned-is (fin true m e) u p = absurd u
+unsigned-is (fin false m e) u p = (tt, refl)
 
 pub at-most-neg : {a c : ℕ} {x : Float} → AtMost a c x → AtMost a c (neg x)
 unfolding neg
@@ -103,6 +85,9 @@ at-least-neg {x = nan} h = absurd (h .fin)
 at-least-neg {x = inf s} h = absurd (h .fin)
 at-least-neg {x = fin s m e} h = record { fin = tt; unit = h .unit; least = h .least }
 
+rep-is : (f : Format) (r e : ℕ) → 0 < e → Rep f r e → Is (round f false r e) r 0 e
+rep-is f r e E R = is-of-pos (round f false r e) r e (round-rep f false r e E R)
+
 -- p / c ≤ r / e
 pub round-at-most : (f : Format) (s : Bool) (p c r e : ℕ) → 0 < c → 0 < e → Rep f r e
     → p * e ≤ r * c → AtMost r e (round f s p c)
@@ -110,8 +95,14 @@ round-at-most f s p c r e C E R h = go s
   where
     plain : AtMost r e (round f false p c)
     plain =
-        most-of-le _ _ r e E (round-unsigned f p c) (round-rep f false r e E R)
-        (round-mono f p c r e C E h)
+        let x = round f false p c in
+        let u = round-unsigned f p c in
+        let i = rep-is f r e E R in
+        let l = round-mono f p c r e C E h in
+        let least = le-cross (nought false) x tt u in
+        let F = finite-between _ x _ (finite-neg (nought false) tt) (i .0) least l in
+        let j = unsigned-is x u F in
+        record { fin = F; unit = E; most = omega (arith, is-of-le x _ _ 0 _ r 0 e j i l) }
 
     go : (s : Bool) → AtMost r e (round f s p c)
     go false = plain
@@ -124,124 +115,103 @@ pub round-at-least : (f : Format) (s : Bool) (p c r e : ℕ) → 0 < c → 0 < e
 round-at-least f s p c r e C E R h = go s
   where
     plain : T (finite (round f false p c)) → AtLeast r e (round f false p c)
-    plain q =
-        least-of-le _ _ r e E (round-unsigned f p c) q (round-rep f false r e E R)
-        (round-mono f r e p c E C h)
-
-    back : (x : Float) → T (finite (neg x)) → T (finite x)
-    back nan q = unfold neg in q
-    back (inf t) q = unfold neg in q
-    back (fin t m k) q = tt
+    plain F =
+        let x = round f false p c in
+        let i = rep-is f r e E R in
+        let j = unsigned-is x (round-unsigned f p c) F in
+        let l = round-mono f r e p c E C h in
+        record { fin = F; unit = E; least = omega (arith, is-of-le _ x r 0 e _ 0 _ i j l) }
 
     go : (s : Bool) → T (finite (round f s p c)) → AtLeast r e (round f s p c)
-    go false q = plain q
-    go true q = rw (← round-neg) (at-least-neg (plain (back (round f false p c) (rw round-neg q))))
+    go false F = plain F
+    go true F =
+        let G = finite-neg (round f true p c) F in
+        rw (← round-neg) (at-least-neg (plain (rw round-opposite at G)))
 
 pub at-most-cond : (b : Bool) {a c : ℕ} {x y : Float} → AtMost a c x → AtMost a c y
     → AtMost a c (cond b x y)
 at-most-cond true h g = h
 at-most-cond false h g = g
 
--- ---- sums and differences: of a / c and b / d the exact bound is (a * d + b * c) / (c * d)
+-- ---- the operations, on operands bounded by a / c and b / d
 sum-at-most : (f : Format) (s : Bool) (p : ℕ) (t : Bool) (q u r e : ℕ) → 0 < u → 0 < e → Rep f r e
     → (p + q) * e ≤ r * u
     → AtMost r e (sum f s p t q u)
 unfolding sum
 sum-at-most f s p t q u r e U E R h =
-    at-most-cond (Bool·beq s t) (round-at-most f s (p + q) u r e U E R h)
-    (at-most-cond (ltb p q)
-    (round-at-most f t (q - p) u r e U E R (le-trans (mul-le-mul-right e (right p q)) h))
-    (round-at-most f (s && ltb q p) (p - q) u r e U E R
-    (le-trans (mul-le-mul-right e (left p q)) h)))
+    at-most-cond (Bool·beq s t) (most s (p + q) (omega arith))
+    (at-most-cond (ltb p q) (most t (q - p) (omega arith))
+    (most (s && ltb q p) (p - q) (omega arith)))
   where
-    left : (p q : ℕ) → p - q ≤ p + q
-    left p q = omega arith
+    most : (s : Bool) (d : ℕ) → d ≤ p + q → AtMost r e (round f s d u)
+    most s d l = round-at-most f s d u r e U E R (le-trans (mul-le-mul-right e l) h)
 
-    right : (p q : ℕ) → q - p ≤ p + q
-    right p q = omega arith
+like-sum : (f : Format) (s t : Bool) (p q u : ℕ) → s ≡ t → sum f s p t q u ≡ round f s (p + q) u
+unfolding sum
+like-sum f true t p q u e = rw (← e)
+like-sum f false t p q u e = rw (← e)
 
 -- p / q ≤ a / c and s / t ≤ b / d
 plus-le : (p q a c s t b d : ℕ) → p * c ≤ a * q → s * d ≤ b * t
     → (p * t + s * q) * (c * d) ≤ (a * d + b * c) * (q * t)
 plus-le p q a c s t b d h g = omega (arith, mul-le-mul-right (t * d) h, mul-le-mul-right (q * c) g)
 
-pub at-most-add : (f : Format) {a c b d : ℕ} {x y : Float} (r e : ℕ) → 0 < e → Rep f r e
-    → AtMost a c x → AtMost b d y
-    → (a * d + b * c) * e ≤ r * (c * d) → AtMost r e (add f x y)
-at-most-add f {a} {c} {b} {d} {x} {y} r e E R h g l =
-    rw (add-is f x y (h .fin) (g .fin))
-    (sum-at-most f _ _ _ _ _ r e (mul-pos (den-pos x) (den-pos y)) E R
-    (through _ _ r _ (c * d) e (mul-pos (h .unit) (g .unit))
-    (plus-le _ _ a c _ _ b d (h .most) (g .most)) l))
+times-le : (p q a c s t b d : ℕ) → p * c ≤ a * q → s * d ≤ b * t → p * s * (c * d) ≤ a * b * (q * t)
+times-le p q a c s t b d h g = omega (arith, mul-le-mul h g)
+
+-- p / q ≤ a / c and b / d ≤ s / t
+over-le : (p q a c s t b d : ℕ) → p * c ≤ a * q → b * t ≤ s * d → p * t * (c * b) ≤ a * d * (s * q)
+over-le p q a c s t b d h g = omega (arith, mul-le-mul h g)
+
+module _ (f : Format) {a c b d : ℕ} {x y : Float} (r e : ℕ) (E : 0 < e) (R : Rep f r e) where
+  -- the exact bound is (a * d + b * c) / (c * d)
+  pub at-most-add : AtMost a c x → AtMost b d y → (a * d + b * c) * e ≤ r * (c * d)
+      → AtMost r e (add f x y)
+  at-most-add h g l =
+      rw (add-is f x y (h .fin) (g .fin))
+      (sum-at-most f _ _ _ _ _ r e (dens-pos x y) E R
+      (through _ _ r _ (c * d) e (mul-pos (h .unit) (g .unit))
+      (plus-le _ _ a c _ _ b d (h .most) (g .most)) l))
+
+  -- of two terms with one sign
+  pub at-least-add : AtLeast a c x → AtLeast b d y → sign x ≡ sign y
+      → r * (c * d) ≤ (a * d + b * c) * e → T (finite (add f x y)) → AtLeast r e (add f x y)
+  at-least-add h g z l w =
+      let is = add-is f x y (h .fin) (g .fin) ∙ like-sum f _ _ _ _ _ z in
+      rw is (round-at-least f _ _ _ r e (dens-pos x y) E R
+      (through r _ _ e (c * d) _ (mul-pos (h .unit) (g .unit)) l
+      (plus-le a c _ _ b d _ _ (h .least) (g .least))) (rw is at w))
+
+  -- the exact bound is a * b / (c * d)
+  pub at-most-mul : AtMost a c x → AtMost b d y → a * b * e ≤ r * (c * d) → AtMost r e (mul f x y)
+  at-most-mul h g l =
+      rw (mul-is f x y (h .fin) (g .fin))
+      (round-at-most f _ _ _ r e (dens-pos x y) E R
+      (through _ (a * b) r _ (c * d) e (mul-pos (h .unit) (g .unit))
+      (times-le _ _ a c _ _ b d (h .most) (g .most)) l))
+
+  pub at-least-mul : AtLeast a c x → AtLeast b d y → r * (c * d) ≤ a * b * e
+      → T (finite (mul f x y)) → AtLeast r e (mul f x y)
+  at-least-mul h g l w =
+      let is = mul-is f x y (h .fin) (g .fin) in
+      rw is (round-at-least f _ _ _ r e (dens-pos x y) E R
+      (through r (a * b) _ e (c * d) _ (mul-pos (h .unit) (g .unit)) l
+      (times-le a c _ _ b d _ _ (h .least) (g .least))) (rw is at w))
+
+  -- the exact bound is a * d / (c * b)
+  pub at-most-div : AtMost a c x → AtLeast b d y → 0 < b → a * d * e ≤ r * (c * b)
+      → AtMost r e (div f x y)
+  at-most-div h g B l =
+      let N : 0 < num y = first-pos _ d (lt-of-lt-of-le (mul-pos B (den-pos y)) (g .least)) in
+      rw (div-is f x y (h .fin) N)
+      (round-at-most f _ _ _ r e (mul-pos N (den-pos x)) E R
+      (through _ (a * d) r _ (c * b) e (mul-pos (h .unit) B)
+      (over-le _ _ a c _ _ b d (h .most) (g .least)) l))
 
 pub at-most-sub : (f : Format) {a c b d : ℕ} {x y : Float} (r e : ℕ) → 0 < e → Rep f r e
     → AtMost a c x → AtMost b d y
     → (a * d + b * c) * e ≤ r * (c * d) → AtMost r e (sub f x y)
 at-most-sub f r e E R h g l = rw sub-is (at-most-add f r e E R h (at-most-neg g) l)
-
-like-sum : (f : Format) (s t : Bool) (p q u : ℕ) → s ≡ t → sum f s p t q u ≡ round f s (p + q) u
-unfolding sum
-like-sum f true true p q u e = refl
-like-sum f true false p q u e = absurd (true≢false e)
-like-sum f false true p q u e = absurd (true≢false (sym e))
-like-sum f false false p q u e = refl
-
--- of two terms with one sign
-pub at-least-add : (f : Format) {a c b d : ℕ} {x y : Float} (r e : ℕ) → 0 < e → Rep f r e
-    → AtLeast a c x → AtLeast b d y → sign x ≡ sign y
-    → r * (c * d) ≤ (a * d + b * c) * e → T (finite (add f x y)) → AtLeast r e (add f x y)
-at-least-add f {a} {c} {b} {d} {x} {y} r e E R h g z l w =
-    let p = num x * den y + num y * den x in
-    let u = den x * den y in
-    let is : add f x y ≡ round f (sign x) p u =
-    add-is f x y (h .fin) (g .fin)
-    ∙ like-sum f _ _ _ _ u z in
-    rw is (round-at-least f _ p u r e (mul-pos (den-pos x) (den-pos y)) E R
-    (through r _ p e (c * d) u (mul-pos (h .unit) (g .unit)) l
-    (plus-le a c _ _ b d _ _ (h .least) (g .least))) (rw is at w))
-
--- ---- products: the exact bound is a * b / (c * d)
-times-le : (p q a c s t b d : ℕ) → p * c ≤ a * q → s * d ≤ b * t → p * s * (c * d) ≤ a * b * (q * t)
-times-le p q a c s t b d h g =
-    le-trans (le-of-eq (mul-mul-mul-comm p s c d))
-    (le-trans (mul-le-mul h g) (le-of-eq (mul-mul-mul-comm a q b t)))
-
-pub at-most-mul : (f : Format) {a c b d : ℕ} {x y : Float} (r e : ℕ) → 0 < e → Rep f r e
-    → AtMost a c x → AtMost b d y
-    → a * b * e ≤ r * (c * d) → AtMost r e (mul f x y)
-at-most-mul f {a} {c} {b} {d} {x} {y} r e E R h g l =
-    rw (mul-is f x y (h .fin) (g .fin))
-    (round-at-most f _ _ _ r e (mul-pos (den-pos x) (den-pos y)) E R
-    (through _ (a * b) r _ (c * d) e (mul-pos (h .unit) (g .unit))
-    (times-le _ _ a c _ _ b d (h .most) (g .most)) l))
-
-pub at-least-mul : (f : Format) {a c b d : ℕ} {x y : Float} (r e : ℕ) → 0 < e → Rep f r e
-    → AtLeast a c x → AtLeast b d y
-    → r * (c * d) ≤ a * b * e → T (finite (mul f x y)) → AtLeast r e (mul f x y)
-at-least-mul f {a} {c} {b} {d} {x} {y} r e E R h g l w =
-    let is = mul-is f x y (h .fin) (g .fin) in
-    rw is (round-at-least f _ _ _ r e (mul-pos (den-pos x) (den-pos y)) E R
-    (through r (a * b) _ e (c * d) _ (mul-pos (h .unit) (g .unit)) l
-    (times-le a c _ _ b d _ _ (h .least) (g .least))) (rw is at w))
-
--- ---- quotients: the exact bound is a * d / (c * b)
-over-le : (p q a c s t b d : ℕ) → p * c ≤ a * q → b * t ≤ s * d → p * t * (c * b) ≤ a * d * (s * q)
-over-le p q a c s t b d h g =
-    omega (
-      arith,
-      times-le p q a c t s d b h
-          (le-trans (le-of-eq (mul-comm t b)) (le-trans g (le-of-eq (mul-comm s d)))),
-    )
-
-pub at-most-div : (f : Format) {a c b d : ℕ} {x y : Float} (r e : ℕ) → 0 < e → Rep f r e
-    → AtMost a c x → AtLeast b d y → 0 < b
-    → a * d * e ≤ r * (c * b) → AtMost r e (div f x y)
-at-most-div f {a} {c} {b} {d} {x} {y} r e E R h g B l =
-    let N : 0 < num y = first-pos _ d (lt-of-lt-of-le (mul-pos B (den-pos y)) (g .least)) in
-    rw (div-is f x y (h .fin) N)
-    (round-at-most f _ _ _ r e (mul-pos N (den-pos x)) E R
-    (through _ (a * d) r _ (c * b) e (mul-pos (h .unit) B)
-    (over-le _ _ a c _ _ b d (h .most) (g .least)) l))
 
 -- ---- a test of the size: what is not below a guard is at least what the guard is
 pub at-least-guarded : {a c : ℕ} {x guard : Float} → T (finite x) → T (unsigned guard)

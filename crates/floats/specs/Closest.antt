@@ -2,11 +2,13 @@
 -- a half away, no whole number is nearer, and it is even where another is as near. Then the same of
 -- the numbers q * 2 ^ k with a q of p digits, which is how a format's values lie: the library's
 -- `kept` * 2 ^ `drop` is nearest to n / c. Nothing here is about floats.
-use mathlib.Core.Path.{_≡_, sym, ap, _∙_, subst}
-use Prim.Native.Nat.{ℕ, suc, _+_, _-_, _*_, _/_, _%_, _^_, _≤_, _<_, compare, Ordering, Ordering·lt}
+use mathlib.Core.Path.{_≡_, refl, sym, ap, _∙_, subst}
+use Prim.Native.Nat.{ℕ, zero, suc, _+_, _-_, _*_, _/_, _%_, _^_, _≤_, _<_, compare, Ordering}
+use Prim.Native.Nat.{Ordering·lt}
 use Prim.Native.Nat.{Ordering·eq, Ordering·gt}
-use native.Mathlib.Nat.{le-trans, le-of-eq, le-antisymm, le-of-suc-le-suc, lt-of-lt-of-le}
-use native.Mathlib.Nat.{lt-of-not-le, not-le-of-lt, add-mul, mul-le-mul-right}
+use native.Mathlib.Nat.{le-of-lt, ne-of-lt, lt-of-mul-lt-mul-right, le-trans, le-of-eq, le-antisymm}
+use native.Mathlib.Nat.{le-of-suc-le-suc, lt-of-lt-of-le}
+use native.Mathlib.Nat.{lt-of-not-le, not-le-of-lt, mul-le-mul-right}
 use native.Mathlib.Nat.{mul-lt-mul-of-pos-right}
 use native.Mathlib.Nat.{mul-assoc, mul-comm, mul-pos, div-add-mod', div-div-eq-div-mul}
 use native.Mathlib.Nat.{div-lt-iff-lt-mul, mod-lt, le-div-iff-mul-le}
@@ -53,17 +55,13 @@ near-whole : (o : Ordering) (a b w r : ℕ) → Compared o (r * 2) b → w * b +
     → (nearest w o * b * 2 ≤ a * 2 + b) × (a * 2 ≤ nearest w o * b * 2 + b)
 near-whole Ordering·lt a b w r h e l = omega arith
 near-whole Ordering·eq a b w r h e l =
-    let up : w % 2 ≤ 1 = omega arith in
-    let most : w % 2 * b ≤ 1 * b = mul-le-mul-right b up in
-    let sum : (w + w % 2) * b ≡ w * b + w % 2 * b = add-mul w (w % 2) b in
-    omega arith
+    let up : w % 2 ≤ 1 = omega arith in omega (arith, mul-le-mul-right b up)
 near-whole Ordering·gt a b w r h e l = omega arith
 
 pub closest-near : (a b : ℕ) → 0 < b
     → (closest a b * b * 2 ≤ a * 2 + b) × (a * 2 ≤ closest a b * b * 2 + b)
 closest-near a b B =
-    near-whole (compare (a % b * 2) b) a b (a / b) (a % b) (compared (a % b * 2) b)
-    (div-add-mod' a b) (mod-lt a B)
+    near-whole (compare (a % b * 2) b) a b _ _ (compared _ b) (div-add-mod' a b) (mod-lt a B)
 
 -- ---- no whole number is nearer
 half-away : (q a b : ℕ) → (q * b * 2 ≤ a * 2 + b) × (a * 2 ≤ q * b * 2 + b) → gap (q * b) a * 2 ≤ b
@@ -74,91 +72,74 @@ closest-half a b B = half-away _ a b (closest-near a b B)
 
 -- two multiples of b are at least b apart
 multiples : (q w a b : ℕ) → q < w → b ≤ gap (q * b) a + gap (w * b) a
-multiples q w a b l = let h : suc q * b ≤ w * b = mul-le-mul-right b l in omega arith
+multiples q w a b l = omega (arith, mul-le-mul-right b l)
 
 others : (q w a b : ℕ) → (w ≡ q → ⊥) → b ≤ gap (q * b) a + gap (w * b) a
 others q w a b d = elim (decLe w q) [
-  | yes h ↦ let m = multiples w q a b (lt-of-le-ne h d) in omega arith
+  | yes h ↦ omega (arith, multiples w q a b (lt-of-le-ne h d))
   | no h ↦ multiples q w a b (lt-of-not-le h)
 ]
 
 pub closest-nearest : (a b w : ℕ) → 0 < b → gap (closest a b * b) a ≤ gap (w * b) a
 closest-nearest a b w B = elim (ℕ-discrete w (closest a b)) [
   | yes e ↦ le-of-eq (ap (λ x. gap (x * b) a) (sym e))
-  | no d ↦
-      let h = closest-half a b B in
-      let g = others (closest a b) w a b d in
-      omega arith
+  | no d ↦ omega (arith, closest-half a b B, others (closest a b) w a b d)
 ]
 
 -- ---- at a tie it is even
 even-whole : (o : Ordering) (a b w r : ℕ) → Compared o (r * 2) b → w * b + r ≡ a → r < b
     → gap (nearest w o * b) a * 2 ≡ b
     → nearest w o % 2 ≡ 0
-even-whole Ordering·lt a b w r h e l t = let none : ⊥ = omega arith in absurd none
+even-whole Ordering·lt a b w r h e l t = absurd (omega arith)
 even-whole Ordering·eq a b w r h e l t = omega arith
-even-whole Ordering·gt a b w r h e l t = let none : ⊥ = omega arith in absurd none
+even-whole Ordering·gt a b w r h e l t = absurd (omega arith)
 
 pub closest-even : (a b w : ℕ) → 0 < b → (w ≡ closest a b → ⊥)
     → gap (closest a b * b) a ≡ gap (w * b) a → closest a b % 2 ≡ 0
 closest-even a b w B d t =
-    even-whole (compare (a % b * 2) b) a b (a / b) (a % b) (compared (a % b * 2) b)
-    (div-add-mod' a b) (mod-lt a B) tie
+    even-whole (compare (a % b * 2) b) a b _ _ (compared _ b) (div-add-mod' a b) (mod-lt a B) tie
   where
     tie : gap (closest a b * b) a * 2 ≡ b
-    tie =
-        let h = closest-half a b B in
-        let g = others (closest a b) w a b d in
-        le-antisymm h (omega arith)
+    tie = le-antisymm (closest-half a b B) (omega (arith, others (closest a b) w a b d))
 
 -- a half would be as near to 0 as to 1, which is odd; so 0 is as near only where it is the nearest
+zero-of : (q a b : ℕ) → 0 < b → gap (q * b) a * 2 ≤ b → gap (q * b) a ≡ a
+    → ((0 ≡ q → ⊥) → q % 2 ≡ 0) → q ≡ 0
+zero-of zero a b B h t even = refl
+zero-of (suc q) a b B h t even =
+    let e = even (λ z. omega arith) in
+    let two : 2 ≤ suc q = omega arith in absurd (omega (arith, mul-le-mul-right b two))
+
 pub closest-zero : (a b : ℕ) → 0 < b → gap (closest a b * b) a ≡ a → closest a b ≡ 0
-closest-zero a b B t = elim (ℕ-discrete 0 (closest a b)) [ yes g ↦ sym g | no g ↦ absurd (other g) ]
-  where
-    two-of : (q : ℕ) → (0 ≡ q → ⊥) → q % 2 ≡ 0 → 2 ≤ q
-    two-of q g even = omega arith
-
-    many : (w : ℕ) → 2 * b ≤ w → gap w a * 2 ≤ b → gap w a ≡ a → ⊥
-    many w l h t = omega arith
-
-    other : (0 ≡ closest a b → ⊥) → ⊥
-    other g =
-        let even = closest-even a b 0 B g (t ∙ omega arith) in
-        many _ (mul-le-mul-right b (two-of _ g even)) (closest-half a b B) t
+closest-zero a b B t =
+    zero-of _ a b B (closest-half a b B) t (λ g. closest-even a b 0 B g (t ∙ omega arith))
 
 -- ---- two numbers at most a half away are neighbours, and one of them lies between bounds of a / b
 half-next : (q w a b : ℕ) → 0 < b → q < w → gap (q * b) a * 2 ≤ b → gap (w * b) a * 2 ≤ b
     → w ≡ suc q
-half-next q w a b B l h g = le-antisymm (le-of-suc-le-suc (lt-of-not-le further)) l
-  where
-    further : suc (suc q) ≤ w → ⊥
-    further m = let t : suc (suc q) * b ≤ w * b = mul-le-mul-right b m in omega arith
+half-next q w a b B l h g =
+    le-antisymm (le-of-suc-le-suc (lt-of-mul-lt-mul-right b (omega arith))) l
 
 half-odd : (q w a b : ℕ) → 0 < b → (w ≡ q → ⊥) → gap (q * b) a * 2 ≤ b → gap (w * b) a * 2 ≤ b
     → q % 2 ≡ 0 → w % 2 ≡ 1
 half-odd q w a b B d h g e = elim (decLe w q) [
-  | yes l ↦ let n = half-next w q a b B (lt-of-le-ne l d) g h in omega arith
-  | no l ↦ let n = half-next q w a b B (lt-of-not-le l) h g in omega arith
+  | yes l ↦ omega (arith, half-next w q a b B (lt-of-le-ne l d) g h)
+  | no l ↦ omega (arith, half-next q w a b B (lt-of-not-le l) h g)
 ]
 
 half-least : (w a b t : ℕ) → 0 < b → gap (w * b) a * 2 ≤ b → t * b ≤ a → t ≤ w
-half-least w a b t B h l = le-of-suc-le-suc (lt-of-not-le lower)
-  where
-    lower : suc w ≤ t → ⊥
-    lower m = let g : suc w * b ≤ t * b = mul-le-mul-right b m in omega arith
+half-least w a b t B h l = le-of-suc-le-suc (lt-of-mul-lt-mul-right b (omega arith))
 
 half-most : (w a b t : ℕ) → 0 < b → gap (w * b) a * 2 ≤ b → a < t * b → w ≤ t
-half-most w a b t B h l = le-of-suc-le-suc (lt-of-not-le higher)
-  where
-    higher : suc t ≤ w → ⊥
-    higher m = let g : suc t * b ≤ w * b = mul-le-mul-right b m in omega arith
+half-most w a b t B h l = le-of-suc-le-suc (lt-of-mul-lt-mul-right b (omega arith))
 
 -- ---- of the numbers q * 2 ^ k with a q of p digits, the library keeps the one nearest to n / c
+digits : (p n d : ℕ) → n / (d * 2 ^ drop p n d) < 2 ^ p
+digits p n d = rw div-div-eq-div-mul at (kept-lt p (n / d))
+
 pub kept-le : (p n d : ℕ) → kept p n d ≤ 2 ^ p
 kept-le p n d =
-    let u = d * 2 ^ drop p n d in
-    le-trans (nearest-le (n / u) (compare (n % u * 2) u))
-    (subst (λ x. x < 2 ^ p) (div-div-eq-div-mul n d _) (kept-lt p (n / d)))
+    let u = d * 2 ^ drop p n d in le-trans (nearest-le _ (compare (n % u * 2) u)) (digits p n d)
 
 module _ (p n c : ℕ) (P : 0 < p) (C : 0 < c) where
   abbrev k : ℕ
@@ -205,15 +186,12 @@ module _ (p n c : ℕ) (P : 0 < p) (C : 0 < c) where
         let m : v * 2 ^ j * c < b * u =
         lt-of-lt-of-le (mul-lt-mul-of-pos-right l C) (le-of-eq (in-steps b)) in
         let t : b * u ≤ n = leading (omega arith) in
-        let y = v * 2 ^ j * c in
-        (b, nearer (b * u) y t m, λ s. absurd (strictly (b * u) y t m s))
+        let l = nearer (b * u) _ t m in
+        (b, le-of-lt l, λ s. absurd (ne-of-lt l s))
   ]
     where
-      nearer : (x y : ℕ) → x ≤ n → y < x → gap x n ≤ gap y n
+      nearer : (x y : ℕ) → x ≤ n → y < x → gap x n < gap y n
       nearer x y t m = omega arith
-
-      strictly : (x y : ℕ) → x ≤ n → y < x → gap x n ≡ gap y n → ⊥
-      strictly x y t m s = omega arith
 
   abbrev q : ℕ
   q = kept p n c
@@ -221,41 +199,34 @@ module _ (p n c : ℕ) (P : 0 < p) (C : 0 < c) where
   positive : 0 < u
   positive = mul-pos C (pow-pos k)
 
-  pub grid-nearest : (v j : ℕ) → v < 2 ^ p → gap (q * u) n ≤ gap (v * 2 ^ j * c) n
-  unfolding Step
-  grid-nearest v j small =
-      let s = step v j small in le-trans (closest-nearest n u (s .0) positive) (s .1)
+  module _ (v j : ℕ) (small : v < 2 ^ p) where
+    pub grid-nearest : gap (q * u) n ≤ gap (v * 2 ^ j * c) n
+    unfolding Step
+    grid-nearest =
+        let s = step v j small in le-trans (closest-nearest n u (s .0) positive) (s .1)
 
-  pub grid-even : (v j : ℕ) → v < 2 ^ p → (v * 2 ^ j ≡ q * 2 ^ k → ⊥)
-      → gap (q * u) n ≡ gap (v * 2 ^ j * c) n → q % 2 ≡ 0
-  unfolding Step
-  grid-even v j small d t =
-      let s = step v j small in
-      let l : gap (v * 2 ^ j * c) n ≤ gap (s .0 * u) n =
-      le-trans (le-of-eq (sym t)) (closest-nearest n u (s .0) positive) in
-      let e : gap (s .0 * u) n ≡ gap (v * 2 ^ j * c) n = le-antisymm (s .1) l in
-      closest-even n u (s .0) positive (λ h. d (s .2 e ∙ ap (_* 2 ^ k) h)) (t ∙ sym e)
+    module _ (d : v * 2 ^ j ≡ q * 2 ^ k → ⊥) (t : gap (q * u) n ≡ gap (v * 2 ^ j * c) n) where
+      other : (w : ℕ) × (v * 2 ^ j ≡ w * 2 ^ k) × (w ≡ q → ⊥) × (gap (q * u) n ≡ gap (w * u) n)
+      unfolding Step
+      other =
+          let s = step v j small in
+          let l = closest-nearest n u (s .0) positive in
+          let e = le-antisymm (s .1) (rw t at l) in
+          (s .0, s .2 e, λ h. d (s .2 e ∙ ap (_* 2 ^ k) h), t ∙ sym e)
 
-  -- another number as near is the next multiple of 2 ^ k, up or down, an odd one
-  pub grid-neighbour : (v j : ℕ) → v < 2 ^ p → (v * 2 ^ j ≡ q * 2 ^ k → ⊥)
-      → gap (q * u) n ≡ gap (v * 2 ^ j * c) n
-      → (w : ℕ) × (v * 2 ^ j ≡ w * 2 ^ k) × (w % 2 ≡ 1) × (w ≤ 2 ^ p) × (0 < k → 2 ^ (p - 1) ≤ w)
-  unfolding Step
-  grid-neighbour v j small d t =
-      let s = step v j small in
-      let w = s .0 in
-      let e : gap (w * u) n ≡ gap (v * 2 ^ j * c) n =
-      le-antisymm (s .1) (le-trans (le-of-eq (sym t)) (closest-nearest n u w positive)) in
-      let other : w ≡ q → ⊥ = λ h. d (s .2 e ∙ ap (_* 2 ^ k) h) in
-      let mine : gap (q * u) n * 2 ≤ u = closest-half n u positive in
-      let its : gap (w * u) n * 2 ≤ u =
-      le-trans (le-of-eq (ap (_* 2) (e ∙ sym t))) mine in
-      let digits : n / u < 2 ^ p =
-      subst (λ x. x < 2 ^ p) (div-div-eq-div-mul n c (2 ^ k)) (kept-lt p (n / c)) in
-      let under : n < 2 ^ p * u = div-lt-iff-lt-mul positive .0 digits in (
-        w,
-        s .2 e,
-        half-odd q w n u positive other mine its (grid-even v j small d t),
-        half-most w n u (2 ^ p) positive its under,
-        λ K. half-least w n u _ positive its (leading K),
-      )
+      pub grid-even : q % 2 ≡ 0
+      grid-even = closest-even n u (other .0) positive (other .2) (other .3)
+
+      -- another number as near is the next multiple of 2 ^ k, up or down, an odd one
+      pub grid-neighbour : (w : ℕ) × (v * 2 ^ j ≡ w * 2 ^ k) × (w % 2 ≡ 1) × (w ≤ 2 ^ p)
+          × (0 < k → 2 ^ (p - 1) ≤ w)
+      grid-neighbour =
+          let w = other .0 in
+          let mine = closest-half n u positive in
+          let its = rw (other .3) at mine in (
+            w,
+            other .1,
+            half-odd q w n u positive (other .2) mine its grid-even,
+            half-most w n u _ positive its (div-lt-iff-lt-mul positive .0 (digits p n c)),
+            λ K. half-least w n u _ positive its (leading K),
+          )

@@ -5,7 +5,7 @@ use native.Mathlib.Nat.{le-of-mul-le-mul-right, eq-of-mul-eq-mul-right}
 use native.Mathlib.Nat.{add-mul, mul-comm, mul-sub, mul-pos, mul-le-mul-right}
 use native.Mathlib.Omega.{arith}
 use mathlib.Core.Bool.{true, false, true≢false}
-use lib.Ieee.{Float, nan, inf, fin, up, down, neg}
+use lib.Ieee.{Float, nan, inf, fin, neg}
 use lib.Ieee.Exact.{HasValue}
 use lib.Ieee.Positive.{den, den-pos}
 use Rattle.floats.specs.Value.{top, bot}

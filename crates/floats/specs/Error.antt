@@ -1,7 +1,7 @@
 -- The error of one rounding to single precision: at most 2 ^ k / 2 ^ 25 for an
 -- exact value below 2 ^ k.
 use mathlib.Core.Path.{_≡_, sym, ap, _∙_}
-use Prim.Native.Nat.{ℕ, _+_, _-_, _*_, _/_, _^_, _≤_, _<_}
+use Prim.Native.Nat.{ℕ, _+_, _-_, _*_, _^_, _≤_, _<_}
 use native.Mathlib.Nat.{le-trans, le-of-eq, lt-of-lt-of-le, lt-of-le-of-lt, mul-le-mul}
 use native.Mathlib.Nat.{mul-le-mul-left}
 use native.Mathlib.Nat.{mul-right-comm, mul-lt-mul-of-pos-right, mul-pos, div-lt-iff-lt-mul}
@@ -13,7 +13,7 @@ use lib.Ieee.{Float, Format, binary32, prec, low, size, round}
 use lib.Ieee.Digits.{size-le}
 use lib.Ieee.Fits.{round-is}
 use lib.Ieee.Exact.{HasValue, units-val}
-use lib.Ieee.Order.{drop, kept}
+use lib.Ieee.Order.{drop}
 use lib.Ieee.Scale.{grid, overflow, finite}
 use lib.Ieee.Positive.{den, den-pos}
 use Rattle.floats.specs.Signed.{Near, poly, le-up, up-le, near-flip}

@@ -16,11 +16,11 @@ use mathlib.Core.Bool.{true, false}
 use lib.IntN.{pos, negsuc}
 use lib.Dec.{T, lit<, lit≤}
 use lib.Pow.{pow-pos, pow-lt}
-use lib.Ieee.{Float, nan, inf, fin, binary32, fits, up, down}
-use lib.Ieee.Positive.{den, den-pos}
+use lib.Ieee.{Float, nan, inf, fin, binary32, fits, down}
+use lib.Ieee.Positive.{den-pos}
 use Rattle.floats.specs.Notation.{_⊖_}
 use Rattle.floats.specs.Signed.{Le, le-through}
-use Rattle.floats.specs.Value.{top, bot, Is, is-same, is→le, is→ge}
+use Rattle.floats.specs.Value.{Is, is-same, is→le, is→ge}
 use Rattle.floats.specs.Exact.{fits-parts}
 use Rattle.floats.specs.Small.{dyadic-sub}
 

@@ -8,7 +8,7 @@ use lib.Ieee.{Float, Format, fits, neg, add, sub, mul, div, le}
 use lib.Ieee.Scale.{finite}
 use lib.Ieee.Positive.{den, den-pos}
 use Rattle.floats.specs.Signed.{Le, poly, sum-le}
-use Rattle.floats.specs.Value.{top, bot, Is, own, is-neg, le-of, of-le}
+use Rattle.floats.specs.Value.{dens-pos, top, bot, Is, own, is-neg, le-of, of-le}
 use Rattle.floats.specs.Order.{finite-between}
 use Rattle.floats.specs.Round.{Rounds, rounds-mono}
 use Rattle.floats.specs.Unique.{rounds-own}
@@ -19,9 +19,8 @@ pub add-mono : (f : Format) (x z y w : Float) → T (finite x) → T (finite z) 
     → T (finite w) → T (le x z) → T (le y w)
     → T (le (add f x y) (add f z w))
 add-mono f x z y w p r q s h k =
-    rounds-mono f _ _ _ _ _ _ _ _ (mul-pos (den-pos x) (den-pos y))
-    (mul-pos (den-pos z) (den-pos w)) (add-own f x y p q) (add-own f z w r s)
-    (sum-le _ _ _ _ _ _ _ _ _ _ _ _ (of-le x z p r h) (of-le y w q s k))
+    rounds-mono f _ _ _ _ _ _ _ _ (dens-pos x y) (dens-pos z w) (add-own f x y p q)
+    (add-own f z w r s) (sum-le _ _ _ _ _ _ _ _ _ _ _ _ (of-le x z p r h) (of-le y w q s k))
 
 pub sub-mono-left : (f : Format) (x z y : Float) → T (finite x) → T (finite z) → T (finite y)
     → T (le x z) → T (le (sub f x y) (sub f z y))

@@ -12,7 +12,8 @@ use lib.Ieee.Scale.{finite}
 use lib.Ieee.Positive.{num, den, den-pos, first-pos}
 use borrow.Author.Tests.{ne-eqb}
 use Rattle.floats.specs.Signed.{sum-same, product-same, quotient-same}
-use Rattle.floats.specs.Value.{top, bot, Is, is-neg, size-is, nonzero-is, sign, sign-is}
+use Rattle.floats.specs.Value.{dens-pos, top, bot, Is, is-neg, size-is, nonzero-is, sign}
+use Rattle.floats.specs.Value.{sign-is}
 use Rattle.floats.specs.Value.{sign-is-below}
 use Rattle.floats.specs.Round.{Rounds, over, under, rounds-same, round-opposite, rounds-neg}
 
@@ -63,8 +64,8 @@ pub div-is : (f : Format) (x y : Float) → T (finite x) → 0 < num y
 unfolding div
 div-is f nan y p N = absurd p
 div-is f (inf s) y p N = absurd p
-div-is f (fin s m e) nan p N = let none : ⊥ = omega arith in absurd none
-div-is f (fin s m e) (inf t) p N = let none : ⊥ = omega arith in absurd none
+div-is f (fin s m e) nan p N = absurd (omega arith)
+div-is f (fin s m e) (inf t) p N = absurd (omega arith)
 div-is f (fin s m e) (fin t n d) p N = rw (ne-eqb n 0 (ne-of-gt (first-pos n (up d) N)))
 
 -- ---- the order of the operands does not matter
@@ -75,7 +76,7 @@ opposite f a b c = go (ltb a b) (ltb b a) (ltb→lt a b) (ltb→lt b a) (nltb→
     go : (t u : Bool) → (T t → a < b) → (T u → b < a) → (T (not t) → b ≤ a) → (T (not u) → a ≤ b)
         → cond t (round f true (b - a) c) (round f false (a - b) c)
         ≡ cond u (round f false (a - b) c) (round f t (b - a) c)
-    go true true h k i j = let none : ⊥ = omega (arith, h tt, k tt) in absurd none
+    go true true h k i j = absurd (omega (arith, h tt, k tt))
     go true false h k i j = refl
     go false true h k i j = refl
     go false false h k i j = let zero : a - b ≡ b - a = omega (arith, i tt, j tt) in
@@ -154,8 +155,8 @@ pub add-rounds : (f : Format) (x y : Float) (p n c q m d : ℕ) → 0 < c → 0 
     → Is y q m d
     → Rounds f (add f x y) (p * d + q * c) (n * d + m * c) (c * d)
 add-rounds f x y p n c q m d C D h k =
-    rounds-same f _ _ _ _ _ _ (c * d) (mul-pos (den-pos x) (den-pos y)) (mul-pos C D)
-    (add-own f x y (h .0) (k .0)) (sum-same _ _ _ _ _ _ p n c q m d (h .1) (k .1))
+    rounds-same f _ _ _ _ _ _ (c * d) (dens-pos x y) (mul-pos C D) (add-own f x y (h .0) (k .0))
+    (sum-same _ _ _ _ _ _ p n c q m d (h .1) (k .1))
 
 pub sub-rounds : (f : Format) (x y : Float) (p n c q m d : ℕ) → 0 < c → 0 < d → Is x p n c
     → Is y q m d
@@ -181,8 +182,8 @@ pub mul-rounds : (f : Format) (x y : Float) (p n c q m d : ℕ) → 0 < c → 0 
     → Is y q m d
     → Rounds f (mul f x y) (p * q + n * m) (p * m + n * q) (c * d)
 mul-rounds f x y p n c q m d C D h k =
-    rounds-same f _ _ _ _ _ _ (c * d) (mul-pos (den-pos x) (den-pos y)) (mul-pos C D)
-    (mul-own f x y (h .0) (k .0)) (product-same _ _ _ _ _ _ p n c q m d (h .1) (k .1))
+    rounds-same f _ _ _ _ _ _ (c * d) (dens-pos x y) (mul-pos C D) (mul-own f x y (h .0) (k .0))
+    (product-same _ _ _ _ _ _ p n c q m d (h .1) (k .1))
 
 -- ---- the quotient, by a divisor above zero and by one below
 scaled : (f : Format) (x : Float) (a c : ℕ) → T (finite x)

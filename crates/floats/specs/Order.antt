@@ -1,18 +1,17 @@
 -- The order of all floats, the infinities with them. A NaN is neither below nor above anything.
 use mathlib.Core.Path.{_≡_, refl}
+use mathlib.Core.Logic.{inl}
 use Prim.Native.Nat.{ℕ, _<_}
 use native.Mathlib.Nat.{le-refl, not-le-of-lt}
 use native.Mathlib.Omega.{arith}
-use mathlib.Core.Bool.{Bool, true, false, not, _||_, true≢false}
-use lib.Dec.{T, not-T}
+use mathlib.Core.Bool.{Bool, true, false, not, or-false}
+use lib.Dec.{T}
 use lib.Ieee.{Float, nan, inf, fin, isNan, neg, lt, eq, le}
 use lib.Ieee.Bits.{is-false}
 use lib.Ieee.Scale.{finite}
-use lib.Ieee.Positive.{den, den-pos}
+use lib.Ieee.Positive.{den-pos}
 use Rattle.floats.specs.Signed.{le-through}
 use Rattle.floats.specs.Value.{
-  top,
-  bot,
   Is,
   own,
   is-neg,
@@ -22,6 +21,7 @@ use Rattle.floats.specs.Value.{
   le-of-is,
   of-lt,
   le-of-nlt,
+  either,
 }
 
 -- a comparison that holds has no NaN
@@ -90,46 +90,40 @@ below-equal x y z p n c C i j l = le-trans z y x l (le-of-is y x p n c p n c C C
 -- ---- the strict order
 pub le-of-lt : (x y : Float) → T (lt x y) → T (le x y)
 unfolding le
-le-of-lt x y h = left (lt x y) h
+le-of-lt x y h = either (lt x y) (eq x y) .1 (inl h)
+
+-- of two numbers y ≤ x holds where x < y does not, and only there
+le-is-not-lt : (x y : Float) → T (not (isNan x)) → T (not (isNan y)) → le y x ≡ not (lt x y)
+unfolding isNan le
+le-is-not-lt nan y p q = absurd p
+le-is-not-lt (inf s) nan p q = absurd q
+le-is-not-lt (inf true) (inf true) p q = refl
+le-is-not-lt (inf true) (inf false) p q = refl
+le-is-not-lt (inf false) (inf true) p q = refl
+le-is-not-lt (inf false) (inf false) p q = refl
+le-is-not-lt (inf s) (fin t n d) p q = or-false _
+le-is-not-lt (fin s m e) nan p q = absurd q
+le-is-not-lt (fin s m e) (inf true) p q = refl
+le-is-not-lt (fin s m e) (inf false) p q = refl
+le-is-not-lt (fin s m e) (fin t n d) p q =
+    let x = fin s m e in
+    let y = fin t n d in
+    go (lt x y) (le y x) (le-of-nlt x y tt tt)
+    (λ h k. not-le-of-lt (of-lt x y tt tt h) (of-le y x tt tt k))
   where
-    left : (a : Bool) → T a → T (a || eq x y)
-    left true i = tt
-    left false i = absurd i
+    go : (a b : Bool) → (T (not a) → T b) → (T a → T b → ⊥) → b ≡ not a
+    go true true h k = absurd (k tt tt)
+    go true false h k = refl
+    go false true h k = refl
+    go false false h k = absurd (h tt)
 
 pub le-of-not-lt : (x y : Float) → T (not (isNan x)) → T (not (isNan y)) → lt x y ≡ false
     → T (le y x)
-unfolding isNan le
-le-of-not-lt nan y p q h = absurd p
-le-of-not-lt (inf s) nan p q h = absurd q
-le-of-not-lt (inf true) (inf true) p q h = tt
-le-of-not-lt (inf true) (inf false) p q h = absurd (true≢false h)
-le-of-not-lt (inf false) (inf true) p q h = tt
-le-of-not-lt (inf false) (inf false) p q h = tt
-le-of-not-lt (inf true) (fin t n d) p q h = absurd (true≢false h)
-le-of-not-lt (inf false) (fin t n d) p q h = tt
-le-of-not-lt (fin s m e) nan p q h = absurd q
-le-of-not-lt (fin s m e) (inf true) p q h = tt
-le-of-not-lt (fin s m e) (inf false) p q h = absurd (true≢false h)
-le-of-not-lt (fin s m e) (fin t n d) p q h = le-of-nlt (fin s m e) (fin t n d) tt tt (rw h tt)
+le-of-not-lt x y p q h = rw (le-is-not-lt x y p q, h) tt
 
 pub not-lt-of-le : (x y : Float) → T (le x y) → lt y x ≡ false
-unfolding le
-not-lt-of-le nan y h = absurd h
-not-lt-of-le (inf s) nan h = absurd h
-not-lt-of-le (inf true) (inf true) h = refl
-not-lt-of-le (inf true) (inf false) h = refl
-not-lt-of-le (inf false) (inf true) h = absurd h
-not-lt-of-le (inf false) (inf false) h = refl
-not-lt-of-le (inf true) (fin t n d) h = refl
-not-lt-of-le (inf false) (fin t n d) h = absurd h
-not-lt-of-le (fin s m e) nan h = absurd h
-not-lt-of-le (fin s m e) (inf true) h = absurd h
-not-lt-of-le (fin s m e) (inf false) h = refl
-not-lt-of-le (fin s m e) (fin t n d) h =
-    let x = fin s m e in
-    let y = fin t n d in
-    is-false (lt y x)
-    (not-T (lt y x) (λ (k : T (lt y x)). not-le-of-lt (of-lt y x tt tt k) (of-le x y tt tt h)))
+not-lt-of-le x y h =
+    let n = le-numbers x y h in is-false (lt y x) (rw (le-is-not-lt y x (n .1) (n .0)) at h)
 
 -- ---- a sign changed
 pub le-neg : (x y : Float) → T (le x y) → T (le (neg y) (neg x))

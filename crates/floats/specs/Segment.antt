@@ -2,7 +2,7 @@
 -- the knots, near the exact line, in order, and within the heights of the knots. The position of a
 -- byte is one of those floats.
 use mathlib.Core.Path.{_≡_, ap, subst}
-use Prim.Native.Nat.{ℕ, _+_, _-_, _*_, _^_, _≤_, _<_}
+use Prim.Native.Nat.{ℕ, _+_, _-_, _*_, _≤_, _<_}
 use native.Mathlib.Nat.{le-refl, mul-pos, mul-le-mul-left, mul-le-mul-right, add-sub-of-le}
 use native.Mathlib.Omega.{arith}
 use lib.Dec.{T, lit<, lit≤}
@@ -10,17 +10,7 @@ use lib.Ieee.{Float, binary32, fits, le}
 use lib.Ieee.Scale.{finite}
 use lib.Ieee.Positive.{den, den-pos}
 use Rattle.floats.specs.Notation.{_⊖_, _⊗_}
-use Rattle.floats.specs.Value.{
-  top,
-  bot,
-  Is,
-  own,
-  is-same,
-  is-of-le,
-  le-of,
-  le-of-is,
-  not-below,
-}
+use Rattle.floats.specs.Value.{top, Is, own, is-same, is-of-le, le-of, le-of-is, not-below}
 use Rattle.floats.specs.Small.{dyadic-add, dyadic-sub, dyadic-mul, whole-sub}
 use Rattle.floats.specs.Order.{le-trans, finite-between, above-equal, below-equal}
 use Rattle.floats.specs.Mono.{add-mono, mul-mono-left, mul-anti-left}

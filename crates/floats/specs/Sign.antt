@@ -13,7 +13,6 @@ use lib.Ieee.{Float, nan, inf, fin, Format, up, down, unlike, round, neg, sum, a
 use lib.Ieee.{le, isNan}
 use lib.Ieee.Fits.{down-pos}
 use lib.Ieee.Scale.{finite}
-use lib.Ieee.Positive.{num, den}
 use borrow.Author.Tests.{le-ltb}
 use Rattle.floats.specs.Value.{Is, is-neg, sign, unsigned, unsigned-sign, nought, of-le}
 use Rattle.floats.specs.Round.{Rounds, over, under, round-neg, round-unsigned}
@@ -37,11 +36,11 @@ round-sign f true a c =
 pub rounds-sign-above : (f : Format) (z : Float) (p n c : ℕ) → Rounds f z p n c → n < p
     → sign z ≡ false
 rounds-sign-above f z p n c (over a e i) h = ap sign i ∙ round-sign f false a c
-rounds-sign-above f z p n c (under a e i) h = let none : ⊥ = omega arith in absurd none
+rounds-sign-above f z p n c (under a e i) h = absurd (omega arith)
 
 pub rounds-sign-below : (f : Format) (z : Float) (p n c : ℕ) → Rounds f z p n c → p < n
     → sign z ≡ true
-rounds-sign-below f z p n c (over a e i) h = let none : ⊥ = omega arith in absurd none
+rounds-sign-below f z p n c (over a e i) h = absurd (omega arith)
 rounds-sign-below f z p n c (under a e i) h = ap sign i ∙ round-sign f true a c
 
 -- ---- a sum that is exactly zero: -0 where both terms have the sign -, as only zeros can; else +0

@@ -1,9 +1,9 @@
 -- A finite float is the signed fraction (top - bot) / den, where top or bot is 0; its size is num /
 -- den. `Is x p n c` says, for a c above 0, that x is finite and equals (p - n) / c, whichever sign
 -- a zero has. The order of finite floats is the order of their fractions.
-use mathlib.Core.Path.{_≡_, refl, sym, ap, _∙_, subst}
-use mathlib.Core.Logic.{_⊎_, inl, inr}
-use Prim.Native.Nat.{ℕ, _+_, _*_, _≤_, _<_, zero-le}
+use mathlib.Core.Path.{_≡_, refl, sym, ap, subst}
+use mathlib.Core.Logic.{_⊎_, inl, inr, _↔_}
+use Prim.Native.Nat.{ℕ, _+_, _*_, _≤_, _<_}
 use native.Mathlib.Nat.{zero-add, mul-pos, mul-lt-mul-of-pos-right, eq-of-mul-eq-mul-right}
 use native.Mathlib.Nat.{
   mul-le-mul-right,
@@ -16,12 +16,14 @@ use native.Mathlib.Nat.{
 use native.Mathlib.Omega.{arith}
 use mathlib.Core.Bool.{Bool, true, false, not, _&&_, _||_, true≢false}
 use lib.IntN.{pos}
-use lib.Dec.{T, ltb, eqb, eqb→eq, ltb→lt, lt→ltb, T-not}
-use lib.Ieee.{Float, nan, inf, fin, up, down, neg, le, lt}
+use lib.Dec.{T, eqb, eqb→eq, ltb→lt, lt→ltb, T-not}
+use lib.Ieee.{Float, nan, inf, fin, up, down, neg, le, lt, eq}
 use lib.Ieee.Fits.{down-pos, and-l, and-r, and-i, eq→eqb}
 use lib.Ieee.Exact.{HasValue}
+use lib.Ieee.Bits.{is-false}
 use lib.Ieee.Scale.{finite}
 use lib.Ieee.Positive.{num, den, den-pos, first-pos}
+use borrow.Author.Tests.{eq-eqb}
 use Rattle.floats.specs.Signed.{Le, Lt, Equal, le-through}
 
 abbrev pub top : Float → ℕ
@@ -43,6 +45,10 @@ Is x p n c = T (finite x) × Equal (top x) (bot x) (den x) p n c
 
 pub own : (x : Float) → T (finite x) → Is x (top x) (bot x) (den x)
 own x f = (f, refl)
+
+-- a common denominator of two
+pub dens-pos : (x y : Float) → 0 < den x * den y
+dens-pos x y = mul-pos (den-pos x) (den-pos y)
 
 -- another fraction of the same value
 pub is-same : (x : Float) (p n c q m d : ℕ) → 0 < c → Is x p n c → Equal p n c q m d → Is x q m d
@@ -129,19 +135,17 @@ nought-is true = (tt, refl)
 nought-is false = (tt, refl)
 
 pub unsigned-sign : (x : Float) → T (unsigned x) → sign x ≡ false
-unsigned-sign nan u = absurd u
-unsigned-sign (inf true) u = absurd u
-unsigned-sign (inf false) u = refl
-unsigned-sign (fin true m e) u = absurd u
-unsigned-sign (fin false m e) u = refl
+unsigned-sign nan u = refl
+unsigned-sign (inf s) u = is-false s u
+unsigned-sign (fin s m e) u = is-false s u
 
 -- what is above zero has no sign bit
 pub sign-is : (x : Float) (p n c : ℕ) → Is x p n c → n < p → sign x ≡ false
 sign-is nan p n c h l = refl
 sign-is (inf s) p n c h l = absurd (h .0)
 sign-is (fin false m e) p n c h l = refl
-sign-is (fin true m e) p n c h l = let none : ⊥ =
-    omega (arith, h .1, mul-lt-mul-of-pos-right l (down-pos e)) in absurd none
+sign-is (fin true m e) p n c h l =
+    absurd (omega (arith, h .1, mul-lt-mul-of-pos-right l (down-pos e)))
 
 -- and what is below has one
 pub sign-is-below : (x : Float) (p n c : ℕ) → Is x p n c → p < n → sign x ≡ true
@@ -149,7 +153,7 @@ sign-is-below nan p n c h l = absurd (h .0)
 sign-is-below (inf s) p n c h l = absurd (h .0)
 sign-is-below (fin true m e) p n c h l = refl
 sign-is-below (fin false m e) p n c h l =
-    let none : ⊥ = omega (arith, h .1, mul-lt-mul-of-pos-right l (down-pos e)) in absurd none
+    absurd (omega (arith, h .1, mul-lt-mul-of-pos-right l (down-pos e)))
 
 -- ---- the library's `HasValue x s a c`: x is finite, has the sign s, and is a / c in size
 pub is-of-pos : (x : Float) (a c : ℕ) → HasValue x false a c → Is x a 0 c
@@ -174,93 +178,63 @@ unsigned-value x a c u h =
     subst (λ s. HasValue x s a c) (unsigned-sign x u)
     (value-is x a 0 c a h (inl (sym (zero-add a))))
 
--- ---- the order: `le` asks whether one size is less than the other, or else whether they are equal
-less-or-equal : (a b : ℕ) (e : Bool) → (a ≡ b → T e) → a ≤ b → T (ltb a b || e)
-less-or-equal a b e k h =
-    elim (eq-or-lt-of-le h) [
-      | inl p ↦ right (ltb a b) (k p)
-      | inr l ↦ left (ltb a b) (lt→ltb a b l)
-    ]
-  where
-    left : (t : Bool) → T t → T (t || e)
-    left true i = tt
-    left false i = absurd i
-
-    right : (t : Bool) → T e → T (t || e)
-    right true i = tt
-    right false i = i
-
-of-less-or-equal : (a b : ℕ) (e : Bool) → (T e → a ≡ b) → T (ltb a b || e) → a ≤ b
-of-less-or-equal a b e k h = go (ltb a b) (ltb→lt a b) h
-  where
-    go : (t : Bool) → (T t → a < b) → T (t || e) → a ≤ b
-    go true l i = le-of-lt (l tt)
-    go false l i = le-of-eq (k i)
-
+-- ---- the order: `lt` and `eq` compare the sizes over a common denominator
 equal : (a b : ℕ) → a ≡ b → T (eqb a b && true)
-equal a b e = and-i (eqb a b) true (eq→eqb e) tt
+equal a b e = search (and-i, eq→eqb)
 
 of-equal : (a b : ℕ) → T (eqb a b && true) → a ≡ b
-of-equal a b t = eqb→eq a b (and-l (eqb a b) true t)
+of-equal a b t = search (eqb→eq, and-l)
 
-both-zero : (a b : ℕ) → a ≡ 0 → b ≡ 0 → T (eqb a b && eqb a 0)
-both-zero a b z w = and-i (eqb a b) (eqb a 0) (eq→eqb (z ∙ sym w)) (eq→eqb z)
+zeros : (a b : ℕ) → a + b ≡ 0 → T (eqb a b && eqb a 0)
+zeros a b e = rw (eq-eqb a b (omega arith), eq-eqb a 0 (omega arith)) tt
+
+of-zeros : (a b : ℕ) → T (eqb a b && eqb a 0) → a + b ≡ 0
+of-zeros a b t =
+    let e : a ≡ b = search (eqb→eq, and-l) in let z : a ≡ 0 = search (eqb→eq, and-r) in omega arith
+
+pub either : (a b : Bool) → T (a || b) ↔ (T a ⊎ T b)
+either true b = (λ t. inl tt, λ s. tt)
+either false b = (λ t. inr t, λ s. elim s [ inl t ↦ absurd t | inr t ↦ t ])
+
+ruleset tests = (ltb→lt, lt→ltb, equal, of-equal, zeros, of-zeros)
+
+compared : (x y : Float) → T (finite x) → T (finite y)
+    → (T (lt x y) ↔ Lt (top x) (bot x) (den x) (top y) (bot y) (den y))
+    × (T (eq x y) ↔ Equal (top x) (bot x) (den x) (top y) (bot y) (den y))
+unfolding lt eq
+compared nan y p q = absurd p
+compared (inf s) y p q = absurd p
+compared (fin s m e) nan p q = absurd q
+compared (fin s m e) (inf t) p q = absurd q
+compared (fin false m e) (fin false n d) p q = omega (arith, tests)
+compared (fin false m e) (fin true n d) p q = omega (arith, tests)
+compared (fin true m e) (fin false n d) p q = omega (arith, tests)
+compared (fin true m e) (fin true n d) p q = omega (arith, tests)
+
+pub lt-of : (x y : Float) → T (finite x) → T (finite y)
+    → Lt (top x) (bot x) (den x) (top y) (bot y) (den y) → T (lt x y)
+lt-of x y p q = compared x y p q .0 .1
+
+pub of-lt : (x y : Float) → T (finite x) → T (finite y) → T (lt x y)
+    → Lt (top x) (bot x) (den x) (top y) (bot y) (den y)
+of-lt x y p q = compared x y p q .0 .0
 
 pub le-of : (x y : Float) → T (finite x) → T (finite y)
     → Le (top x) (bot x) (den x) (top y) (bot y) (den y) → T (le x y)
 unfolding le
-le-of nan y p q h = absurd p
-le-of (inf s) y p q h = absurd p
-le-of (fin false m e) nan p q h = absurd q
-le-of (fin false m e) (inf t) p q h = absurd q
-le-of (fin false m e) (fin false n d) p q h =
-    let a = m * up e * down d in
-    let b = n * up d * down e in
-    less-or-equal a b (eqb a b && true) (equal a b) (omega arith)
-le-of (fin false m e) (fin true n d) p q h =
-    both-zero _ (n * up d * down e) (omega arith) (omega arith)
-le-of (fin true m e) nan p q h = absurd q
-le-of (fin true m e) (inf t) p q h = absurd q
-le-of (fin true m e) (fin false n d) p q h =
-    let a = m * up e * down d in
-    let b = n * up d * down e in
-    less-or-equal 0 (a + b) (eqb a b && eqb a 0) (λ z. both-zero a b (omega arith) (omega arith))
-    zero-le
-le-of (fin true m e) (fin true n d) p q h =
-    let a = m * up e * down d in
-    let b = n * up d * down e in
-    less-or-equal b a (eqb a b && true) (λ z. equal a b (sym z)) (omega arith)
+le-of x y p q h =
+    either (lt x y) (eq x y) .1 (elim (eq-or-lt-of-le h) [
+      | inl e ↦ inr (compared x y p q .1 .1 e)
+      | inr l ↦ inl (lt-of x y p q l)
+    ])
 
 pub of-le : (x y : Float) → T (finite x) → T (finite y) → T (le x y)
     → Le (top x) (bot x) (den x) (top y) (bot y) (den y)
 unfolding le
-of-le nan y p q h = absurd p
-of-le (inf s) y p q h = absurd p
-of-le (fin false m e) nan p q h = absurd q
-of-le (fin false m e) (inf t) p q h = absurd q
-of-le (fin false m e) (fin false n d) p q h =
-    let a = m * up e * down d in
-    let b = n * up d * down e in
-    omega (arith, of-less-or-equal a b (eqb a b && true) (of-equal a b) h)
-of-le (fin false m e) (fin true n d) p q h =
-    let a = m * up e * down d in
-    let b = n * up d * down e in
-    omega (
-      arith,
-      eqb→eq a b (and-l (eqb a b) (eqb a 0) h),
-      eqb→eq a 0 (and-r (eqb a b) (eqb a 0) h),
-    )
-of-le (fin true m e) nan p q h = absurd q
-of-le (fin true m e) (inf t) p q h = absurd q
-of-le (fin true m e) (fin false n d) p q h = omega arith
-of-le (fin true m e) (fin true n d) p q h =
-    let a = m * up e * down d in
-    let b = n * up d * down e in
-    omega (
-      arith,
-      of-less-or-equal b a (eqb a b && true) (λ (t : T (eqb a b && true)). sym (of-equal a b t))
-          h,
-    )
+of-le x y p q h = elim (either (lt x y) (eq x y) .0 h) [
+  | inl l ↦ le-of-lt (of-lt x y p q l)
+  | inr e ↦ le-of-eq (compared x y p q .1 .0 e)
+]
 
 -- ---- the order by any fractions that the two equal
 pub is→le : (x : Float) (p n c : ℕ) → Is x p n c → Le (top x) (bot x) (den x) p n c
@@ -282,39 +256,10 @@ is-of-le x y p n c q m d h k l =
     le-through p n c _ _ _ q m d (den-pos x) (is→ge x p n c h)
     (le-through _ _ _ _ _ _ q m d (den-pos y) (of-le x y (h .0) (k .0) l) (is→le y q m d k))
 
--- ---- the strict order, and a test that failed
-pub lt-of : (x y : Float) → T (finite x) → T (finite y)
-    → Lt (top x) (bot x) (den x) (top y) (bot y) (den y) → T (lt x y)
-unfolding lt
-lt-of nan y p q h = absurd p
-lt-of (inf s) y p q h = absurd p
-lt-of (fin false m e) nan p q h = absurd q
-lt-of (fin false m e) (inf t) p q h = absurd q
-lt-of (fin false m e) (fin false n d) p q h = omega (arith, lt→ltb)
-lt-of (fin false m e) (fin true n d) p q h = let none : ⊥ = omega arith in none
-lt-of (fin true m e) nan p q h = absurd q
-lt-of (fin true m e) (inf t) p q h = absurd q
-lt-of (fin true m e) (fin false n d) p q h = omega (arith, lt→ltb)
-lt-of (fin true m e) (fin true n d) p q h = omega (arith, lt→ltb)
-
-pub of-lt : (x y : Float) → T (finite x) → T (finite y) → T (lt x y)
-    → Lt (top x) (bot x) (den x) (top y) (bot y) (den y)
-unfolding lt
-of-lt nan y p q h = absurd p
-of-lt (inf s) y p q h = absurd p
-of-lt (fin false m e) nan p q h = absurd q
-of-lt (fin false m e) (inf t) p q h = absurd q
-of-lt (fin false m e) (fin false n d) p q h = omega (arith, ltb→lt)
-of-lt (fin false m e) (fin true n d) p q h = absurd h
-of-lt (fin true m e) nan p q h = absurd q
-of-lt (fin true m e) (inf t) p q h = absurd q
-of-lt (fin true m e) (fin false n d) p q h = omega (arith, ltb→lt)
-of-lt (fin true m e) (fin true n d) p q h = omega (arith, ltb→lt)
-
+-- a test that failed
 pub le-of-nlt : (x y : Float) → T (finite x) → T (finite y) → T (not (lt x y)) → T (le y x)
 le-of-nlt x y p q h =
-    le-of y x q p (le-of-suc-le-suc
-    (lt-of-not-le (λ (l : Lt _ _ _ _ _ _). T-not (lt x y) h (lt-of x y p q l))))
+    le-of y x q p (le-of-suc-le-suc (lt-of-not-le (λ l. T-not (lt x y) h (lt-of x y p q l))))
 
 -- a float that is at least 0 as a fraction without a sign
 pub not-below : (v : Float) → T (finite v) → bot v ≤ top v → Is v (top v) 0 (den v)

@@ -61,7 +61,7 @@ pub big-whole : (x : Float) → T (fits binary32 x) → T (finite x)
     → Le (2 ^ 23) 0 1 (top x) (bot x) (den x) → (r : ℕ) × Is x (2 ^ 23 + r) 0 1
 big-whole nan t f h = absurd f
 big-whole (inf s) t f h = absurd f
-big-whole (fin true m e) t f h = let none : ⊥ = omega (arith, down-pos e) in absurd none
+big-whole (fin true m e) t f h = absurd (omega (arith, down-pos e))
 big-whole (fin false m e) t f h =
     let w = whole-from m e t (omega arith) in
     let r = le-dest (le-of-mul-le-mul-right {m = 2 ^ 23} {n = w .0} {k = down e} (omega arith)

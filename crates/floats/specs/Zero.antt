@@ -2,7 +2,7 @@
 -- included, and which value a sum has. Zeros are of either sign, and other operands too.
 use mathlib.Core.Path.{_≡_, refl, ap, _∙_}
 use mathlib.Core.Logic.{inl}
-use Prim.Native.Nat.{ℕ, _+_, _*_, _<_}
+use Prim.Native.Nat.{ℕ, _*_, _<_}
 use native.Mathlib.Nat.{mul-pos}
 use native.Mathlib.Omega.{arith}
 use mathlib.Core.Bool.{Bool}
@@ -10,7 +10,7 @@ use lib.Dec.{T, lit<}
 use lib.Ieee.{Float, Format, unlike, round, fits, add, mul, div}
 use lib.Ieee.Scale.{finite}
 use lib.Ieee.Positive.{num, den, den-pos}
-use Rattle.floats.specs.Value.{Is, size-is, sign, sign-is, nought}
+use Rattle.floats.specs.Value.{dens-pos, Is, size-is, sign, sign-is, nought}
 use Rattle.floats.specs.Round.{rounds-same}
 use Rattle.floats.specs.Exact.{rounds-fits}
 use Rattle.floats.specs.Unique.{rounds-to, nought-fits}
@@ -36,7 +36,7 @@ pub times-zero : (f : Format) (x y : Float) → T (finite x) → Is y 0 0 1
     → mul f x y ≡ nought (unlike (sign x) (sign y))
 times-zero f x y p h =
     mul-is f x y p (h .0)
-    ∙ round-nought f _ _ _ (mul-pos (den-pos x) (den-pos y)) (rw (none y h) (omega arith))
+    ∙ round-nought f _ _ _ (dens-pos x y) (rw (none y h) (omega arith))
 
 pub zero-times : (f : Format) (x y : Float) → Is x 0 0 1 → T (finite y)
     → mul f x y ≡ nought (unlike (sign x) (sign y))
@@ -69,7 +69,7 @@ times-one f x y p t h =
     ∙ ap (λ s. round f (unlike (sign x) s) (num x * num y) (den x * den y))
     (sign-is y 1 0 1 h (lit< tt))
     ∙ ap (λ s. round f s (num x * num y) (den x * den y)) (unlike-plus _)
-    ∙ rounds-to f x _ _ p t (mul-pos (den-pos x) (den-pos y))
+    ∙ rounds-to f x _ _ p t (dens-pos x y)
     (omega (arith, ap (λ z. num x * den x * z) (size-is y 1 0 1 1 h (inl refl))))
 
 pub one-times : (f : Format) (x y : Float) → Is x 1 0 1 → T (finite y) → T (fits f y)
