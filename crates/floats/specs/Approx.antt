@@ -36,8 +36,8 @@ pub approx-is : (x : Float) (r : Frac) → IsF x r → Approx 0 x r
 approx-is x r h = record {
   fin = h .0;
   near = (
-    le→up 0 u⁻¹ _ _ _ (r .p) (r .n) (r .c) (is→le x (r .p) (r .n) (r .c) h),
-    le→up 0 u⁻¹ (r .p) (r .n) (r .c) _ _ _ (is→ge x (r .p) (r .n) (r .c) h),
+    le→up 0 u⁻¹ _ _ _ _ _ _ (is→le x _ _ _ h),
+    le→up 0 u⁻¹ _ _ _ _ _ _ (is→ge x _ _ _ h),
   );
 }
 
@@ -107,4 +107,4 @@ pub mul-approx-by : (i j e : ℕ) (x y : Float) (r q : Frac) → Ok r → Ok q �
 mul-approx-by i j e x y r q R Q l L s se h g =
     rounds-approx (x ⊗ y) _ _ j e (mul-pos (den-pos x) Q) (mul-pos R Q) l L se
     (close-times-by i j u⁻¹ q _ r s (h .near))
-    (mul-rounds _ x y _ _ _ (q .p) (q .n) (q .c) (den-pos x) Q (own x (h .fin)) g)
+    (mul-rounds _ x y _ _ _ _ _ _ (den-pos x) Q (own x (h .fin)) g)

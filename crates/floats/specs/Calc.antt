@@ -30,5 +30,5 @@ pub rounds-close : (z : Float) (r : Frac) (b k : ℕ) → k ≤ 127 → Ok r →
     → RoundsF z r
     → T (finite z) × Close (2 ^ k) (2 ^ 25) (val z) r
 rounds-close z r b k K C h s q =
-    rounds-near z (r .p) (r .n) (r .c) k K C q (strict b (2 ^ k) (r .p) (r .n) (r .c) C h (s .0))
-    (strict b (2 ^ k) (r .n) (r .p) (r .c) C h (s .1))
+    rounds-near z _ _ _ k K C q (strict b (2 ^ k) _ _ _ C h (s .0))
+    (strict b (2 ^ k) _ _ _ C h (s .1))

@@ -10,7 +10,7 @@ use native.Mathlib.Nat.{le-of-lt, ne-of-lt, lt-of-mul-lt-mul-right, le-trans, le
 use native.Mathlib.Nat.{le-of-suc-le-suc, lt-of-lt-of-le}
 use native.Mathlib.Nat.{lt-of-not-le, not-le-of-lt, mul-le-mul-right}
 use native.Mathlib.Nat.{mul-lt-mul-of-pos-right}
-use native.Mathlib.Nat.{mul-assoc, mul-comm, mul-pos, div-add-mod', div-div-eq-div-mul}
+use native.Mathlib.Nat.{mul-assoc, mul-pos, div-add-mod', div-div-eq-div-mul}
 use native.Mathlib.Nat.{div-lt-iff-lt-mul, mod-lt, le-div-iff-mul-le}
 use native.Mathlib.Decide.{decLe, ℕ-discrete}
 use native.Mathlib.Omega.{arith}
@@ -149,7 +149,7 @@ module _ (p n c : ℕ) (P : 0 < p) (C : 0 < c) where
   u = c * 2 ^ k
 
   in-steps : (w : ℕ) → w * 2 ^ k * c ≡ w * u
-  in-steps w = mul-assoc w (2 ^ k) c ∙ ap (w *_) (mul-comm (2 ^ k) c)
+  in-steps w = omega arith
 
   -- where digits are dropped n / c has p digits before the point, counted in steps of 2 ^ k
   leading : 0 < k → 2 ^ (p - 1) * u ≤ n

@@ -157,7 +157,7 @@ fits-rep f (fin s (suc m) e) p t = let h = fits-parts f s m e t in
 -- ---- rounding leaves it as it is
 pub round-rep : (f : Format) (s : Bool) (a c : ℕ) → 0 < c → Rep f a c
     → HasValue (round f s a c) s a c
-round-rep f s a c C r = round-exact f s a c (r .q) (r .j) C (r .small) (r .fine) (r .same)
+round-rep f s a c C r = round-exact f s a c _ _ C (r .small) (r .fine) (r .same)
 
 -- a result whose size is a value of the format is exact
 pub rounds-rep : (f : Format) (z : Float) (p n c : ℕ) → 0 < c → Rounds f z p n c

@@ -1,14 +1,15 @@
 -- Signed fractions as records: their sums and products, how far apart two of them are, how
 -- large one is. Sums and products of fractions that are near each other are near each other.
 -- Nothing here is about floats.
-use mathlib.Core.Path.{_≡_, subst, subst₂}
+use mathlib.Core.Path.{subst}
 use mathlib.Core.Logic.{_⊎_, inl, inr}
 use Prim.Native.Nat.{ℕ, _+_, _-_, _*_, _≤_, _<_}
 use native.Mathlib.Nat.{le-trans, le-of-lt, lt-of-not-le, add-comm, mul-comm, add-sub-of-le}
 use native.Mathlib.Nat.{mul-pos, mul-le-mul-left, mul-le-mul-right, le-of-mul-le-mul-right}
 use native.Mathlib.Decide.{decLe}
 use native.Mathlib.Omega.{arith}
-use Rattle.floats.specs.Signed.{Le, Up, poly, up-through, le-up, up-le, up-flip, up-more}
+use Rattle.floats.specs.Signed.{Le, Up, poly, up-through, le-up, up-le, up-flip, near-flip}
+use Rattle.floats.specs.Signed.{up-more}
 
 -- (p - n) / c
 pub record Frac : Type 0 where
@@ -70,27 +71,20 @@ by-sign P above below p n =
 
 -- ---- chains
 pub close-more : (i j k : ℕ) (x y : Frac) → i ≤ j → Close i k x y → Close j k x y
-close-more i j k x y l h = (
-  up-more i j k (x .p) (x .n) (x .c) (y .p) (y .n) (y .c) l (h .0),
-  up-more i j k (y .p) (y .n) (y .c) (x .p) (x .n) (x .c) l (h .1),
-)
+close-more i j k x y l h = (up-more i j k _ _ _ _ _ _ l (h .0), up-more i j k _ _ _ _ _ _ l (h .1))
 
 pub close-through : (i j k : ℕ) (x y z : Frac) → Ok y → Close i k x y → Close j k y z
     → Close (i + j) k x z
 close-through i j k x y z Y h g = (
-  up-through i j k (x .p) (x .n) (x .c) (y .p) (y .n) (y .c) (z .p) (z .n) (z .c) Y (h .0) (g .0),
-  rw (add-comm i j)
-      (up-through j i k (z .p) (z .n) (z .c) (y .p) (y .n) (y .c) (x .p) (x .n) (x .c) Y (g .1)
-      (h .1)),
+  up-through i j k _ _ _ _ _ _ _ _ _ Y (h .0) (g .0),
+  rw (add-comm i j) (up-through j i k _ _ _ _ _ _ _ _ _ Y (g .1) (h .1)),
 )
 
 -- a fraction of the same value in the place of y
 pub close-same : (i k : ℕ) (x y z : Frac) → Ok y → Close i k x y → Below y z → Below z y
     → Close i k x z
-close-same i k x y z Y h a b = (
-  up-le i k (x .p) (x .n) (x .c) (y .p) (y .n) (y .c) (z .p) (z .n) (z .c) Y (h .0) a,
-  le-up i k (z .p) (z .n) (z .c) (y .p) (y .n) (y .c) (x .p) (x .n) (x .c) Y b (h .1),
-)
+close-same i k x y z Y h a b =
+    (up-le i k _ _ _ _ _ _ _ _ _ Y (h .0) a, le-up i k _ _ _ _ _ _ _ _ _ Y b (h .1))
 
 -- g * i / (g * k) is i / k
 upto-cut : (g i k : ℕ) (x y : Frac) → 0 < g → Upto (g * i) (g * k) x y → Upto i k x y
@@ -115,27 +109,12 @@ pub close-plus : (i j k : ℕ) (x z y w : Frac) → Close i k x z → Close j k 
 close-plus i j k x z y w h g =
     (upto-plus i j k x z y w (h .0) (g .0), upto-plus i j k z x w y (h .1) (g .1))
 
-close-opposite : (i k : ℕ) (x y : Frac) → Close i k x y → Close i k (opposite x) (opposite y)
-close-opposite i k x y h = (
-  up-flip i k (y .p) (y .n) (y .c) (x .p) (x .n) (x .c) (h .1),
-  up-flip i k (x .p) (x .n) (x .c) (y .p) (y .n) (y .c) (h .0),
-)
-
 pub close-minus : (i j k : ℕ) (x z y w : Frac) → Close i k x z → Close j k y w
     → Close (i + j) k (minus x y) (minus z w)
 close-minus i j k x z y w h g =
-    close-plus i j k x z _ _ h (close-opposite j k y w g)
+    close-plus i j k x z (opposite y) (opposite w) h (near-flip j k _ _ _ _ _ _ g)
 
 -- ---- products
-times-commutes : (x y : Frac) → times x y ≡ times y x
-times-commutes x y = λ i. record { p = top i; n = bottom i; c = mul-comm (x .c) (y .c) i }
-  where
-    top : x .p * y .p + x .n * y .n ≡ y .p * x .p + y .n * x .n
-    top = omega arith
-
-    bottom : x .p * y .n + x .n * y .p ≡ y .p * x .n + y .n * x .p
-    bottom = omega arith
-
 -- x ≤ y + i / k, times a / e, which is (n + a - n) / e
 upto-times : (i j k e n a : ℕ) (x y : Frac) → i * a ≤ j * e → Upto i k x y
     → Up j k (x .p * (n + a) + x .n * n) (x .p * n + x .n * (n + a)) (x .c * e)
@@ -149,23 +128,21 @@ upto-times i j k e n a x y s h =
 pub close-times-by : (i j k : ℕ) (r x y : Frac) → Sized i j r → Close i k x y
     → Close j k (times x r) (times y r)
 close-times-by i j k r x y s h = (
-  go x y (h .0) (h .1) (r .p) (r .n) (s .0) (s .1),
-  go y x (h .1) (h .0) (r .p) (r .n) (s .0) (s .1),
+  go x y (h .0) (h .1) _ _ (s .0) (s .1),
+  go y x (h .1) (h .0) _ _ (s .0) (s .1),
 )
   where
     go : (x y : Frac) → Upto i k x y → Upto i k y x → (p n : ℕ) → i * p ≤ i * n + j * r .c
         → i * n ≤ i * p + j * r .c
         → Upto j k (times x (frac p n (r .c))) (times y (frac p n (r .c)))
     go x y h g =
-        by-sign
-        (λ (p n : ℕ). i * p ≤ i * n + j * r .c → i * n ≤ i * p + j * r .c
-        → Upto j k _ _) (λ n a u v. upto-times i j k (r .c) n a x y (omega arith) h)
-        (λ p a u v. up-flip j k _ _ _ _ _ _ (upto-times i j k (r .c) p a y x (omega arith) g))
+        by-sign _ (λ n a u v. upto-times i j k _ n a x y (omega arith) h)
+        (λ p a u v. up-flip j k _ _ _ _ _ _ (upto-times i j k _ p a y x (omega arith) g))
 
 -- |r| ≤ b gives i * |r| ≤ i * b
 pub size→sized : (i b : ℕ) (r : Frac) → Size b r → Sized i (i * b) r
 size→sized i b r h =
-    (omega (arith, mul-le-mul-left i (h .0)), omega (arith, mul-le-mul-left i (h .1)))
+    omega (arith, mul-le-mul-left i (h .0), mul-le-mul-left i (h .1))
 
 pub close-times-right : (i k b : ℕ) (r x y : Frac) → Size b r → Close i k x y
     → Close (b * i) k (times x r) (times y r)
@@ -175,8 +152,8 @@ close-times-right i k b r x y s h =
 pub close-times-left : (i k b : ℕ) (r x y : Frac) → Size b r → Close i k x y
     → Close (b * i) k (times r x) (times r y)
 close-times-left i k b r x y s h =
-    subst₂ (Close (b * i) k) (times-commutes x r) (times-commutes y r)
-    (close-times-right i k b r x y s h)
+    let t = close-times-right i k b r x y s h in
+    (simp poly (omega (arith, simp poly at (t .0))), simp poly (omega (arith, simp poly at (t .1))))
 
 -- two products: |x y - z w| ≤ |x - z| |y| + |z| |y - w|
 pub close-times : (i j k b a : ℕ) (x z y w : Frac) → Ok z → Ok y → Size b y → Size a z
@@ -188,10 +165,14 @@ close-times i j k b a x z y w Z Y s t h g =
 
 -- ---- sizes
 pub size-plus : (a b : ℕ) (x y : Frac) → Size a x → Size b y → Size (a + b) (plus x y)
-size-plus a b x y h g = (
-  omega (arith, mul-le-mul-right (y .c) (h .0), mul-le-mul-right (x .c) (g .0)),
-  omega (arith, mul-le-mul-right (y .c) (h .1), mul-le-mul-right (x .c) (g .1)),
-)
+size-plus a b x y h g =
+    omega (
+      arith,
+      mul-le-mul-right (y .c) (h .0),
+      mul-le-mul-right (y .c) (h .1),
+      mul-le-mul-right (x .c) (g .0),
+      mul-le-mul-right (x .c) (g .1),
+    )
 
 -- u ≤ a * e and a * w ≤ b * d give u / e * w / d ≤ b
 part : (a b e d u w : ℕ) → u ≤ a * e → a * w ≤ b * d → u * w ≤ b * (e * d)
@@ -202,28 +183,22 @@ abbrev Product : ℕ → ℕ → ℕ → ℕ → ℕ → Type 0
 Product p n q m k = p * q + n * m ≤ p * m + n * q + k
 
 -- |p - n| / e ≤ a and a * |q - m| / d ≤ b give (p - n) / e * (q - m) / d ≤ b
-product-most : (a b e d p n q m : ℕ) → p ≤ n + a * e → n ≤ p + a * e → a * q ≤ a * m + b * d
-    → a * m ≤ a * q + b * d → Product p n q m (b * (e * d))
-product-most a b e d p n q m =
-    by-sign (λ (p n : ℕ). p ≤ n + a * e → n ≤ p + a * e → a * q ≤ a * m + b * d
-    → a * m ≤ a * q + b * d → Product p n q m (b * (e * d)))
-    (λ n u h k.
-    by-sign (λ (q m : ℕ). a * q ≤ a * m + b * d → a * m ≤ a * q + b * d
-    → Product (n + u) n q m (b * (e * d)))
-    (λ m w g i. omega (arith, part a b e d u w (omega arith) (omega arith)))
-    (λ q w g i. omega arith) q m)
-    (λ p u h k.
-    by-sign (λ (q m : ℕ). a * q ≤ a * m + b * d → a * m ≤ a * q + b * d
-    → Product p (p + u) q m (b * (e * d)))
-    (λ m w g i. omega arith)
-    (λ q w g i. omega (arith, part a b e d u w (omega arith) (omega arith))) q m)
-    p n
+product-above : (a b e d n u : ℕ) → u ≤ a * e → (q m : ℕ) → a * q ≤ a * m + b * d
+    → a * m ≤ a * q + b * d → Product (n + u) n q m (b * (e * d))
+product-above a b e d n u h =
+    by-sign _ (λ m w g i. omega (arith, part a b e d u w h (omega arith))) (λ q w g i. omega arith)
+
+product-most : (a b e d q m : ℕ) → a * q ≤ a * m + b * d → a * m ≤ a * q + b * d
+    → (p n : ℕ) → p ≤ n + a * e → n ≤ p + a * e → Product p n q m (b * (e * d))
+product-most a b e d q m g i =
+    by-sign _ (λ n u h k. product-above a b e d n u (omega arith) q m g i)
+    (λ p u h k. omega (arith, product-above a b e d p u (omega arith) m q i g))
 
 -- |x| ≤ a and a * |y| ≤ b give |x * y| ≤ b
 pub size-times-by : (a b : ℕ) (x y : Frac) → Size a x → Sized a b y → Size b (times x y)
 size-times-by a b x y h g = (
-  product-most a b (x .c) (y .c) (x .p) (x .n) (y .p) (y .n) (h .0) (h .1) (g .0) (g .1),
-  product-most a b (x .c) (y .c) (x .p) (x .n) (y .n) (y .p) (h .0) (h .1) (g .1) (g .0),
+  product-most a b _ _ _ _ (g .0) (g .1) _ _ (h .0) (h .1),
+  product-most a b _ _ _ _ (g .1) (g .0) _ _ (h .0) (h .1),
 )
 
 pub size-times : (a b : ℕ) (x y : Frac) → Size a x → Size b y → Size (a * b) (times x y)
@@ -245,7 +220,7 @@ pub sized-close : (h b i k : ℕ) (x y : Frac) → 0 < k → Ok y → h * i ≤ 
     → Close i k x y → Sized h (b + 1) x
 sized-close h b i k x y K Y l s g = (
   sized-next h b i k x y K Y l (s .0) (g .0),
-  sized-next h b i k _ _ K Y l (s .1) (close-opposite i k x y g .0),
+  sized-next h b i k (opposite x) (opposite y) K Y l (s .1) (up-flip i k _ _ _ _ _ _ (g .1)),
 )
 
 -- what is near something of size b, within 1, is of size b + 1

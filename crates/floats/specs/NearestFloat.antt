@@ -2,10 +2,10 @@
 -- no float of the format is nearer to the exact fraction than the one that an operation gives;
 -- where another is as near, the one given has an even significand; and but for a zero's sign (Sign)
 -- no other float is so. Where results are finite: Overflow.
-use mathlib.Core.Path.{_≡_, refl, sym, ap, _∙_, subst}
+use mathlib.Core.Path.{_≡_, refl, sym, ap, _∙_}
 use Prim.Native.Nat.{ℕ, _+_, _*_, _%_, _^_, _≤_, _<_}
 use native.Mathlib.Nat.{le-trans, le-antisymm, eq-of-mul-eq-mul-right}
-use native.Mathlib.Nat.{zero-mul, mul-comm, mul-assoc, mul-pos}
+use native.Mathlib.Nat.{zero-mul, mul-right-comm, mul-assoc, mul-pos}
 use native.Mathlib.Decide.{ℕ-discrete}
 use native.Mathlib.Omega.{arith}
 use mathlib.Core.Bool.{true, false}
@@ -19,7 +19,7 @@ use lib.Ieee.Scale.{finite, round-val, round-under}
 use lib.Ieee.Positive.{den}
 use Rattle.floats.specs.Value.{top, bot, Is, is-same, is-neg, is-of-pos, is-of-neg, top-neg}
 use Rattle.floats.specs.Value.{bot-neg, den-neg, finite-neg}
-use Rattle.floats.specs.Round.{Rounds, over, under, round-neg, neg-twice}
+use Rattle.floats.specs.Round.{Rounds, over, under, round-opposite, neg-twice}
 use Rattle.floats.specs.Exact.{fits-rep}
 use Rattle.floats.specs.Unique.{value-unique}
 use Rattle.floats.specs.Closest.{gap, closest-nearest, closest-zero, kept-le, grid-nearest}
@@ -66,9 +66,8 @@ module _ (f : Format) (z : Float) (a c p n : ℕ) (C : 0 < c) (e : p ≡ n + a)
 
   mine : distance z p n c * L ≡ far * den z
   mine =
-      let s : q * 2 ^ k * c ≡ q * (c * 2 ^ k) =
-      mul-assoc q (2 ^ k) c ∙ ap (q *_) (mul-comm (2 ^ k) c) in
-      distance-above _ L a c p n e z value ∙ ap (λ x. gap x (a * L) * den z) s
+      distance-above _ L a c p n e z value
+      ∙ ap (λ x. gap x (a * L) * den z) (mul-right-comm q _ c ∙ mul-assoc q c _)
 
   -- ---- y has no sign, and is v smallest values
   module _ (y : Float) (v : ℕ) (is : HasValue y false v L) where
@@ -88,7 +87,7 @@ module _ (f : Format) (z : Float) (a c p n : ℕ) (C : 0 < c) (e : p ≡ n + a)
     below = distance-below v L a c p n e y is
 
     from-zero : far ≤ a * L
-    from-zero = let h = closest-nearest (a * L) _ 0 step in omega arith
+    from-zero = omega (arith, closest-nearest (a * L) _ 0 step)
 
     further-below : NoFurther z y p n c
     further-below =
@@ -109,7 +108,7 @@ module _ (f : Format) (z : Float) (a c p n : ℕ) (C : 0 < c) (e : p ≡ n + a)
   closer (fin false m d) t h =
       let o = fits-rep f _ t h in
       further-above (fin false m d) _ (refl, o .same)
-      (grid-nearest _ (a * L) c P C (o .q) (o .j) (o .small))
+      (grid-nearest _ (a * L) c P C _ _ (o .small))
   closer (fin true m d) t h =
       let o = fits-rep f _ t h in
       further-below (fin true m d) _ (refl, o .same)
@@ -124,7 +123,7 @@ module _ (f : Format) (z : Float) (a c p n : ℕ) (C : 0 < c) (e : p ≡ n + a)
       let other : v ≡ q * 2 ^ k → ⊥ =
       λ s. d (value-unique f y z false _ L (pow-pos _) h fitting (refl, o .same ∙ ap (_* down w) s)
       value) in
-      grid-even _ (a * L) c P C (o .q) (o .j) (o .small) other (far-above y v (refl, o .same) g)
+      grid-even _ (a * L) c P C _ _ (o .small) other (far-above y v (refl, o .same) g)
   tie (fin true m w) t h d g =
       let o = fits-rep f _ t h in
       ap (_% 2) (far-below (fin true m w) _ (refl, o .same) g .1)
@@ -150,12 +149,10 @@ module _ (f : Format) (z : Float) (a c p n : ℕ) (C : 0 < c) (e : p ≡ n + a)
         | yes g ↦ is-of-pos y _ L (refl, o .same ∙ ap (_* down w) g)
         | no g ↦
             let h =
-            grid-neighbour _ (a * L) c P C (o .q) (o .j) (o .small) g
+            grid-neighbour _ (a * L) c P C _ _ (o .small) g
             (far-above y v (refl, o .same) t) in
-            let same : z ≡ y → v * down w ≡ q * 2 ^ k * down w =
-            λ i. sym (o .same) ∙ subst (λ x. HasValue x false (q * 2 ^ k) L) i value .1 in
             let other : z ≡ y → ⊥ =
-            λ i. g (eq-of-mul-eq-mul-right _ (down-pos w) v _ (same i)) in
+            λ i. g (eq-of-mul-eq-mul-right _ (down-pos w) v _ (sym (o .same) ∙ (rw i at value) .1)) in
             absurd (units-odd f false (h .0) k (h .3) y (refl, o .same ∙ ap (_* down w) (h .1))
             (h .4) (h .2) (r .even z F fitting other (sym t)))
       ]
@@ -164,8 +161,7 @@ module _ (f : Format) (z : Float) (a c p n : ℕ) (C : 0 < c) (e : p ≡ n + a)
       let o = fits-rep f y tt (r .fitting) in
       let t : AsFar z y p n c = le-antisymm (closer y tt (r .fitting)) (r .nearest z F fitting) in
       let h = far-below y _ (refl, o .same) t in
-      let none : q * 2 ^ k ≡ 0 = ap (_* 2 ^ k) (h .1) ∙ zero-mul (2 ^ k) in
-      rw none (is-of-neg y 0 L (refl, o .same ∙ ap (_* down w) (h .0)))
+      rw (h .1, zero-mul (2 ^ k)) (is-of-neg y 0 L (refl, o .same ∙ ap (_* down w) (h .0)))
 
   unique-value : (y : Float) → NearestFloat f y p n c → Is y (top z) (bot z) (den z)
   unique-value y r =
@@ -191,15 +187,12 @@ nearest-neg {f} {z} {p} {n} {c} r = record {
       even-neg f z (r .number) s;
 }
 
-opposite : (f : Format) (z : Float) (a c : ℕ) → z ≡ round f true a c → neg z ≡ round f false a c
-opposite f z a c i = ap neg (i ∙ sym (round-neg f a c)) ∙ neg-twice (round f false a c)
-
 -- ---- every operation gives the nearest float, where its result is finite
 pub rounds-nearest : (f : Format) (z : Float) (p n c : ℕ) → 0 < c → Rounds f z p n c → T (finite z)
     → NearestFloat f z p n c
 rounds-nearest f z p n c C (over a e i) F = nearest-over f z a c p n C e i F
 rounds-nearest f z p n c C (under a e i) F =
-    let r = nearest-over f _ a c n p C e (opposite f z a c i) (finite-neg z F) in
+    let r = nearest-over f _ a c n p C e (ap neg i ∙ round-opposite f true a c) (finite-neg z F) in
     rw neg-twice at (nearest-neg r)
 
 -- ---- and nothing else is: what is nearest, and even at a tie, is the result but for a zero's sign
@@ -210,5 +203,6 @@ nearest-unique f y z p n c C (over a e i) F r = unique-value f z a c p n C e i F
 nearest-unique f y z p n c C (under a e i) F r =
     let w = neg z in
     let v =
-    unique-value f w a c n p C e (opposite f z a c i) (finite-neg z F) _ (nearest-neg r) in
+    unique-value f w a c n p C e (ap neg i ∙ round-opposite f true a c) (finite-neg z F) _
+    (nearest-neg r) in
     rw (neg-twice y, top-neg z, bot-neg z, den-neg z) at (is-neg (neg y) _ _ _ v)

@@ -1,12 +1,12 @@
 -- What each operation rounds: the exact sum, difference, product and quotient, as a signed fraction
 -- made of any fractions that the operands equal.
-use mathlib.Core.Path.{_≡_, refl, sym, ap, _∙_}
+use mathlib.Core.Path.{_≡_, refl, sym, ap}
 use mathlib.Core.Logic.{inl, inr}
 use Prim.Native.Nat.{ℕ, _+_, _-_, _*_, _≤_, _<_}
 use native.Mathlib.Nat.{zero-add, add-comm, mul-comm, mul-pos, ne-of-gt}
 use native.Mathlib.Omega.{arith}
 use mathlib.Core.Bool.{Bool, true, false, not, cond}
-use lib.Dec.{T, ltb, eqb, ltb→lt, nltb→le}
+use lib.Dec.{T, ltb, ltb→lt, nltb→le}
 use lib.Ieee.{Float, nan, inf, fin, Format, up, down, unlike, round, neg, sum, add, sub, mul, div}
 use lib.Ieee.Scale.{finite}
 use lib.Ieee.Positive.{num, den, den-pos, first-pos}
@@ -84,10 +84,10 @@ opposite f a b c = go (ltb a b) (ltb b a) (ltb→lt a b) (ltb→lt b a) (nltb→
 
 sum-swap : (f : Format) (s : Bool) (a : ℕ) (t : Bool) (b c : ℕ) → sum f s a t b c ≡ sum f t b s a c
 unfolding sum
-sum-swap f false a false b c = ap (λ z. round f false z c) (add-comm a b)
+sum-swap f false a false b c = rw (add-comm a b)
 sum-swap f false a true b c = opposite f a b c
 sum-swap f true a false b c = sym (opposite f b a c)
-sum-swap f true a true b c = ap (λ z. round f true z c) (add-comm a b)
+sum-swap f true a true b c = rw (add-comm a b)
 
 pub add-commutes : (f : Format) (x y : Float) → add f x y ≡ add f y x
 unfolding add
@@ -102,11 +102,7 @@ add-commutes f (inf false) (inf false) = refl
 add-commutes f (inf s) (fin t n d) = refl
 add-commutes f (fin s m e) nan = refl
 add-commutes f (fin s m e) (inf t) = refl
-add-commutes f (fin s m e) (fin t n d) =
-    let a = m * up e * down d in
-    let b = n * up d * down e in
-    sum-swap f s a t b _
-    ∙ ap (λ c. sum f t b s a c) (mul-comm _ _)
+add-commutes f (fin s m e) (fin t n d) = rw (mul-comm (down e) (down d)) (sum-swap f s _ t _ _)
 
 pub mul-commutes : (f : Format) (x y : Float) → mul f x y ≡ mul f y x
 unfolding mul
@@ -115,13 +111,11 @@ mul-commutes f nan (inf t) = refl
 mul-commutes f nan (fin t n d) = refl
 mul-commutes f (inf s) nan = refl
 mul-commutes f (inf s) (inf t) = ap inf (unlike-swap s t)
-mul-commutes f (inf s) (fin t n d) = ap (λ u. cond (eqb n 0) nan (inf u)) (unlike-swap s t)
+mul-commutes f (inf s) (fin t n d) = rw (unlike-swap s t)
 mul-commutes f (fin s m e) nan = refl
-mul-commutes f (fin s m e) (inf t) = ap (λ u. cond (eqb m 0) nan (inf u)) (unlike-swap s t)
+mul-commutes f (fin s m e) (inf t) = rw (unlike-swap s t)
 mul-commutes f (fin s m e) (fin t n d) =
-    ap (λ u. round f u (m * up e * (n * up d)) (down e * down d)) (unlike-swap s t)
-    ∙ ap (λ a. round f (unlike t s) a (down e * down d)) (mul-comm _ _)
-    ∙ ap (λ c. round f (unlike t s) (n * up d * (m * up e)) c) (mul-comm _ _)
+    rw (unlike-swap s t, mul-comm (m * up e) (n * up d), mul-comm (down e) (down d))
 
 -- ---- the sum
 -- a / c - b / c

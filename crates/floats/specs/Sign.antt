@@ -5,16 +5,19 @@
 -- square.
 use mathlib.Core.Path.{_≡_, refl, sym, ap, _∙_}
 use Prim.Native.Nat.{ℕ, _+_, _-_, _*_, _<_}
-use native.Mathlib.Nat.{le-of-eq, eq-of-mul-eq-mul-right, mul-pos}
+use native.Mathlib.Nat.{eq-of-mul-eq-mul-right, mul-pos}
 use native.Mathlib.Omega.{arith}
 use mathlib.Core.Bool.{Bool, true, false, not, _&&_, cond}
 use lib.Dec.{T, eqb}
 use lib.Ieee.{Float, nan, inf, fin, Format, up, down, unlike, round, neg, sum, add, sub, mul, div}
 use lib.Ieee.{le, isNan}
 use lib.Ieee.Fits.{down-pos}
+use lib.Ieee.Bits.{is-false}
+use lib.Ieee.Positive.{den}
 use lib.Ieee.Scale.{finite}
 use borrow.Author.Tests.{le-ltb}
-use Rattle.floats.specs.Value.{Is, is-neg, sign, unsigned, unsigned-sign, nought, of-le}
+use Rattle.floats.specs.Value.{top, bot, Is, is-neg, sign, unsigned, unsigned-sign, nought}
+use Rattle.floats.specs.Value.{of-le}
 use Rattle.floats.specs.Round.{Rounds, over, under, round-neg, round-unsigned}
 use Rattle.floats.specs.Ops.{add-is, sub-is, mul-is, unlike-self}
 use Rattle.floats.specs.Zero.{round-nought}
@@ -23,10 +26,8 @@ use Rattle.floats.specs.Zero.{round-nought}
 neg-sign : (x : Float) → T (unsigned x) → sign (neg x) ≡ true
 unfolding neg
 neg-sign nan u = absurd u
-neg-sign (inf true) u = absurd u
-neg-sign (inf false) u = refl
-neg-sign (fin true m e) u = absurd u
-neg-sign (fin false m e) u = refl
+neg-sign (inf s) u = ap not (is-false s u)
+neg-sign (fin s m e) u = ap not (is-false s u)
 
 pub round-sign : (f : Format) (s : Bool) (a c : ℕ) → sign (round f s a c) ≡ s
 round-sign f false a c = unsigned-sign (round f false a c) (round-unsigned f a c)
@@ -44,44 +45,34 @@ rounds-sign-below f z p n c (over a e i) h = absurd (omega arith)
 rounds-sign-below f z p n c (under a e i) h = ap sign i ∙ round-sign f true a c
 
 -- ---- a sum that is exactly zero: -0 where both terms have the sign -, as only zeros can; else +0
--- |x| = X / D and |y| = Y / E are both |p - n| / c
-same-size : (X D Y E p n c : ℕ) → 0 < c → X * c + n * D ≡ p * D → Y * c + n * E ≡ p * E
-    → X * E ≡ Y * D
-same-size X D Y E p n c C h k =
-    eq-of-mul-eq-mul-right c C (X * E) (Y * D) (omega (arith, ap (_* E) h, ap (_* D) k))
-
-both-zero : (X D Y E p n c : ℕ) → 0 < c → X * c + n * D ≡ p * D → Y * c + p * E ≡ n * E
-    → X * E + Y * D ≡ 0
-both-zero X D Y E p n c C h k =
-    eq-of-mul-eq-mul-right c C _ 0 (omega (arith, ap (_* E) h, ap (_* D) k))
+balanced : (f : Format) (x y : Float) → T (finite x) → T (finite y)
+    → top x * den y + top y * den x ≡ bot x * den y + bot y * den x
+    → add f x y ≡ nought (sign x && sign y)
+unfolding add sum
+balanced f nan y p q z = absurd p
+balanced f (inf s) y p q z = absurd p
+balanced f (fin s m e) nan p q z = absurd q
+balanced f (fin s m e) (inf t) p q z = absurd q
+balanced f (fin false m e) (fin false l d) p q z =
+    round-nought f false _ _ (mul-pos (down-pos e) (down-pos d)) (omega arith)
+balanced f (fin true m e) (fin true l d) p q z =
+    round-nought f true _ _ (mul-pos (down-pos e) (down-pos d)) (omega arith)
+balanced f (fin false m e) (fin true l d) p q z =
+    let a = m * up e * down d in
+    let b = l * up d * down e in
+    rw (le-ltb a b (omega arith))
+    (round-nought f false (a - b) _ (mul-pos (down-pos e) (down-pos d)) (omega arith))
+balanced f (fin true m e) (fin false l d) p q z =
+    let a = m * up e * down d in
+    let b = l * up d * down e in
+    rw (le-ltb a b (omega arith), le-ltb b a (omega arith))
+    (round-nought f false (a - b) _ (mul-pos (down-pos e) (down-pos d)) (omega arith))
 
 pub sum-zero : (f : Format) (x y : Float) (p n c : ℕ) → 0 < c → Is x p n c → Is y n p c
     → add f x y ≡ nought (sign x && sign y)
-unfolding add sum
-sum-zero f nan y p n c C h k = absurd (h .0)
-sum-zero f (inf s) y p n c C h k = absurd (h .0)
-sum-zero f (fin s m e) nan p n c C h k = absurd (k .0)
-sum-zero f (fin s m e) (inf t) p n c C h k = absurd (k .0)
-sum-zero f (fin false m e) (fin false l d) p n c C h k =
-    round-nought f false _ _ (mul-pos (down-pos e) (down-pos d))
-    (both-zero _ _ _ _ p n c C (omega arith) (omega arith))
-sum-zero f (fin true m e) (fin true l d) p n c C h k =
-    round-nought f true _ _ (mul-pos (down-pos e) (down-pos d))
-    (both-zero _ _ _ _ n p c C (omega arith) (omega arith))
-sum-zero f (fin false m e) (fin true l d) p n c C h k =
-    let a = m * up e * down d in
-    let b = l * up d * down e in
-    let i : a ≡ b =
-    same-size _ _ _ _ p n c C (omega arith) (omega arith) in
-    rw (le-ltb a b (le-of-eq (sym i)))
-    (round-nought f false (a - b) _ (mul-pos (down-pos e) (down-pos d)) (omega arith))
-sum-zero f (fin true m e) (fin false l d) p n c C h k =
-    let a = m * up e * down d in
-    let b = l * up d * down e in
-    let i : a ≡ b =
-    same-size _ _ _ _ n p c C (omega arith) (omega arith) in
-    rw (le-ltb a b (le-of-eq (sym i)), le-ltb b a (le-of-eq i))
-    (round-nought f false (a - b) _ (mul-pos (down-pos e) (down-pos d)) (omega arith))
+sum-zero f x y p n c C h k =
+    balanced f x y (h .0) (k .0)
+    (eq-of-mul-eq-mul-right c C _ _ (omega (arith, ap (_* den y) (h .1), ap (_* den x) (k .1))))
 
 finite-sign-neg : (x : Float) → T (finite x) → sign (neg x) ≡ not (sign x)
 unfolding neg
