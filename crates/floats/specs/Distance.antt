@@ -36,7 +36,7 @@ gap-times : (x y k : ℕ) → gap x y * k ≡ gap (x * k) (y * k)
 gap-times x y k = add-mul (x - y) (y - x) k ∙ ap₂ _+_ (minus-times x y) (minus-times y x)
   where
     minus-times : (m n : ℕ) → (m - n) * k ≡ m * k - n * k
-    minus-times m n = mul-comm (m - n) k ∙ mul-sub k m n ∙ ap₂ _-_ (mul-comm k m) (mul-comm k n)
+    minus-times m n = rw (mul-comm (m - n) k, mul-comm m k, mul-comm n k) (mul-sub k m n)
 
 gap-cancel : (x y t : ℕ) → gap (x + t) (y + t) ≡ gap x y
 gap-cancel x y t = omega arith

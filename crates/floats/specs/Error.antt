@@ -1,7 +1,7 @@
 -- The error of one rounding to single precision: at most 2 ^ k / 2 ^ 25 for an
 -- exact value below 2 ^ k.
 use mathlib.Core.Path.{_≡_, sym, ap, _∙_}
-use Prim.Native.Nat.{ℕ, _+_, _-_, _*_, _^_, _≤_, _<_}
+use Prim.Native.Nat.{ℕ, _+_, _*_, _^_, _≤_, _<_}
 use native.Mathlib.Nat.{le-trans, le-of-eq, lt-of-lt-of-le, lt-of-le-of-lt, mul-le-mul}
 use native.Mathlib.Nat.{mul-le-mul-left}
 use native.Mathlib.Nat.{mul-right-comm, mul-lt-mul-of-pos-right, mul-pos, div-lt-iff-lt-mul}
@@ -23,39 +23,29 @@ use Rattle.floats.specs.Closest.{closest-near, kept-le}
 
 -- ---- in units of the format's smallest value: a / c below 2 ^ (prec + j) units rounds to `grid f
 -- a c` units, with an error of at most 2 ^ j / 2
-drop-le : (f : Format) (a c j : ℕ) → 0 < c → a * 2 ^ low f < 2 ^ (prec f + j) * c
-    → drop (prec f) (a * 2 ^ low f) c ≤ j
-drop-le f a c j C h =
-    spare _ _ j (size-le _ _ (div-lt-iff-lt-mul C .1 h))
-  where
-    spare : (z p l : ℕ) → z ≤ p + l → z - p ≤ l
-    spare z p l h = omega arith
+module _ (f : Format) (a c j : ℕ) (C : 0 < c) (h : a * 2 ^ low f < 2 ^ (prec f + j) * c) where
+  drop-le : drop (prec f) (a * 2 ^ low f) c ≤ j
+  drop-le = omega (arith, size-le _ _ (div-lt-iff-lt-mul C .1 h))
 
-grid-le : (f : Format) (a c j : ℕ) → 0 < c → a * 2 ^ low f < 2 ^ (prec f + j) * c
-    → grid f a c ≤ 2 ^ (prec f + j)
-grid-le f a c j C h =
-    le-trans (mul-le-mul (kept-le _ _ c) (pow-mono (drop-le f a c j C h)))
-    (le-of-eq (sym (pow-add 2 _ j)))
+  grid-le : grid f a c ≤ 2 ^ (prec f + j)
+  grid-le =
+      le-trans (mul-le-mul (kept-le _ _ c) (pow-mono drop-le)) (le-of-eq (sym (pow-add 2 _ j)))
 
-pub grid-near : (f : Format) (a c j : ℕ) → 0 < c → a * 2 ^ low f < 2 ^ (prec f + j) * c
-    → (grid f a c * c * 2 ≤ a * 2 ^ low f * 2 + c * 2 ^ j)
-    × (a * 2 ^ low f * 2 ≤ grid f a c * c * 2 + c * 2 ^ j)
-grid-near f a c j C h =
-    let n = a * 2 ^ low f in
-    let d = drop (prec f) n c in
-    go _ (2 ^ d) n (2 ^ j) (pow-mono (drop-le f a c j C h))
-    (closest-near n _ (mul-pos C (pow-pos d)))
-  where
-    go : (k t n w : ℕ) → t ≤ w
-        → (k * (c * t) * 2 ≤ n * 2 + c * t) × (n * 2 ≤ k * (c * t) * 2 + c * t)
-        → (k * t * c * 2 ≤ n * 2 + c * w) × (n * 2 ≤ k * t * c * 2 + c * w)
-    go k t n w l g = let m : c * t ≤ c * w = mul-le-mul-left c l in
-        omega arith
+  pub grid-near : (grid f a c * c * 2 ≤ a * 2 ^ low f * 2 + c * 2 ^ j)
+      × (a * 2 ^ low f * 2 ≤ grid f a c * c * 2 + c * 2 ^ j)
+  grid-near =
+      let n = a * 2 ^ low f in
+      let d = drop (prec f) n c in
+      go _ (2 ^ d) n (2 ^ j) (pow-mono drop-le) (closest-near n _ (mul-pos C (pow-pos d)))
+    where
+      go : (k t n w : ℕ) → t ≤ w
+          → (k * (c * t) * 2 ≤ n * 2 + c * t) × (n * 2 ≤ k * (c * t) * 2 + c * t)
+          → (k * t * c * 2 ≤ n * 2 + c * w) × (n * 2 ≤ k * t * c * 2 + c * w)
+      go k t n w l g = omega (arith, mul-le-mul-left c l)
 
 pub round-at : (f : Format) (s : Bool) (a c : ℕ) → grid f a c < overflow f
     → HasValue (round f s a c) s (grid f a c) (2 ^ low f)
-round-at f s a c h =
-    rw round-is (units-val f s _ _ h)
+round-at f s a c h = rw round-is (units-val f s _ _ h)
 
 -- ---- single precision
 powers : (i j k l : ℕ) → i + j ≡ k + l → 2 ^ i * 2 ^ j ≡ 2 ^ k * 2 ^ l
@@ -66,12 +56,11 @@ below-units a c k h =
     lt-of-lt-of-le (mul-lt-mul-of-pos-right h (pow-pos 149)) (le-of-eq (mul-right-comm (2 ^ k) c _
     ∙ ap (_* c) (powers k 149 24 _ (omega arith) ∙ sym (pow-add 2 24 _))))
 
-no-overflow : (a c k : ℕ) → k ≤ 127 → 0 < c → a < 2 ^ k * c → grid binary32 a c < overflow binary32
-no-overflow a c k K C h =
-    lt-of-le-of-lt (grid-le binary32 a c _ C (below-units a c k h)) (pow-lt (room k K))
-  where
-    room : (k : ℕ) → k ≤ 127 → 24 + (k + 125) < 277
-    room k h = omega arith
+at-grid : (s : Bool) (a c k : ℕ) → k ≤ 127 → 0 < c → a < 2 ^ k * c
+    → HasValue (round binary32 s a c) s (grid binary32 a c) (2 ^ 149)
+at-grid s a c k K C h =
+    round-at _ s a c (lt-of-le-of-lt (grid-le binary32 a c _ C (below-units a c k h))
+    (pow-lt {j = 277} (omega arith)))
 
 -- g of the u units in 1 are near a / c, where w / 2 units are the largest error
 units-near : (g a c u w K t p n : ℕ)
@@ -119,14 +108,12 @@ rounds-near z p n c k K C (over a e i) h g =
     let u = grid binary32 a c in
     let l = part-less p n a _ e h in
     let v : Is z u 0 (2 ^ 149) =
-    rw i (is-of-pos (round binary32 false a c) u _
-    (round-at _ false a c (no-overflow a c k K C l))) in
+    rw i (is-of-pos (round binary32 false a c) u _ (at-grid false a c k K C l)) in
     near-is z u 0 _ p n c (2 ^ k) _ (pow-pos 149) v (grid-of a p n c k C l e)
 rounds-near z p n c k K C (under a e i) h g =
     let u = grid binary32 a c in
     let l = part-less n p a _ e g in
     let v : Is z 0 u (2 ^ 149) =
-    rw i (is-of-neg (round binary32 true a c) u _
-    (round-at _ true a c (no-overflow a c k K C l))) in
+    rw i (is-of-neg (round binary32 true a c) u _ (at-grid true a c k K C l)) in
     near-is z 0 u _ p n c (2 ^ k) _ (pow-pos 149) v
     (near-flip (2 ^ k) _ u 0 _ n p c (grid-of a n p c k C l e))

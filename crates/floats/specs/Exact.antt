@@ -21,15 +21,15 @@ use native.Mathlib.Nat.{
 use native.Mathlib.Omega.{arith}
 use mathlib.Core.Bool.{Bool, true, false}
 use lib.IntN.{ℤ, pos, negsuc}
-use lib.Dec.{T, ltb, leb, ltb→lt, leb→le, lit<, lit≤}
+use lib.Dec.{T, ltb→lt, leb→le, lit<, lit≤}
 use lib.Pow.{pow-add, pow-pos, pow-mono, pow-lt, shl-lt}
 use lib.Ieee.{Float, nan, inf, fin, Format, binary32, prec, emax, low, up, down, round, fits}
-use lib.Ieee.Digits.{back}
 use lib.Ieee.Fits.{and-l, and-r}
 use lib.Ieee.Exact.{HasValue, round-exact}
 use lib.Ieee.Scale.{finite}
 use lib.Ieee.Positive.{num, den, den-pos}
 use Rattle.floats.specs.Value.{Is, is-of-pos, is-of-neg, Apart, size-is}
+use Rattle.floats.specs.Closest.{halves}
 use Rattle.floats.specs.Round.{Rounds, over, under}
 
 -- a / c is a value of the format: q * 2 ^ j of its smallest values
@@ -63,21 +63,15 @@ rep-same f a c b d C e r = record {
     go u w s =
         eq-of-mul-eq-mul-right c C (b * u) (w * d) (omega (arith, ap (_* u) e, ap (_* d) s))
 
-halves : (l i : ℕ) → i ≤ l → 2 ^ (l - i) * 2 ^ i ≡ 2 ^ l
-halves l i h = sym (pow-add 2 (l - i) i) ∙ ap (2 ^_) (back l i h)
-
 -- binary32 holds a / 2 ^ i for an a below 2 ^ 24, and i up to 149
 pub rep-dyadic : (a i : ℕ) → i ≤ 149 → a < 2 ^ 24 → Rep binary32 a (2 ^ i)
 rep-dyadic a i h s = record {
   q = a;
   j = 149 - i;
   small = s;
-  fine = lt-of-lt-of-le (shl-lt 24 _ s) (pow-mono {i = 24 + (149 - i)} {j = 277} (room i));
+  fine = lt-of-lt-of-le (shl-lt 24 _ s) (pow-mono {j = 277} (omega arith));
   same = ap (a *_) (sym (halves 149 i h)) ∙ sym (mul-assoc a _ (2 ^ i));
 }
-  where
-    room : (i : ℕ) → 24 + (149 - i) ≤ 277
-    room i = omega arith
 
 -- a whole number below 2 ^ 24
 pub rep-whole : (a : ℕ) → a < 2 ^ 24 → Rep binary32 a 1
@@ -85,35 +79,29 @@ rep-whole a s = rep-dyadic a 0 (lit≤ tt) s
 
 -- and such a number times a power of two
 pub rep-times : (a k : ℕ) → a < 2 ^ 24 → k ≤ 104 → Rep binary32 (a * 2 ^ k) 1
-rep-times a k s h =
-    let room : 24 + (k + 149) ≤ 277 = omega arith in
-    record {
-      q = a;
-      j = k + 149;
-      small = s;
-      fine = lt-of-lt-of-le (shl-lt 24 _ s) (pow-mono room);
-      same = rw (pow-add 2 k 149) (same (2 ^ k) (2 ^ 149));
-    }
+rep-times a k s h = record {
+  q = a;
+  j = k + 149;
+  small = s;
+  fine = lt-of-lt-of-le (shl-lt 24 _ s) (pow-mono {j = 277} (omega arith));
+  same = rw (pow-add 2 k 149) (same (2 ^ k) (2 ^ 149));
+}
   where
     same : (b u : ℕ) → a * b * u ≡ a * (b * u) * 1
     same b u = omega arith
 
 -- and the powers of two up to 2 ^ 276 of its smallest values
 pub rep-power : (k : ℕ) → k ≤ 276 → Rep binary32 (2 ^ k) (2 ^ 149)
-rep-power k h =
-    record {
-      q = 1;
-      j = k;
-      small = lit< tt;
-      fine = rw one-mul (pow-lt (room k h));
-      same = rw one-mul;
-    }
-  where
-    room : (k : ℕ) → k ≤ 276 → k < 277
-    room k h = omega arith
+rep-power k h = record {
+  q = 1;
+  j = k;
+  small = lit< tt;
+  fine = rw one-mul (pow-lt {j = 277} (omega arith));
+  same = rw one-mul;
+}
 
 -- ---- the size of a float that fits is such a value
-le-of-pow : (i l : ℕ) → 2 ^ i ≤ 2 ^ l → i ≤ l
+pub le-of-pow : (i l : ℕ) → 2 ^ i ≤ 2 ^ l → i ≤ l
 le-of-pow i l h = le-of-suc-le-suc (lt-of-not-le (λ g. not-le-of-lt (pow-lt g) h))
 
 rep-of : (f : Format) (m : ℕ) (e : ℤ) → m < 2 ^ prec f → down e ≤ 2 ^ low f
@@ -141,18 +129,14 @@ rep-of f m (negsuc k) s h g = record {
 pub fits-parts : (f : Format) (s : Bool) (m : ℕ) (e : ℤ) → T (fits f (fin s (suc m) e))
     → (suc m < 2 ^ prec f) × (down e ≤ 2 ^ low f) × (suc m * up e < 2 ^ suc (emax f) * down e)
 unfolding fits
-fits-parts f s m e t =
-    let digits : T (ltb (suc m) (2 ^ prec f)) = search (and-l, and-r) in
-    let units : T (leb (down e) (2 ^ low f)) = search (and-l, and-r) in
-    let size : T (ltb (suc m * up e) (2 ^ suc (emax f) * down e)) = search (and-l, and-r) in
-    (ltb→lt _ _ digits, leb→le _ _ units, ltb→lt _ _ size)
+fits-parts f s m e t = search (and-l, and-r, ltb→lt, leb→le)
 
 pub fits-rep : (f : Format) (x : Float) → T (finite x) → T (fits f x) → Rep f (num x) (den x)
 fits-rep f nan p t = absurd p
 fits-rep f (inf s) p t = absurd p
 fits-rep f (fin s zero e) p t = rw zero-mul (rep-zero f _)
-fits-rep f (fin s (suc m) e) p t = let h = fits-parts f s m e t in
-    rep-of f _ e (h .0) (h .1) (h .2)
+fits-rep f (fin s (suc m) e) p t =
+    let h = fits-parts f s m e t in rep-of f _ e (h .0) (h .1) (h .2)
 
 -- ---- rounding leaves it as it is
 pub round-rep : (f : Format) (s : Bool) (a c : ℕ) → 0 < c → Rep f a c

@@ -7,21 +7,18 @@ use native.Mathlib.Nat.{
   mul-le-mul-right,
   le-of-mul-le-mul-right,
   lt-of-mul-lt-mul-right,
-  le-of-suc-le-suc,
-  lt-of-not-le,
-  not-le-of-lt,
 }
 use native.Mathlib.Omega.{arith}
 use mathlib.Core.Bool.{true, false}
 use lib.IntN.{pos, negsuc}
 use lib.Dec.{T, lit<, lit≤}
-use lib.Pow.{pow-pos, pow-lt}
+use lib.Pow.{pow-pos}
 use lib.Ieee.{Float, nan, inf, fin, binary32, fits, down}
 use lib.Ieee.Positive.{den-pos}
 use Rattle.floats.specs.Notation.{_⊖_}
 use Rattle.floats.specs.Signed.{Le, le-through}
 use Rattle.floats.specs.Value.{Is, is-same, is→le, is→ge}
-use Rattle.floats.specs.Exact.{fits-parts}
+use Rattle.floats.specs.Exact.{le-of-pow, fits-parts}
 use Rattle.floats.specs.Small.{dyadic-sub}
 
 -- v is q / 2 ^ i, with few enough digits
@@ -34,9 +31,6 @@ record Dyadic (v : Float) : Type 0 where
 
 zero-of : (v : Float) → Is v 0 0 1 → Dyadic v
 zero-of v h = record { q = 0; i = 0; few = lit< tt; fine = lit≤ tt; is = h }
-
-exponent : (i : ℕ) → 2 ^ i ≤ 2 ^ 149 → i ≤ 149
-exponent i h = le-of-suc-le-suc (lt-of-not-le (λ g. not-le-of-lt (pow-lt g) h))
 
 -- a value p / c below 2 ^ 24
 dyadic-of : (v : Float) (p c : ℕ) → T (fits binary32 v) → 0 < c → Is v p 0 c → p < 2 ^ 24 * c
@@ -65,7 +59,7 @@ dyadic-of (fin false (suc m) (negsuc k)) p c t C h l =
       q = suc m;
       i = suc k;
       few = parts .0;
-      fine = exponent _ (parts .1);
+      fine = le-of-pow _ 149 (parts .1);
       is = (tt, omega arith);
     }
 

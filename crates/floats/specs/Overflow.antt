@@ -13,7 +13,7 @@ use lib.Pow.{pow-pos}
 use lib.Ieee.{Float, nan, inf, fin, binary32, round, neg}
 use lib.Ieee.Exact.{HasValue}
 use lib.Ieee.Order.{round-mono}
-use lib.Ieee.Scale.{grid, overflow, finite}
+use lib.Ieee.Scale.{finite}
 use Rattle.floats.specs.Order.{over-top}
 use Rattle.floats.specs.Round.{Rounds, over, under, neg-twice, rounds-neg}
 use Rattle.floats.specs.Error.{grid-near, round-at, part-less}
@@ -39,27 +39,24 @@ less : (a c g t l : ℕ) → 0 < c → a * l < (2 ^ 25 - 1) * t * c → g * c * 
     → g < 2 ^ 25 * t
 less a c g t l C h k = lt-of-mul-lt-mul-right c (omega arith)
 
-in-range : (a c : ℕ) → 0 < c → a < bound * c → grid binary32 a c < overflow binary32
-in-range a c C h =
-    let u : a * 2 ^ 149 < bound * 2 ^ 149 * c =
-    lt-of-lt-of-le (mul-lt-mul-of-pos-right h (pow-pos 149))
-    (le-of-eq (mul-right-comm bound c _)) in
-    let w : a * 2 ^ 149 < 2 ^ 277 * c = lt-of-lt-of-le u (mul-le-mul-right c (lit≤ tt)) in
-    less a c _ (2 ^ 252) _ C u (grid-near binary32 a c 253 C w .0)
-
 finite-of : (x : Float) (s : Bool) (a c : ℕ) → HasValue x s a c → T (finite x)
 finite-of nan s a c h = absurd h
 finite-of (inf t) s a c h = absurd h
 finite-of (fin t m e) s a c h = tt
 
+in-range : (s : Bool) (a c : ℕ) → 0 < c → a < bound * c → T (finite (round binary32 s a c))
+in-range s a c C h =
+    let u : a * 2 ^ 149 < bound * 2 ^ 149 * c =
+    lt-of-lt-of-le (mul-lt-mul-of-pos-right h (pow-pos 149))
+    (le-of-eq (mul-right-comm bound c _)) in
+    let w : a * 2 ^ 149 < 2 ^ 277 * c = lt-of-lt-of-le u (mul-le-mul-right c (lit≤ tt)) in
+    finite-of (round binary32 s a c) s _ _
+    (round-at _ s a c (less a c _ (2 ^ 252) _ C u (grid-near binary32 a c 253 C w .0)))
+
 pub rounds-finite : (z : Float) (p n c : ℕ) → 0 < c → Rounds binary32 z p n c → p < n + bound * c
     → n < p + bound * c → T (finite z)
-rounds-finite z p n c C (over a e i) h g =
-    let l : a < bound * c = part-less p n a _ e h in
-    rw i (finite-of (round binary32 false a c) false _ _ (round-at _ false a c (in-range a c C l)))
-rounds-finite z p n c C (under a e i) h g =
-    let l : a < bound * c = part-less n p a _ e g in
-    rw i (finite-of (round binary32 true a c) true _ _ (round-at _ true a c (in-range a c C l)))
+rounds-finite z p n c C (over a e i) h g = rw i (in-range false a c C (part-less p n a _ e h))
+rounds-finite z p n c C (under a e i) h g = rw i (in-range true a c C (part-less n p a _ e g))
 
 -- so it is the nearest float
 pub rounds-nearest-below : (z : Float) (p n c : ℕ) → 0 < c → Rounds binary32 z p n c

@@ -1,6 +1,7 @@
 -- Whether a float's significand is even. A float of q * 2 ^ k smallest values, q having the
 -- format's digits, is even or odd as q is.
 use mathlib.Core.Path.{_≡_, sym, ap, _∙_}
+use mathlib.Core.Logic.{_↔_}
 use Prim.Native.Nat.{ℕ, suc, _+_, _-_, _*_, _/_, _%_, _^_, _≤_, _<_}
 use native.Mathlib.Nat.{le-trans, le-of-eq, le-antisymm, lt-of-not-le, le-of-mul-le-mul-right}
 use native.Mathlib.Nat.{mul-assoc, mul-le-mul-right, mul-mod-left, mul-div-cancel, pow-suc}
@@ -10,13 +11,13 @@ use mathlib.Core.Bool.{Bool, true, false, not, cond}
 use lib.Dec.{T}
 use lib.Arith.{lt-of-le-ne}
 use lib.Pow.{pow-add, pow-pos, pow-lt, shl-lt}
-use lib.Ieee.{Float, nan, inf, fin, Format, binary32, binary64, prec, low, hid, up, down, size}
+use lib.Ieee.{Float, nan, inf, fin, Format, binary32, binary64, prec, low, hid, size}
 use lib.Ieee.{neg, toBits}
-use lib.Ieee.Digits.{size-le, size-reaches, back}
+use lib.Ieee.Digits.{size-le, size-reaches}
 use lib.Ieee.Fits.{two, down-pos}
 use lib.Ieee.Exact.{HasValue}
 use lib.Ieee.Scale.{finite}
-use Rattle.floats.specs.Closest.{size-above}
+use Rattle.floats.specs.Closest.{size-above, halves}
 
 -- the significand's last digit is the last bit of the pattern
 abbrev pub Even : Format → Float → Type 0
@@ -26,26 +27,20 @@ Even f x = toBits f x % 2 ≡ 0
 abbrev pattern : Format → Bool → ℕ → ℕ → ℕ
 pattern f s k q = cond s (lib.Ieee.top f) 0 + k * hid f + q
 
-pattern-even : (f : Format) (s : Bool) (k q : ℕ) → q % 2 ≡ 0 → pattern f s k q % 2 ≡ 0
-pattern-even binary32 true k q h = omega arith
-pattern-even binary32 false k q h = omega arith
-pattern-even binary64 true k q h = omega arith
-pattern-even binary64 false k q h = omega arith
-
-even-pattern : (f : Format) (s : Bool) (k q : ℕ) → pattern f s k q % 2 ≡ 0 → q % 2 ≡ 0
-even-pattern binary32 true k q h = omega arith
-even-pattern binary32 false k q h = omega arith
-even-pattern binary64 true k q h = omega arith
-even-pattern binary64 false k q h = omega arith
+same-parity : (f : Format) (s : Bool) (k q : ℕ) → pattern f s k q % 2 ≡ 0 ↔ q % 2 ≡ 0
+same-parity binary32 true k q = omega arith
+same-parity binary32 false k q = omega arith
+same-parity binary64 true k q = omega arith
+same-parity binary64 false k q = omega arith
 
 pub even-neg : (f : Format) (x : Float) → T (finite x) → Even f x → Even f (neg x)
 unfolding neg toBits
 even-neg f nan t h = absurd t
 even-neg f (inf s) t h = absurd t
-even-neg f (fin s m e) t h =
-    let n = m * up e * 2 ^ low f / down e in
-    let k = size n - prec f in
-    pattern-even f (not s) k _ (even-pattern f s k _ h)
+even-neg f (fin s m e) t h = same-parity f (not s) _ _ .1 (same-parity f s _ _ .0 h)
+
+in-units : (n d q : ℕ) → 0 < d → n ≡ q * d → n / d ≡ q
+in-units n d q D e = ap (_/ d) e ∙ mul-div-cancel q D
 
 -- ---- the p leading digits of q * 2 ^ k
 double : (m n : ℕ) → m ≡ n * 2 → m % 2 ≡ 0
@@ -60,15 +55,11 @@ module _ (p q k n : ℕ) (P : 2 ≤ p) (most : q ≤ 2 ^ p) (is : n ≡ q * 2 ^ 
   dropped = size n - p
 
   quotient : (w : ℕ) → n ≡ w * 2 ^ dropped → n / 2 ^ dropped ≡ w
-  quotient w e = ap (λ x. x / 2 ^ dropped) e ∙ mul-div-cancel w (pow-pos dropped)
+  quotient w e = in-units n _ w (pow-pos dropped) e
 
   -- with fewer than k digits dropped they end in q's digits and zeros
   fewer : dropped ≤ k → n / 2 ^ dropped ≡ q * 2 ^ (k - dropped)
-  fewer h =
-      quotient _ (is ∙ ap (q *_) split ∙ sym (mul-assoc q _ _))
-    where
-      split : 2 ^ k ≡ 2 ^ (k - dropped) * 2 ^ dropped
-      split = ap (2 ^_) (sym (back k dropped h)) ∙ pow-add 2 _ dropped
+  fewer h = quotient _ (is ∙ rw (← halves k dropped h, mul-assoc))
 
   -- with more, q is 2 ^ p
   carried : k < dropped → n / 2 ^ dropped ≡ 2 ^ (p - 1)
@@ -117,20 +108,14 @@ module _ (p q k n : ℕ) (P : 2 ≤ p) (most : q ≤ 2 ^ p) (is : n ≡ q * 2 ^ 
           ]
 
 -- ---- a float of q * 2 ^ k smallest values
-in-units : (n d q : ℕ) → 0 < d → n ≡ q * d → n / d ≡ q
-in-units n d q D e = ap (_/ d) e ∙ mul-div-cancel q D
-
 module _ (f : Format) (s : Bool) (q k : ℕ) (most : q ≤ 2 ^ prec f) where
   pub units-even : (z : Float) → HasValue z s (q * 2 ^ k) (2 ^ low f) → q % 2 ≡ 0 → Even f z
   unfolding toBits
   units-even nan h e = absurd h
   units-even (inf t) h e = absurd h
   units-even (fin t m i) h e =
-      let n = m * up i * 2 ^ low f / down i in
-      let is : n ≡ q * 2 ^ k =
-      in-units _ _ _ (down-pos i) (h .1) in
-      let d = size n - prec f in
-      pattern-even f t d _ (leading-even _ q k n (two f) most is e)
+      same-parity f t _ _ .1
+      (leading-even _ q k _ (two f) most (in-units _ _ _ (down-pos i) (h .1)) e)
 
   pub units-odd : (z : Float) → HasValue z s (q * 2 ^ k) (2 ^ low f)
       → (0 < k → 2 ^ (prec f - 1) ≤ q)
@@ -139,10 +124,5 @@ module _ (f : Format) (s : Bool) (q k : ℕ) (most : q ≤ 2 ^ prec f) where
   units-odd nan h least odd e = absurd h
   units-odd (inf t) h least odd e = absurd h
   units-odd (fin t m i) h least odd e =
-      let n = m * up i * 2 ^ low f / down i in
-      let is : n ≡ q * 2 ^ k =
-      in-units _ _ _ (down-pos i) (h .1) in
-      let d = size n - prec f in
-      let last : n / 2 ^ d ≡ q = leading-odd _ q k n (two f) most is least odd in
-      let even : n / 2 ^ d % 2 ≡ 0 = even-pattern f t d _ e in
-      omega (arith, rw last at even)
+      let last = leading-odd _ q k _ (two f) most (in-units _ _ _ (down-pos i) (h .1)) least odd in
+      omega (arith, rw last at (same-parity f t _ _ .0 e))

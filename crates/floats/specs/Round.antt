@@ -103,28 +103,24 @@ zeros f a c b d C D z w =
 pub rounds-mono : (f : Format) (z w : Float) (p n c q m d : ℕ) → 0 < c → 0 < d → Rounds f z p n c
     → Rounds f w q m d → Le p n c q m d → T (le z w)
 rounds-mono f z w p n c q m d C D (over a e i) (over b g j) h =
-    let pd : p * d ≡ (n + a) * d = ap (_* d) e in
-    let qc : q * c ≡ (m + b) * c = ap (_* c) g in
-    rw (i, j) (round-mono f a c b d C D (omega arith))
+    rw (i, j) (round-mono f a c b d C D (omega (arith, ap (_* d) e, ap (_* c) g)))
 rounds-mono f z w p n c q m d C D (over a e i) (under b g j) h =
-    let pd : p * d ≡ (n + a) * d = ap (_* d) e in
-    let mc : m * c ≡ (q + b) * c = ap (_* c) g in
+    let s = ap (_* d) e in
+    let t = ap (_* c) g in
     rw (i, j)
     (zeros f a c b d C D (eq-of-mul-eq-mul-right d D a 0 (omega arith))
     (eq-of-mul-eq-mul-right c C b 0 (omega arith)))
 rounds-mono f z w p n c q m d C D (under a e i) (over b g j) h =
     rw (i, j, ← round-neg) (le-cross _ _ (round-unsigned f a c) (round-unsigned f b d))
 rounds-mono f z w p n c q m d C D (under a e i) (under b g j) h =
-    let nd : n * d ≡ (p + a) * d = ap (_* d) e in
-    let mc : m * c ≡ (q + b) * c = ap (_* c) g in
     rw (i, j, ← round-neg f a c, ← round-neg f b d)
-    (le-neg _ _ (round-mono f b d a c D C (omega arith)))
+    (le-neg _ _ (round-mono f b d a c D C (omega (arith, ap (_* d) e, ap (_* c) g))))
 
 -- ---- only the fraction's value counts
 size-of : (p n c q m d a : ℕ) → 0 < c → p ≡ n + a → Equal p n c q m d
     → (b : ℕ) × (q ≡ m + b) × (a * d ≡ b * c)
 size-of p n c q m d a C e h =
-    let pd : p * d ≡ (n + a) * d = ap (_* d) e in
+    let s = ap (_* d) e in
     let k = le-dest (le-of-mul-le-mul-right {m = m} {n = q} {k = c} (omega arith) C) in
     (k .0, sym (k .1), omega (arith, ap (_* c) (k .1)))
 
