@@ -73,21 +73,21 @@ rounds-approx z q r i b Q R l L s h a =
     record { fin = w .fin; near = close-through (b + 1) i u⁻¹ _ q r Q (w .near) h }
 
 -- ---- the operations
-pub add-approx : (i j b : ℕ) (x y : Float) (r q : Frac) → Ok r → Ok q → i + j ≤ u⁻¹
-    → b + 1 < 2 ^ 127 → Size b (plus r q)
-    → Approx i x r → Approx j y q → Approx (b + 1 + (i + j)) (x ⊕ y) (plus r q)
-add-approx i j b x y r q R Q l L s h g =
-    rounds-approx (x ⊕ y) _ _ (i + j) b (dens-pos x y) (mul-pos R Q) l L s
-    (close-plus i j u⁻¹ _ r _ q (h .near) (g .near))
-    (add-rounds _ x y _ _ _ _ _ _ (den-pos x) (den-pos y) (own x (h .fin)) (own y (g .fin)))
+module _ (i j b : ℕ) (x y : Float) (r q : Frac) (R : Ok r) (Q : Ok q) (l : i + j ≤ u⁻¹)
+    (L : b + 1 < 2 ^ 127) where
+  pub add-approx : Size b (plus r q) → Approx i x r → Approx j y q
+      → Approx (b + 1 + (i + j)) (x ⊕ y) (plus r q)
+  add-approx s h g =
+      rounds-approx (x ⊕ y) _ _ (i + j) b (dens-pos x y) (mul-pos R Q) l L s
+      (close-plus i j u⁻¹ _ r _ q (h .near) (g .near))
+      (add-rounds _ x y _ _ _ _ _ _ (den-pos x) (den-pos y) (own x (h .fin)) (own y (g .fin)))
 
-pub sub-approx : (i j b : ℕ) (x y : Float) (r q : Frac) → Ok r → Ok q → i + j ≤ u⁻¹
-    → b + 1 < 2 ^ 127 → Size b (minus r q)
-    → Approx i x r → Approx j y q → Approx (b + 1 + (i + j)) (x ⊖ y) (minus r q)
-sub-approx i j b x y r q R Q l L s h g =
-    rounds-approx (x ⊖ y) _ _ (i + j) b (dens-pos x y) (mul-pos R Q) l L s
-    (close-minus i j u⁻¹ _ r _ q (h .near) (g .near))
-    (sub-rounds _ x y _ _ _ _ _ _ (den-pos x) (den-pos y) (own x (h .fin)) (own y (g .fin)))
+  pub sub-approx : Size b (minus r q) → Approx i x r → Approx j y q
+      → Approx (b + 1 + (i + j)) (x ⊖ y) (minus r q)
+  sub-approx s h g =
+      rounds-approx (x ⊖ y) _ _ (i + j) b (dens-pos x y) (mul-pos R Q) l L s
+      (close-minus i j u⁻¹ _ r _ q (h .near) (g .near))
+      (sub-rounds _ x y _ _ _ _ _ _ (den-pos x) (den-pos y) (own x (h .fin)) (own y (g .fin)))
 
 -- |r| ≤ a, |q| ≤ b, |r * q| ≤ e
 pub mul-approx : (i j a b e : ℕ) (x y : Float) (r q : Frac) → Ok r → Ok q → j ≤ u⁻¹

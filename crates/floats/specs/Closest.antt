@@ -29,9 +29,6 @@ pub size-above : (n j : ℕ) → 2 ^ j ≤ n → j < size n
 size-above n j h =
     lt-of-not-le (λ g. not-le-of-lt (size-lt n) (le-trans (pow-mono g) h))
 
-pub halves : (l i : ℕ) → i ≤ l → 2 ^ (l - i) * 2 ^ i ≡ 2 ^ l
-halves l i h = sym (pow-add 2 (l - i) i) ∙ ap (2 ^_) (back l i h)
-
 -- |a - b|
 abbrev pub gap : ℕ → ℕ → ℕ
 gap a b = (a - b) + (b - a)
@@ -173,7 +170,7 @@ module _ (p n c : ℕ) (P : 0 < p) (C : 0 < c) where
   step v j small = elim (decLe k j) [
     | yes h ↦
         let w = v * 2 ^ (j - k) in
-        let e : v * 2 ^ j ≡ w * 2 ^ k = rw (← halves j k h, mul-assoc) in
+        let e : v * 2 ^ j ≡ w * 2 ^ k = rw (mul-assoc, ← pow-add, back j k h) in
         let g : v * 2 ^ j * c ≡ w * u = ap (_* c) e ∙ in-steps w in
         (w, le-of-eq (ap (λ x. gap x n) (sym g)), λ _. e)
     | no h ↦

@@ -80,22 +80,22 @@ grid-of a p n c k C h e =
     (powers _ 24 k 149 (omega arith)) e
 
 -- ---- near a float is near any fraction that it equals
-near-is : (z : Float) (q m d p n c i k : ℕ) → 0 < d → Is z q m d → Near i k q m d p n c
-    → T (finite z) × Near i k (top z) (bot z) (den z) p n c
-near-is z q m d p n c i k D h g = (
-  h .0,
-  (
-    le-up i k _ _ _ q m d p n c D (is→le z q m d h) (g .0),
-    up-le i k p n c q m d _ _ _ D (g .1) (is→ge z q m d h),
-  ),
-)
+module _ (z : Float) (q m d p n c i k : ℕ) where
+  near-is : 0 < d → Is z q m d → Near i k q m d p n c
+      → T (finite z) × Near i k (top z) (bot z) (den z) p n c
+  near-is D h g = (
+    h .0,
+    (
+      le-up i k _ _ _ q m d p n c D (is→le z q m d h) (g .0),
+      up-le i k p n c q m d _ _ _ D (g .1) (is→ge z q m d h),
+    ),
+  )
 
-pub is-near : (z : Float) (q m d p n c i k : ℕ) → Is z q m d
-    → Near i k (top z) (bot z) (den z) p n c → Near i k q m d p n c
-is-near z q m d p n c i k h g = (
-  le-up i k q m d _ _ _ p n c (den-pos z) (is→ge z q m d h) (g .0),
-  up-le i k p n c _ _ _ q m d (den-pos z) (g .1) (is→le z q m d h),
-)
+  pub is-near : Is z q m d → Near i k (top z) (bot z) (den z) p n c → Near i k q m d p n c
+  is-near h g = (
+    le-up i k q m d _ _ _ p n c (den-pos z) (is→ge z q m d h) (g .0),
+    up-le i k p n c _ _ _ q m d (den-pos z) (g .1) (is→le z q m d h),
+  )
 
 pub part-less : (p n a b : ℕ) → p ≡ n + a → p < n + b → a < b
 part-less p n a b e h = omega arith

@@ -24,12 +24,12 @@ use lib.IntN.{ℤ, pos, negsuc}
 use lib.Dec.{T, ltb→lt, leb→le, lit<, lit≤}
 use lib.Pow.{pow-add, pow-pos, pow-mono, pow-lt, shl-lt}
 use lib.Ieee.{Float, nan, inf, fin, Format, binary32, prec, emax, low, up, down, round, fits}
+use lib.Ieee.Digits.{back}
 use lib.Ieee.Fits.{and-l, and-r}
 use lib.Ieee.Exact.{HasValue, round-exact}
 use lib.Ieee.Scale.{finite}
 use lib.Ieee.Positive.{num, den, den-pos}
 use Rattle.floats.specs.Value.{Is, is-of-pos, is-of-neg, Apart, size-is}
-use Rattle.floats.specs.Closest.{halves}
 use Rattle.floats.specs.Round.{Rounds, over, under}
 
 -- a / c is a value of the format: q * 2 ^ j of its smallest values
@@ -62,6 +62,9 @@ rep-same f a c b d C e r = record {
     go : (u w : ℕ) → a * u ≡ w * c → b * u ≡ w * d
     go u w s =
         eq-of-mul-eq-mul-right c C (b * u) (w * d) (omega (arith, ap (_* u) e, ap (_* d) s))
+
+halves : (l i : ℕ) → i ≤ l → 2 ^ (l - i) * 2 ^ i ≡ 2 ^ l
+halves l i h = rw (← pow-add, back l i h)
 
 -- binary32 holds a / 2 ^ i for an a below 2 ^ 24, and i up to 149
 pub rep-dyadic : (a i : ℕ) → i ≤ 149 → a < 2 ^ 24 → Rep binary32 a (2 ^ i)

@@ -145,19 +145,6 @@ add-own f (fin true m e) (fin false n d) p q =
 add-own f (fin true m e) (fin true n d) p q =
     under (m * up e * down d + n * up d * down e) (omega arith) refl
 
-pub add-rounds : (f : Format) (x y : Float) (p n c q m d : ℕ) → 0 < c → 0 < d → Is x p n c
-    → Is y q m d
-    → Rounds f (add f x y) (p * d + q * c) (n * d + m * c) (c * d)
-add-rounds f x y p n c q m d C D h k =
-    rounds-same f _ _ _ _ _ _ (c * d) (dens-pos x y) (mul-pos C D) (add-own f x y (h .0) (k .0))
-    (sum-same _ _ _ _ _ _ p n c q m d (h .1) (k .1))
-
-pub sub-rounds : (f : Format) (x y : Float) (p n c q m d : ℕ) → 0 < c → 0 < d → Is x p n c
-    → Is y q m d
-    → Rounds f (sub f x y) (p * d + m * c) (n * d + q * c) (c * d)
-sub-rounds f x y p n c q m d C D h k =
-    rw sub-is (add-rounds f x _ p n c m q d C D h (is-neg y q m d k))
-
 -- ---- the product
 mul-own : (f : Format) (x y : Float) → T (finite x) → T (finite y)
     → Rounds f (mul f x y) (top x * top y + bot x * bot y) (top x * bot y + bot x * top y)
@@ -172,12 +159,24 @@ mul-own f (fin false m e) (fin true n d) p q = under (m * up e * (n * up d)) (om
 mul-own f (fin true m e) (fin false n d) p q = under (m * up e * (n * up d)) (omega arith) refl
 mul-own f (fin true m e) (fin true n d) p q = over (m * up e * (n * up d)) (omega arith) refl
 
-pub mul-rounds : (f : Format) (x y : Float) (p n c q m d : ℕ) → 0 < c → 0 < d → Is x p n c
+-- ---- the operands as any fractions
+module _ (f : Format) (x y : Float) (p n c q m d : ℕ) (C : 0 < c) (D : 0 < d) (h : Is x p n c)
+    (k : Is y q m d) where
+  pub add-rounds : Rounds f (add f x y) (p * d + q * c) (n * d + m * c) (c * d)
+  add-rounds =
+      rounds-same f _ _ _ _ _ _ (c * d) (dens-pos x y) (mul-pos C D) (add-own f x y (h .0) (k .0))
+      (sum-same _ _ _ _ _ _ p n c q m d (h .1) (k .1))
+
+  pub mul-rounds : Rounds f (mul f x y) (p * q + n * m) (p * m + n * q) (c * d)
+  mul-rounds =
+      rounds-same f _ _ _ _ _ _ (c * d) (dens-pos x y) (mul-pos C D) (mul-own f x y (h .0) (k .0))
+      (product-same _ _ _ _ _ _ p n c q m d (h .1) (k .1))
+
+pub sub-rounds : (f : Format) (x y : Float) (p n c q m d : ℕ) → 0 < c → 0 < d → Is x p n c
     → Is y q m d
-    → Rounds f (mul f x y) (p * q + n * m) (p * m + n * q) (c * d)
-mul-rounds f x y p n c q m d C D h k =
-    rounds-same f _ _ _ _ _ _ (c * d) (dens-pos x y) (mul-pos C D) (mul-own f x y (h .0) (k .0))
-    (product-same _ _ _ _ _ _ p n c q m d (h .1) (k .1))
+    → Rounds f (sub f x y) (p * d + m * c) (n * d + q * c) (c * d)
+sub-rounds f x y p n c q m d C D h k =
+    rw sub-is (add-rounds f x _ p n c m q d C D h (is-neg y q m d k))
 
 -- ---- the quotient, by a divisor above zero and by one below
 scaled : (f : Format) (x : Float) (a c : ℕ) → T (finite x)
@@ -187,32 +186,27 @@ scaled f (inf s) a c p = absurd p
 scaled f (fin false m e) a c p = over (m * up e * a) (omega arith) refl
 scaled f (fin true m e) a c p = under (m * up e * a) (omega arith) refl
 
--- x over the size of y, which is q / d
-by-size : (f : Format) (x y : Float) (p n c q d : ℕ) → 0 < c → 0 < q → 0 < num y → Is x p n c
-    → num y * d ≡ q * den y
-    → Rounds f (round f (sign x) (num x * den y) (num y * den x)) (p * d) (n * d) (c * q)
-by-size f x y p n c q d C Q N h e =
-    let z = round f (sign x) (num x * den y) (num y * den x) in
-    rounds-same f z _ _ _ (p * d) (n * d) (c * q) (mul-pos N (den-pos x)) (mul-pos C Q)
-    (scaled f x (den y) (num y * den x) (h .0)) (quotient-same _ _ _ _ _ p n c q d (h .1) e)
+module _ (f : Format) (x y : Float) (p n c q d : ℕ) (C : 0 < c) (D : 0 < d) (Q : 0 < q)
+    (h : Is x p n c) where
+  -- x over the size of y, which is q / d
+  by-size : 0 < num y → num y * d ≡ q * den y
+      → Rounds f (round f (sign x) (num x * den y) (num y * den x)) (p * d) (n * d) (c * q)
+  by-size N e =
+      rounds-same f _ _ _ _ (p * d) (n * d) (c * q) (mul-pos N (den-pos x)) (mul-pos C Q)
+      (scaled f x (den y) (num y * den x) (h .0)) (quotient-same _ _ _ _ _ p n c q d (h .1) e)
 
--- (p - n) / c over q / d is (p - n) * d / (c * q)
-pub div-rounds : (f : Format) (x y : Float) (p n c q d : ℕ) → 0 < c → 0 < d → 0 < q → Is x p n c
-    → Is y q 0 d
-    → Rounds f (div f x y) (p * d) (n * d) (c * q)
-div-rounds f x y p n c q d C D Q h k =
-    let apart = inl (sym (zero-add q)) in
-    let N = nonzero-is y q 0 d q k apart Q in
-    rw (div-is f x y (h .0) N, sign-is y q 0 d k Q, unlike-plus)
-    (by-size f x y p n c q d C Q N h (size-is y q 0 d q k apart))
+  -- (p - n) / c over q / d is (p - n) * d / (c * q)
+  pub div-rounds : Is y q 0 d → Rounds f (div f x y) (p * d) (n * d) (c * q)
+  div-rounds k =
+      let apart = inl (sym (zero-add q)) in
+      let N = nonzero-is y q 0 d q k apart Q in
+      rw (div-is f x y (h .0) N, sign-is y q 0 d k Q, unlike-plus)
+      (by-size N (size-is y q 0 d q k apart))
 
--- and over -q / d it is (n - p) * d / (c * q)
-pub div-rounds-below : (f : Format) (x y : Float) (p n c q d : ℕ) → 0 < c → 0 < d → 0 < q
-    → Is x p n c → Is y 0 q d
-    → Rounds f (div f x y) (n * d) (p * d) (c * q)
-div-rounds-below f x y p n c q d C D Q h k =
-    let apart = inr (sym (zero-add q)) in
-    let N = nonzero-is y 0 q d q k apart Q in
-    rw (div-is f x y (h .0) N, sign-is-below y 0 q d k Q, unlike-minus, ← round-opposite)
-    (rounds-neg f _ (p * d) (n * d) (c * q)
-    (by-size f x y p n c q d C Q N h (size-is y 0 q d q k apart)))
+  -- and over -q / d it is (n - p) * d / (c * q)
+  pub div-rounds-below : Is y 0 q d → Rounds f (div f x y) (n * d) (p * d) (c * q)
+  div-rounds-below k =
+      let apart = inr (sym (zero-add q)) in
+      let N = nonzero-is y 0 q d q k apart Q in
+      rw (div-is f x y (h .0) N, sign-is-below y 0 q d k Q, unlike-minus, ← round-opposite)
+      (rounds-neg f _ (p * d) (n * d) (c * q) (by-size N (size-is y 0 q d q k apart)))

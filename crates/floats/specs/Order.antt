@@ -79,13 +79,12 @@ le-trans (fin s m e) y (fin u o c) h k =
     le-of x z tt tt (le-through _ _ _ _ _ _ _ _ _ (den-pos y) (of-le x y tt f h) (of-le y z f tt k))
 
 -- ---- floats of one value are in the same order
-pub above-equal : (x y z : Float) (p n c : ℕ) → 0 < c → Is x p n c → Is y p n c → T (le y z)
-    → T (le x z)
-above-equal x y z p n c C i j l = le-trans x y z (le-of-is x y p n c p n c C C i j (le-refl _)) l
+module _ (x y z : Float) (p n c : ℕ) (C : 0 < c) (i : Is x p n c) (j : Is y p n c) where
+  pub above-equal : T (le y z) → T (le x z)
+  above-equal = le-trans x y z (le-of-is x y p n c p n c C C i j (le-refl _))
 
-pub below-equal : (x y z : Float) (p n c : ℕ) → 0 < c → Is x p n c → Is y p n c → T (le z y)
-    → T (le z x)
-below-equal x y z p n c C i j l = le-trans z y x l (le-of-is y x p n c p n c C C j i (le-refl _))
+  pub below-equal : T (le z y) → T (le z x)
+  below-equal l = le-trans z y x l (le-of-is y x p n c p n c C C j i (le-refl _))
 
 -- ---- the strict order
 pub le-of-lt : (x y : Float) → T (lt x y) → T (le x y)

@@ -13,11 +13,11 @@ use lib.Arith.{lt-of-le-ne}
 use lib.Pow.{pow-add, pow-pos, pow-lt, shl-lt}
 use lib.Ieee.{Float, nan, inf, fin, Format, binary32, binary64, prec, low, hid, size}
 use lib.Ieee.{neg, toBits}
-use lib.Ieee.Digits.{size-le, size-reaches}
+use lib.Ieee.Digits.{back, size-le, size-reaches}
 use lib.Ieee.Fits.{two, down-pos}
 use lib.Ieee.Exact.{HasValue}
 use lib.Ieee.Scale.{finite}
-use Rattle.floats.specs.Closest.{size-above, halves}
+use Rattle.floats.specs.Closest.{size-above}
 
 -- the significand's last digit is the last bit of the pattern
 abbrev pub Even : Format → Float → Type 0
@@ -59,7 +59,7 @@ module _ (p q k n : ℕ) (P : 2 ≤ p) (most : q ≤ 2 ^ p) (is : n ≡ q * 2 ^ 
 
   -- with fewer than k digits dropped they end in q's digits and zeros
   fewer : dropped ≤ k → n / 2 ^ dropped ≡ q * 2 ^ (k - dropped)
-  fewer h = quotient _ (is ∙ rw (← halves k dropped h, mul-assoc))
+  fewer h = quotient _ (is ∙ rw (mul-assoc, ← pow-add, back k dropped h))
 
   -- with more, q is 2 ^ p
   carried : k < dropped → n / 2 ^ dropped ≡ 2 ^ (p - 1)

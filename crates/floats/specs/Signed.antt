@@ -78,29 +78,29 @@ pub up-more : (i j k p n c q m d : ℕ) → i ≤ j → Up i k p n c q m d → U
 up-more i j k p n c q m d l h = le-trans h (omega (arith, mul-le-mul-right (c * d) l))
 
 -- ---- sums, products and quotients: only the values of their operands count
-pub sum-same : (a b c e f g p n d q m h : ℕ) → Equal a b c p n d → Equal e f g q m h
-    → Equal (a * g + e * c) (b * g + f * c) (c * g) (p * h + q * d) (n * h + m * d) (d * h)
-sum-same a b c e f g p n d q m h x y =
-    let first = simp poly at (ap (λ z. z * (g * h)) x) in
-    let second = simp poly at (ap (λ z. z * (c * d)) y) in
-    simp poly (omega arith)
+module _ (a b c e f g p n d q m h : ℕ) (x : Equal a b c p n d) (y : Equal e f g q m h) where
+  pub sum-same : Equal (a * g + e * c) (b * g + f * c) (c * g) (p * h + q * d) (n * h + m * d) (d * h)
+  sum-same =
+      let first = simp poly at (ap (_* (g * h)) x) in
+      let second = simp poly at (ap (_* (c * d)) y) in
+      simp poly (omega arith)
 
-pub product-same : (a b c e f g p n d q m h : ℕ) → Equal a b c p n d → Equal e f g q m h
-    → Equal (a * e + b * f) (a * f + b * e) (c * g) (p * q + n * m) (p * m + n * q) (d * h)
-product-same a b c e f g p n d q m h x y =
-    let x₁ = simp poly at (ap (λ z. z * (e * h)) x) in
-    let x₂ = simp poly at (ap (λ z. z * (f * h)) x) in
-    let y₁ = simp poly at (ap (λ z. z * (p * c)) y) in
-    let y₂ = simp poly at (ap (λ z. z * (n * c)) y) in
-    simp poly (omega arith)
+  pub product-same : Equal (a * e + b * f) (a * f + b * e) (c * g) (p * q + n * m) (p * m + n * q)
+      (d * h)
+  product-same =
+      let x₁ = simp poly at (ap (_* (e * h)) x) in
+      let x₂ = simp poly at (ap (_* (f * h)) x) in
+      let y₁ = simp poly at (ap (_* (p * c)) y) in
+      let y₂ = simp poly at (ap (_* (n * c)) y) in
+      simp poly (omega arith)
 
 -- by e / g = q / h
 pub quotient-same : (a b c e g p n d q h : ℕ) → Equal a b c p n d → e * h ≡ q * g
     → Equal (a * g) (b * g) (e * c) (p * h) (n * h) (d * q)
 quotient-same a b c e g p n d q h x y =
-    let first = simp poly at (ap (λ z. z * (q * g)) x) in
-    let y₁ = simp poly at (ap (λ z. z * (n * c)) y) in
-    let y₂ = simp poly at (ap (λ z. z * (p * c)) y) in
+    let first = simp poly at (ap (_* (q * g)) x) in
+    let y₁ = simp poly at (ap (_* (n * c)) y) in
+    let y₂ = simp poly at (ap (_* (p * c)) y) in
     simp poly (omega arith)
 
 -- a sum grows with each term
