@@ -2,11 +2,11 @@
 -- a half away, no whole number is nearer, and it is even where another is as near. Then the same of
 -- the numbers q * 2 ^ k with a q of p digits, which is how a format's values lie: the library's
 -- `kept` * 2 ^ `drop` is nearest to n / c. Nothing here is about floats.
-use mathlib.Core.Path.{_≡_, refl, sym, ap, _∙_, subst}
+use mathlib.Core.Path.{_≡_, refl, sym, ap, _∙_}
 use Prim.Native.Nat.{ℕ, zero, suc, _+_, _-_, _*_, _/_, _%_, _^_, _≤_, _<_, compare, Ordering}
 use Prim.Native.Nat.{Ordering·lt}
 use Prim.Native.Nat.{Ordering·eq, Ordering·gt}
-use native.Mathlib.Nat.{le-of-lt, ne-of-lt, lt-of-mul-lt-mul-right, le-trans, le-of-eq, le-antisymm}
+use native.Mathlib.Nat.{le-refl, le-of-lt, ne-of-lt, lt-of-mul-lt-mul-right, le-trans, le-antisymm}
 use native.Mathlib.Nat.{le-of-suc-le-suc, lt-of-lt-of-le}
 use native.Mathlib.Nat.{lt-of-not-le, not-le-of-lt, mul-le-mul-right}
 use native.Mathlib.Nat.{mul-lt-mul-of-pos-right}
@@ -15,19 +15,18 @@ use native.Mathlib.Nat.{div-lt-iff-lt-mul, mod-lt, le-div-iff-mul-le}
 use native.Mathlib.Decide.{decLe, ℕ-discrete}
 use native.Mathlib.Omega.{arith}
 use mathlib.Core.Bool.{not}
-use lib.Dec.{T, isLe, isEq, eqb, leb→le, nleb→lt, eqb→eq, eqb-refl}
+use lib.Dec.{T, isLe, isEq, leb→le, nleb→lt, eqb→eq}
 use lib.Arith.{lt-of-le-ne}
 use lib.Pow.{pow-add, pow-pos, pow-mono, shl-lt}
 use lib.Ieee.{size, nearest}
 use lib.Ieee.Digits.{size-lt, size-reaches, back}
-use lib.Ieee.Fits.{nearest-le, kept-lt}
+use lib.Ieee.Fits.{eq→eqb, nearest-le, kept-lt}
 use lib.Ieee.Nearest.{closest}
 use lib.Ieee.Order.{drop, kept}
 
 -- how many digits a number has
 pub size-above : (n j : ℕ) → 2 ^ j ≤ n → j < size n
-size-above n j h =
-    lt-of-not-le (λ g. not-le-of-lt (size-lt n) (le-trans (pow-mono g) h))
+size-above n j h = lt-of-not-le (λ g. not-le-of-lt (size-lt n) (le-trans (pow-mono g) h))
 
 -- |a - b|
 abbrev pub gap : ℕ → ℕ → ℕ
@@ -41,8 +40,7 @@ Compared Ordering·gt a b = b < a
 
 compared : (a b : ℕ) → Compared (compare a b) a b
 compared a b =
-    go (compare a b) (leb→le a b) (nleb→lt a b) (eqb→eq a b)
-    (λ e. subst (λ x. T (eqb a x)) e (eqb-refl a))
+    go (compare a b) (leb→le a b) (nleb→lt a b) (eqb→eq a b) eq→eqb
   where
     go : (o : Ordering) → (T (isLe o) → a ≤ b) → (T (not (isLe o)) → b < a) → (T (isEq o) → a ≡ b)
         → (a ≡ b → T (isEq o)) → Compared o a b
@@ -82,7 +80,7 @@ others q w a b d = elim (decLe w q) [
 
 pub closest-nearest : (a b w : ℕ) → 0 < b → gap (closest a b * b) a ≤ gap (w * b) a
 closest-nearest a b w B = elim (ℕ-discrete w (closest a b)) [
-  | yes e ↦ le-of-eq (ap (λ x. gap (x * b) a) (sym e))
+  | yes e ↦ rw e (le-refl _)
   | no d ↦ omega (arith, closest-half a b B, others (closest a b) w a b d)
 ]
 
@@ -155,9 +153,8 @@ module _ (p n c : ℕ) (P : 0 < p) (C : 0 < c) where
   leading : 0 < k → 2 ^ (p - 1) * u ≤ n
   leading K =
       let w = n / c in
-      let a : 2 ^ (p - 1) * 2 ^ k ≤ w =
-      le-trans (le-of-eq (sym (pow-add 2 (p - 1) k))) (size-reaches w _ (omega arith)) in
-      le-trans (le-of-eq (sym (in-steps _))) (le-div-iff-mul-le C .0 a)
+      let a : 2 ^ (p - 1) * 2 ^ k ≤ w = rw (← pow-add) (size-reaches w _ (omega arith)) in
+      rw (← in-steps (2 ^ (p - 1))) (le-div-iff-mul-le C .0 a)
 
   -- For each such number there is a multiple of 2 ^ k that is no further from n / c, and as far
   -- only where it is the number itself: what is finer than 2 ^ k lies below 2 ^ (p - 1) * 2 ^ k.
@@ -172,16 +169,13 @@ module _ (p n c : ℕ) (P : 0 < p) (C : 0 < c) where
         let w = v * 2 ^ (j - k) in
         let e : v * 2 ^ j ≡ w * 2 ^ k = rw (mul-assoc, ← pow-add, back j k h) in
         let g : v * 2 ^ j * c ≡ w * u = ap (_* c) e ∙ in-steps w in
-        (w, le-of-eq (ap (λ x. gap x n) (sym g)), λ _. e)
+        (w, rw g (le-refl _), λ _. e)
     | no h ↦
         let f : j < k = lt-of-not-le h in
         let b = 2 ^ (p - 1) in
-        let l : v * 2 ^ j < b * 2 ^ k =
-        lt-of-lt-of-le (shl-lt p j small)
-        (le-trans (pow-mono {i = p + j} {j = p - 1 + k} (omega arith))
-        (le-of-eq (pow-add 2 (p - 1) k))) in
-        let m : v * 2 ^ j * c < b * u =
-        lt-of-lt-of-le (mul-lt-mul-of-pos-right l C) (le-of-eq (in-steps b)) in
+        let l : v * 2 ^ j < 2 ^ (p - 1) * 2 ^ k =
+        rw (← pow-add) (lt-of-lt-of-le (shl-lt p j small) (pow-mono (omega arith))) in
+        let m : v * 2 ^ j * c < b * u = rw (← in-steps b) (mul-lt-mul-of-pos-right l C) in
         let t : b * u ≤ n = leading (omega arith) in
         let l = nearer (b * u) _ t m in
         (b, le-of-lt l, λ s. absurd (ne-of-lt l s))

@@ -34,8 +34,7 @@ module _ (a b c d y z w m n : Float) (ib : Is b 0 0 1) (id : Is d 0 0 1) (fw : T
         let first : Is (a ⊗ y) p q e = rw (one-times _ a y ia (iy .0) ty) iy in
         let fits-first : T (fits binary32 (a ⊗ y)) = rw (one-times _ a y ia (iy .0) ty) ty in
         let two = add-zero _ (a ⊗ y) _ p q e E fits-first first second in
-        let three =
-        add-zero _ _ (c ⊗ z) p q e E (add-fits _ _ _) two (none c z ic fz) in
+        let three = add-zero _ _ (c ⊗ z) p q e E (add-fits _ _ _) two (none c z ic fz) in
         add-zero _ _ _ p q e E (add-fits _ _ _) three fourth
 
     -- at the right end the third is
@@ -44,7 +43,6 @@ module _ (a b c d y z w m n : Float) (ib : Is b 0 0 1) (id : Is d 0 0 1) (fw : T
     right-stays ia ic fy tz iz =
         let third : Is (c ⊗ z) p q e = rw (one-times _ c z ic (iz .0) tz) iz in
         let fits-third : T (fits binary32 (c ⊗ z)) = rw (one-times _ c z ic (iz .0) tz) tz in
-        let two =
-        add-zero _ (a ⊗ y) _ 0 0 1 (lit< tt) (mul-fits _ a y) (none a y ia fy) second in
+        let two = add-zero _ (a ⊗ y) _ 0 0 1 (lit< tt) (mul-fits _ a y) (none a y ia fy) second in
         let three = zero-add _ _ (c ⊗ z) p q e E fits-third two third in
         add-zero _ _ _ p q e E (add-fits _ _ _) three fourth

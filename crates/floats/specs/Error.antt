@@ -2,7 +2,7 @@
 -- exact value below 2 ^ k.
 use mathlib.Core.Path.{_≡_, sym, ap, _∙_}
 use Prim.Native.Nat.{ℕ, _+_, _*_, _^_, _≤_, _<_}
-use native.Mathlib.Nat.{le-trans, le-of-eq, lt-of-lt-of-le, lt-of-le-of-lt, mul-le-mul}
+use native.Mathlib.Nat.{le-of-eq, lt-of-lt-of-le, lt-of-le-of-lt, mul-le-mul}
 use native.Mathlib.Nat.{mul-le-mul-left}
 use native.Mathlib.Nat.{mul-right-comm, mul-lt-mul-of-pos-right, mul-pos, div-lt-iff-lt-mul}
 use native.Mathlib.Omega.{arith}
@@ -28,8 +28,7 @@ module _ (f : Format) (a c j : ℕ) (C : 0 < c) (h : a * 2 ^ low f < 2 ^ (prec f
   drop-le = omega (arith, size-le _ _ (div-lt-iff-lt-mul C .1 h))
 
   grid-le : grid f a c ≤ 2 ^ (prec f + j)
-  grid-le =
-      le-trans (mul-le-mul (kept-le _ _ c) (pow-mono drop-le)) (le-of-eq (sym (pow-add 2 _ j)))
+  grid-le = rw (pow-add 2 (prec f) j) (mul-le-mul (kept-le _ _ c) (pow-mono drop-le))
 
   pub grid-near : (grid f a c * c * 2 ≤ a * 2 ^ low f * 2 + c * 2 ^ j)
       × (a * 2 ^ low f * 2 ≤ grid f a c * c * 2 + c * 2 ^ j)
@@ -49,7 +48,7 @@ round-at f s a c h = rw round-is (units-val f s _ _ h)
 
 -- ---- single precision
 powers : (i j k l : ℕ) → i + j ≡ k + l → 2 ^ i * 2 ^ j ≡ 2 ^ k * 2 ^ l
-powers i j k l e = sym (pow-add 2 i j) ∙ ap (2 ^_) e ∙ pow-add 2 k l
+powers i j k l e = rw (← pow-add 2 i j, ← pow-add 2 k l, e)
 
 below-units : (a c k : ℕ) → a < 2 ^ k * c → a * 2 ^ 149 < 2 ^ (24 + (k + 125)) * c
 below-units a c k h =

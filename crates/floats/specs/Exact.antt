@@ -1,6 +1,6 @@
 -- The values of a format, and that rounding leaves them as they are: an operation whose exact
 -- result is a value of the format is exact.
-use mathlib.Core.Path.{_≡_, sym, ap, _∙_}
+use mathlib.Core.Path.{_≡_, ap}
 use mathlib.Core.Logic.{inl, inr}
 use Prim.Native.Nat.{ℕ, zero, suc, _+_, _-_, _*_, _^_, _≤_, _<_}
 use native.Mathlib.Nat.{
@@ -60,8 +60,7 @@ rep-same f a c b d C e r = record {
 }
   where
     go : (u w : ℕ) → a * u ≡ w * c → b * u ≡ w * d
-    go u w s =
-        eq-of-mul-eq-mul-right c C (b * u) (w * d) (omega (arith, ap (_* u) e, ap (_* d) s))
+    go u w s = eq-of-mul-eq-mul-right c C (b * u) (w * d) (omega (arith, ap (_* u) e, ap (_* d) s))
 
 halves : (l i : ℕ) → i ≤ l → 2 ^ (l - i) * 2 ^ i ≡ 2 ^ l
 halves l i h = rw (← pow-add, back l i h)
@@ -73,7 +72,7 @@ rep-dyadic a i h s = record {
   j = 149 - i;
   small = s;
   fine = lt-of-lt-of-le (shl-lt 24 _ s) (pow-mono {j = 277} (omega arith));
-  same = ap (a *_) (sym (halves 149 i h)) ∙ sym (mul-assoc a _ (2 ^ i));
+  same = rw (mul-assoc, halves 149 i h);
 }
 
 -- a whole number below 2 ^ 24

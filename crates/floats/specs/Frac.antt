@@ -1,7 +1,6 @@
 -- Signed fractions as records: their sums and products, how far apart two of them are, how
 -- large one is. Sums and products of fractions that are near each other are near each other.
 -- Nothing here is about floats.
-use mathlib.Core.Path.{subst}
 use mathlib.Core.Logic.{_⊎_, inl, inr}
 use Prim.Native.Nat.{ℕ, _+_, _-_, _*_, _≤_, _<_}
 use native.Mathlib.Nat.{le-trans, le-of-lt, lt-of-not-le, add-comm, mul-comm, add-sub-of-le}
@@ -65,8 +64,8 @@ pub by-sign : (P : ℕ → ℕ → Type 0) → ((n a : ℕ) → P (n + a) n) →
     → (p n : ℕ) → P p n
 by-sign P above below p n =
     elim (total n p) [
-      | inl h ↦ subst (λ z. P z n) (add-sub-of-le h) (above n (p - n))
-      | inr h ↦ subst (λ z. P p z) (add-sub-of-le h) (below p (n - p))
+      | inl h ↦ rw (add-sub-of-le h) at (above n (p - n))
+      | inr h ↦ rw (add-sub-of-le h) at (below p (n - p))
     ]
 
 -- ---- chains
@@ -141,8 +140,7 @@ close-times-by i j k r x y s h = (
 
 -- |r| ≤ b gives i * |r| ≤ i * b
 pub size→sized : (i b : ℕ) (r : Frac) → Size b r → Sized i (i * b) r
-size→sized i b r h =
-    omega (arith, mul-le-mul-left i (h .0), mul-le-mul-left i (h .1))
+size→sized i b r h = omega (arith, mul-le-mul-left i (h .0), mul-le-mul-left i (h .1))
 
 pub close-times-right : (i k b : ℕ) (r x y : Frac) → Size b r → Close i k x y
     → Close (b * i) k (times x r) (times y r)

@@ -51,8 +51,7 @@ dyadic-of (fin false m (pos k)) p c t C h l =
       fine = lit≤ tt;
       is = (tt, refl);
     }
-dyadic-of (fin false zero (negsuc k)) p c t C h l =
-    zero-of _ (tt, omega arith)
+dyadic-of (fin false zero (negsuc k)) p c t C h l = zero-of _ (tt, omega arith)
 dyadic-of (fin false (suc m) (negsuc k)) p c t C h l =
     let parts = fits-parts binary32 false m (negsuc k) t in
     record {

@@ -73,8 +73,6 @@ pub rounds-between : (f : Format) (lo z hi : Float) (p n c : ℕ) → 0 < c → 
     → Rounds f z p n c → Le (top lo) (bot lo) (den lo) p n c → Le p n c (top hi) (bot hi) (den hi)
     → T (finite z) × T (le lo z) × T (le z hi)
 rounds-between f lo z hi p n c C tl th fl fh r a b =
-    let above =
-    rounds-mono f lo z _ _ _ p n c (den-pos lo) C (rounds-own f lo fl tl) r a in
-    let below =
-    rounds-mono f z hi p n c _ _ _ C (den-pos hi) r (rounds-own f hi fh th) b in
+    let above = rounds-mono f lo z _ _ _ p n c (den-pos lo) C (rounds-own f lo fl tl) r a in
+    let below = rounds-mono f z hi p n c _ _ _ C (den-pos hi) r (rounds-own f hi fh th) b in
     (finite-between lo z hi fl fh above below, above, below)

@@ -75,8 +75,7 @@ module _ (f : Format) (z : Float) (a c p n : ℕ) (C : 0 < c) (e : p ≡ n + a)
     above = distance-above v L a c p n e y is
 
     further-above : far ≤ gap (v * c) (a * L) → NoFurther z y p n c
-    further-above h =
-        no-further z y p n c far _ L mine above (pow-pos _) h
+    further-above h = no-further z y p n c far _ L mine above (pow-pos _) h
 
     far-above : AsFar z y p n c → far ≡ gap (v * c) (a * L)
     far-above h = same-parts z y p n c far _ L mine above h
@@ -152,7 +151,8 @@ module _ (f : Format) (z : Float) (a c p n : ℕ) (C : 0 < c) (e : p ≡ n + a)
             grid-neighbour _ (a * L) c P C _ _ (o .small) g
             (far-above y v (refl, o .same) t) in
             let other : z ≡ y → ⊥ =
-            λ i. g (eq-of-mul-eq-mul-right _ (down-pos w) v _ (sym (o .same) ∙ (rw i at value) .1)) in
+            λ i. g (eq-of-mul-eq-mul-right _ (down-pos w) v _
+            (sym (o .same) ∙ (rw i at value) .1)) in
             absurd (units-odd f false (h .0) k (h .3) y (refl, o .same ∙ ap (_* down w) (h .1))
             (h .4) (h .2) (r .even z F fitting other (sym t)))
       ]

@@ -62,8 +62,7 @@ rounds-finite z p n c C (under a e i) h g = rw i (in-range true a c C (part-less
 pub rounds-nearest-below : (z : Float) (p n c : ℕ) → 0 < c → Rounds binary32 z p n c
     → p < n + bound * c → n < p + bound * c
     → NearestFloat binary32 z p n c
-rounds-nearest-below z p n c C r h g =
-    rounds-nearest _ z p n c C r (rounds-finite z p n c C r h g)
+rounds-nearest-below z p n c C r h g = rounds-nearest _ z p n c C r (rounds-finite z p n c C r h g)
 
 -- ---- from it on an infinity
 infinite : (a c : ℕ) → 0 < c → bound * c ≤ a → round binary32 false a c ≡ inf false

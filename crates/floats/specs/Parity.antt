@@ -3,7 +3,7 @@
 use mathlib.Core.Path.{_≡_, sym, ap, _∙_}
 use mathlib.Core.Logic.{_↔_}
 use Prim.Native.Nat.{ℕ, suc, _+_, _-_, _*_, _/_, _%_, _^_, _≤_, _<_}
-use native.Mathlib.Nat.{le-trans, le-of-eq, le-antisymm, lt-of-not-le, le-of-mul-le-mul-right}
+use native.Mathlib.Nat.{le-antisymm, lt-of-not-le, le-of-mul-le-mul-right}
 use native.Mathlib.Nat.{mul-assoc, mul-le-mul-right, mul-mod-left, mul-div-cancel, pow-suc}
 use native.Mathlib.Decide.{decLe}
 use native.Mathlib.Omega.{arith}
@@ -64,11 +64,9 @@ module _ (p q k n : ℕ) (P : 2 ≤ p) (most : q ≤ 2 ^ p) (is : n ≡ q * 2 ^ 
   -- with more, q is 2 ^ p
   carried : k < dropped → n / 2 ^ dropped ≡ 2 ^ (p - 1)
   carried l =
-      let large : 2 ^ p * 2 ^ k ≤ n =
-      le-trans (le-of-eq (sym (pow-add 2 p k))) (size-reaches n (p + k) (omega arith)) in
-      let least : 2 ^ p ≤ q = le-of-mul-le-mul-right (le-trans large (le-of-eq is)) (pow-pos k) in
-      let all : n ≡ 2 ^ (p + k) =
-      is ∙ ap (_* 2 ^ k) (le-antisymm most least) ∙ sym (pow-add 2 p k) in
+      let large : 2 ^ p * 2 ^ k ≤ n = rw (← pow-add) (size-reaches n (p + k) (omega arith)) in
+      let least : 2 ^ p ≤ q = le-of-mul-le-mul-right (rw is at large) (pow-pos k) in
+      let all : n ≡ 2 ^ (p + k) = rw (is, pow-add 2 p k, le-antisymm most least) in
       let s : size n ≤ suc (p + k) =
       size-le n (suc (p + k)) (rw all (pow-lt {i = p + k} (omega arith))) in
       let j : p + k ≡ p - 1 + dropped = omega arith in
@@ -94,10 +92,7 @@ module _ (p q k n : ℕ) (P : 2 ≤ p) (most : q ≤ 2 ^ p) (is : n ≡ q * 2 ^ 
       few = size-le n (p + k) (rw is (shl-lt p k (lt-of-le-ne most clash)))
 
       many : 0 < k → p - 1 + k < size n
-      many K =
-          let l : 2 ^ (p - 1) * 2 ^ k ≤ n =
-          le-trans (mul-le-mul-right (2 ^ k) (least K)) (le-of-eq (sym is)) in
-          size-above n _ (le-trans (le-of-eq (pow-add 2 (p - 1) k)) l)
+      many K = size-above n _ (rw (pow-add 2 (p - 1) k, is) (mul-le-mul-right (2 ^ k) (least K)))
 
       same : dropped ≡ k
       same =

@@ -37,8 +37,7 @@ part-start {x0} {x1} {v} {h} at =
     (is-same (v ⊖ x0) 0 0 (at .c) 0 0 1 (at .unit) (at .far) (omega arith)) (at .width)
 
 pub part-end : {x0 x1 v : Float} {h : ℕ} → Position x0 x1 v h h → Is (part x0 x1 v) 1 0 1
-part-end {x0} {x1} {v} {h} at =
-    div-self _ _ h (at .c) (at .some) (at .unit) (at .far) (at .width)
+part-end {x0} {x1} {v} {h} at = div-self _ _ h (at .c) (at .some) (at .unit) (at .far) (at .width)
 
 abbrev zero : Float
 zero = fin false 0 (pos 0)
@@ -55,8 +54,7 @@ module _ {x0 x1 v : Float} {k h : ℕ} (at : Position x0 x1 v k h) where
       (omega arith)
 
   pub part-near : Approx 1 (part x0 x1 v) (frac k 0 h)
-  part-near =
-      rounds-by _ _ 1 (lit< tt) (lit< tt) (at .some) (omega arith) rounded
+  part-near = rounds-by _ _ 1 (lit< tt) (lit< tt) (at .some) (omega arith) rounded
 
   between : T (finite (part x0 x1 v)) × T (le zero (part x0 x1 v)) × T (le (part x0 x1 v) one)
   between =

@@ -80,8 +80,7 @@ units-unsigned f q k = go (ltb (q * 2 ^ k) (2 ^ (low f + suc (emax f))))
     go false = tt
 
 pub round-unsigned : (f : Format) (a c : ℕ) → T (unsigned (round f false a c))
-round-unsigned f a c =
-    rw round-is (units-unsigned f _ _)
+round-unsigned f a c = rw round-is (units-unsigned f _ _)
 
 -- ---- zero
 zero-is : (f : Format) (s : Bool) (c : ℕ) → 0 < c → HasValue (round f s 0 c) s 0 c

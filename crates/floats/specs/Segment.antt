@@ -91,8 +91,7 @@ module _ {x0 y0 x1 y1 : Float} {a0 n0 a1 n1 : ℕ} (s : Segment x0 y0 x1 y1 a0 n
       let low = is-of-le x0 v a0 0 1 _ _ c (s .x0-is) (own v f) l in
       let i : Is v (top v) 0 c = not-below v f (omega arith) in
       let high = is-of-le v x1 _ 0 c a1 0 1 i (s .x1-is) u in
-      let split : (a0 + (a1 - a0)) * c ≡ a1 * c =
-      ap (_* c) (add-sub-of-le (omega arith)) in
+      let split : (a0 + (a1 - a0)) * c ≡ a1 * c = ap (_* c) (add-sub-of-le (omega arith)) in
       record {
         fin = f;
         c = c;

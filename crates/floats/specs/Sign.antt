@@ -31,8 +31,7 @@ neg-sign (fin s m e) u = ap not (is-false s u)
 
 pub round-sign : (f : Format) (s : Bool) (a c : ℕ) → sign (round f s a c) ≡ s
 round-sign f false a c = unsigned-sign (round f false a c) (round-unsigned f a c)
-round-sign f true a c =
-    ap sign (sym (round-neg f a c)) ∙ neg-sign _ (round-unsigned f a c)
+round-sign f true a c = ap sign (sym (round-neg f a c)) ∙ neg-sign _ (round-unsigned f a c)
 
 pub rounds-sign-above : (f : Format) (z : Float) (p n c : ℕ) → Rounds f z p n c → n < p
     → sign z ≡ false
@@ -84,8 +83,7 @@ finite-sign-neg (fin s m e) p = refl
 pub difference-zero : (f : Format) (x y : Float) (p n c : ℕ) → 0 < c → Is x p n c → Is y p n c
     → sub f x y ≡ nought (sign x && not (sign y))
 difference-zero f x y p n c C h k =
-    sub-is f x y ∙ sum-zero f x _ p n c C h (is-neg y p n c k)
-    ∙ ap (λ s. nought (sign x && s)) (finite-sign-neg y (k .0))
+    rw (sub-is, ← finite-sign-neg y (k .0)) (sum-zero f x _ p n c C h (is-neg y p n c k))
 
 -- ---- the sign of a product and of a quotient, unless they are NaN
 or-nan : (b : Bool) (s : Bool) → T (not (isNan (cond b nan (inf s))))
@@ -103,8 +101,7 @@ mul-sign f (inf s) (inf t) h = refl
 mul-sign f (inf s) (fin t n d) h = or-nan (eqb n 0) _ h
 mul-sign f (fin s m e) nan h = absurd h
 mul-sign f (fin s m e) (inf t) h = or-nan (eqb m 0) _ h
-mul-sign f (fin s m e) (fin t n d) h =
-    round-sign f _ _ _
+mul-sign f (fin s m e) (fin t n d) h = round-sign f _ _ _
 
 pub div-sign : (f : Format) (x y : Float) → T (not (isNan (div f x y)))
     → sign (div f x y) ≡ unlike (sign x) (sign y)
@@ -147,5 +144,4 @@ sub-unsigned f (fin false m e) (fin false n d) p q u w h =
     rw (le-ltb a b (omega (arith, of-le _ _ tt tt h))) (round-unsigned f (a - b) _)
 
 pub square-unsigned : (f : Format) (x : Float) → T (finite x) → T (unsigned (mul f x x))
-square-unsigned f x p =
-    rw (mul-is f x x p p, unlike-self _) (round-unsigned f _ _)
+square-unsigned f x p = rw (mul-is f x x p p, unlike-self _) (round-unsigned f _ _)

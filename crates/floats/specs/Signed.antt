@@ -79,7 +79,8 @@ up-more i j k p n c q m d l h = le-trans h (omega (arith, mul-le-mul-right (c * 
 
 -- ---- sums, products and quotients: only the values of their operands count
 module _ (a b c e f g p n d q m h : ℕ) (x : Equal a b c p n d) (y : Equal e f g q m h) where
-  pub sum-same : Equal (a * g + e * c) (b * g + f * c) (c * g) (p * h + q * d) (n * h + m * d) (d * h)
+  pub sum-same : Equal (a * g + e * c) (b * g + f * c) (c * g) (p * h + q * d) (n * h + m * d)
+      (d * h)
   sum-same =
       let first = simp poly at (ap (_* (g * h)) x) in
       let second = simp poly at (ap (_* (c * d)) y) in

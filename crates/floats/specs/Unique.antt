@@ -73,17 +73,14 @@ round-own f (fin s m e) p t =
 
 pub rounds-to : (f : Format) (x : Float) (a c : ℕ) → T (finite x) → T (fits f x) → 0 < c
     → a * den x ≡ num x * c → round f (sign x) a c ≡ x
-rounds-to f x a c p t C h =
-    round-same f _ a c _ _ C (den-pos x) h ∙ round-own f x p t
+rounds-to f x a c p t C h = round-same f _ a c _ _ C (den-pos x) h ∙ round-own f x p t
 
 pub rounds-own : (f : Format) (x : Float) → T (finite x) → T (fits f x)
     → Rounds f x (top x) (bot x) (den x)
 rounds-own f nan p t = absurd p
 rounds-own f (inf s) p t = absurd p
-rounds-own f (fin false m e) p t =
-    over (m * up e) (omega arith) (sym (round-own f _ p t))
-rounds-own f (fin true m e) p t =
-    under (m * up e) (omega arith) (sym (round-own f _ p t))
+rounds-own f (fin false m e) p t = over (m * up e) (omega arith) (sym (round-own f _ p t))
+rounds-own f (fin true m e) p t = under (m * up e) (omega arith) (sym (round-own f _ p t))
 
 -- ---- zeros are values of every format
 pub nought-fits : (f : Format) (s : Bool) → T (fits f (nought s))

@@ -1,7 +1,7 @@
 -- A finite float is the signed fraction (top - bot) / den, where top or bot is 0; its size is num /
 -- den. `Is x p n c` says, for a c above 0, that x is finite and equals (p - n) / c, whichever sign
 -- a zero has. The order of finite floats is the order of their fractions.
-use mathlib.Core.Path.{_≡_, refl, sym, ap, subst}
+use mathlib.Core.Path.{_≡_, refl, sym, ap}
 use mathlib.Core.Logic.{_⊎_, inl, inr, _↔_}
 use Prim.Native.Nat.{ℕ, _+_, _*_, _≤_, _<_}
 use native.Mathlib.Nat.{zero-add, mul-pos, mul-lt-mul-of-pos-right, eq-of-mul-eq-mul-right}
@@ -104,8 +104,7 @@ size-is (fin true m k) p n c a h (inr e) = omega (arith, h .1, ap (_* down k) e)
 
 -- 0 < num x says that x is finite and no zero
 pub nonzero-is : (x : Float) (p n c a : ℕ) → Is x p n c → Apart p n a → 0 < a → 0 < num x
-nonzero-is x p n c a h e A =
-    first-pos _ c (rw (size-is x p n c a h e) (mul-pos A (den-pos x)))
+nonzero-is x p n c a h e A = first-pos _ c (rw (size-is x p n c a h e) (mul-pos A (den-pos x)))
 
 -- ---- sign
 -- the sign bit, which a NaN has not
@@ -174,9 +173,7 @@ value-is (inf s) p n c a h e = absurd (h .0)
 value-is (fin s m k) p n c a h e = (refl, size-is (fin s m k) p n c a h e)
 
 pub unsigned-value : (x : Float) (a c : ℕ) → T (unsigned x) → Is x a 0 c → HasValue x false a c
-unsigned-value x a c u h =
-    subst (λ s. HasValue x s a c) (unsigned-sign x u)
-    (value-is x a 0 c a h (inl (sym (zero-add a))))
+unsigned-value x a c u h = rw (unsigned-sign x u) at (value-is x a 0 c a h (inl (sym (zero-add a))))
 
 -- ---- the order: `lt` and `eq` compare the sizes over a common denominator
 equal : (a b : ℕ) → a ≡ b → T (eqb a b && true)

@@ -1,10 +1,10 @@
 -- Bounds by powers of two, for chains of operations: the exponents add. `Within x k` says that x is
 -- finite and at most 2 ^ k units in size, of which 1.0 has 2 ^ 149, and `Beyond x k` that it is
 -- finite and at least that. The largest power of two of single precision is 2 ^ 276 units.
-use mathlib.Core.Path.{_≡_, refl, sym}
+use mathlib.Core.Path.{_≡_, refl}
 use mathlib.Core.Logic.{inl}
 use Prim.Native.Nat.{ℕ, suc, _+_, _*_, _^_, _≤_, _<_, zero-le}
-use native.Mathlib.Nat.{le-trans, le-of-eq, mul-le-mul-right, two-pow-succ}
+use native.Mathlib.Nat.{mul-le-mul-right, two-pow-succ}
 use native.Mathlib.Omega.{arith}
 use mathlib.Core.Bool.{Bool, true, false, cond}
 use lib.Dec.{T, lit<}
@@ -56,8 +56,7 @@ within-zero x k h = within-is x 0 0 1 0 k (lit< tt) h (inl refl) zero-le
 -- ---- the sizes of numbers, with the units in 1.0 as a variable u: omega reads
 -- no number of that length
 powers : (i j k l : ℕ) → i + j ≤ k + l → 2 ^ i * 2 ^ j ≤ 2 ^ k * 2 ^ l
-powers i j k l h =
-    le-trans (le-of-eq (sym (pow-add 2 i j))) (le-trans (pow-mono h) (le-of-eq (pow-add 2 k l)))
+powers i j k l h = rw (← pow-add 2 i j, ← pow-add 2 k l) (pow-mono h)
 
 twice : (k u : ℕ) → (2 ^ k * u + 2 ^ k * u) * u ≤ 2 ^ suc k * (u * u)
 twice k u = rw two-pow-succ (omega arith)

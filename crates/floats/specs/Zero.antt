@@ -65,12 +65,9 @@ zero-add f x y q m d D t h k = rw add-commutes (add-zero f y x q m d D t k h)
 pub times-one : (f : Format) (x y : Float) → T (finite x) → T (fits f x) → Is y 1 0 1
     → mul f x y ≡ x
 times-one f x y p t h =
-    mul-is f x y p (h .0)
-    ∙ ap (λ s. round f (unlike (sign x) s) (num x * num y) (den x * den y))
-    (sign-is y 1 0 1 h (lit< tt))
-    ∙ ap (λ s. round f s (num x * num y) (den x * den y)) (unlike-plus _)
-    ∙ rounds-to f x _ _ p t (dens-pos x y)
-    (omega (arith, ap (λ z. num x * den x * z) (size-is y 1 0 1 1 h (inl refl))))
+    rw (mul-is f x y p (h .0), sign-is y 1 0 1 h (lit< tt), unlike-plus)
+    (rounds-to f x _ _ p t (dens-pos x y)
+    (omega (arith, ap (num x * den x *_) (size-is y 1 0 1 1 h (inl refl)))))
 
 pub one-times : (f : Format) (x y : Float) → Is x 1 0 1 → T (finite y) → T (fits f y)
     → mul f x y ≡ y
