@@ -73,8 +73,8 @@ whole-mul x y a b s h k =
     is-same (x ⊗ y) _ _ 1 (a * b) 0 1 (lit< tt)
     (dyadic-mul x y a 0 b 0 0 0 (lit≤ tt) (omega arith) (omega arith) h k) (omega arith)
 
--- ---- quotients by a number above zero: of zero, and of the number itself. By one of either sign,
--- as equations: `zero-over` and `over-self` of Zero
+-- ---- quotients by a number above zero: of zero, and of the number itself. Of zero by a number of
+-- either sign, as an equation: `zero-over` of Zero
 pub zero-div : (f : Format) (x y : Float) (q d : ℕ) → 0 < q → 0 < d → Is x 0 0 1 → Is y q 0 d
     → Is (div f x y) 0 0 1
 zero-div f x y q d Q D h k =

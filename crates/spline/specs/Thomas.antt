@@ -4,7 +4,6 @@
 --   c′ₖ = cₖ / pₖ,   d′₀ = d₀ / p₀,   d′ₖ = (dₖ − aₖ d′ₖ₋₁) / pₖ;
 -- back substitution: xₖ = d′ₖ − c′ₖ xₖ₊₁ from the last row on. Definitions only.
 use Prim.Native.Nat.{ℕ, zero, suc, _-_}
-use mathlib.Core.Path.{_≡_}
 use mathlib.Core.Bool.{cond}
 use mathlib.Core.List.{List}
 use lib.Dec.{eqb}
