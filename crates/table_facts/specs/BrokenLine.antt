@@ -19,7 +19,7 @@ between : (f : ℕ → ℕ) (v n : ℕ) → f 0 ≤ v → v ≤ f (suc n)
     → (i : ℕ) × (i ≤ n) × (f i ≤ v) × (v ≤ f (suc i))
 between f v zero low high = (0, omega arith, low, high)
 between f v (suc n) low high = elim (decLe v (f (suc n))) [
-  | yes below ↦ let r = between f v n low below in (r .0, omega (arith, r .1), r .2, r .3)
+  | yes below ↦ let r = between f v n low below in (r .0, omega arith, r .2, r .3)
   | no above ↦ (suc n, le-refl (suc n), omega arith, high)
 ]
 
@@ -75,7 +75,7 @@ module _ (l : List Point) (bytes : All Bytes l) where
       let last : suc (length ks - 2) ≡ length ks - 1 = omega (arith, shape .two) in
       let r = between (xOf ks) v (length ks - 2) (omega (arith, shape .start))
       (rw last (omega (arith, shape .end))) in
-      piece v (r .0) (omega (arith, r .1, shape .two)) (r .2) (r .3)
+      piece v (r .0) (omega arith) (r .2) (r .3)
 
   -- at a knot's x it is the knot's y
   pub line-at-knot : (v n d : ℕ) → OnLine l v n d

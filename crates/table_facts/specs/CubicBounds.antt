@@ -35,7 +35,7 @@ unit-within : (t : Float) → T (finite t) → T (le 𝟎 t) → T (le t 𝟏) �
 unit-within t f low high =
     let i = nonnegative-is t f low in
     let most = is-of-le t 𝟏 (top t) 0 (den t) 1 0 1 i 𝟏-is high in
-    most-within t (top t) (den t) (den t) 149 (den-pos t) i (omega (arith, most))
+    most-within t (top t) (den t) (den t) 149 (den-pos t) i (omega arith)
     (le-of-eq (mul-comm (den t) (2 ^ 149)))
 
 hermite-within : {a b : Knot} {ma mb t : Float} → Small a → Small b → Within ma 220 → Within mb 220
@@ -68,7 +68,7 @@ module _ {xs ys : List Float} {n : ℕ} {a h : ℕ → ℕ} (r : Rows xs ys n a 
   cubic-within x p =
       let s = segment xs n x in
       let k = segment-holds r x (p .low) (p .high) in
-      let l : s < n = omega (arith, k .inside) in
+      let l : s < n = omega arith in
       let at-x = at-float (piece r s (k .inside)) x (p .in-format) (k .low) (k .high) in
       hermite-within (knot-small r s l) (knot-small r (s + 1) (k .inside)) (tame s l)
       (tame (s + 1) (k .inside))

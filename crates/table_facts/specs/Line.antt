@@ -38,7 +38,7 @@ pub record LineAt (l : List Point) (p c n d : ℕ) : Type 0 where
 -- ---- at a byte it is what `OnLine` says
 in-256ths : (n y0 y1 d k : ℕ) → n + y0 * k ≡ y0 * d + y1 * k
     → 256 * n + 256 * y0 * k ≡ 256 * y0 * d + 256 * y1 * k
-in-256ths n y0 y1 d k h = omega (arith, ap (λ (t : ℕ). 256 * t) h)
+in-256ths n y0 y1 d k h = omega arith
 
 pub at-byte : (l : List Point) (v n d : ℕ) → OnLine l v n d → LineAt l v 1 (256 * n) d
 at-byte l v n d o =
@@ -48,9 +48,9 @@ at-byte l v n d o =
       divisor = lit< tt;
       i = i;
       inside = o .inside;
-      left = omega (arith, o .left);
-      right = omega (arith, o .right);
-      width = omega (arith, o .width);
+      left = omega arith;
+      right = omega arith;
+      width = omega arith;
       height = simp mul-one (in-256ths n (yOf ks i) (yOf ks (suc i)) d (v - xOf ks i) (o .height));
     }
 
@@ -88,8 +88,8 @@ line-at l bytes x r p c C e =
         divisor = C;
         i = s;
         inside = inside;
-        left = omega (arith, low);
-        right = omega (arith, high);
+        left = omega arith;
+        right = omega arith;
         width = refl;
         height = rw parts at (between (fineHeight ks s) (fineHeight ks (suc s)) k g);
       },

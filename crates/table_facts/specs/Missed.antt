@@ -54,7 +54,7 @@ pub through-points-wants-no-spline :
 unfolding kept keptBelow firstAt
 through-points-wants-no-spline through =
     let at-142 = through peak peak-bytes NotAKnotCubic (pt 142 0) (List·Memᴰ·head refl) in
-    omega (arith, at-142, not-a-knot-at-142)
+    omega (arith, not-a-knot-at-142)
 
 -- a slope of 2 ^ 200 / 256
 pub steep-at-1 : sampleOf (ClampedCubic (pos (2 ^ 200)) (pos 0)) [] 256 1 ≡ nan

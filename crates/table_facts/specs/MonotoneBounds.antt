@@ -155,7 +155,7 @@ module _ {xs ys : List Float} {n : ℕ} {a h : ℕ → ℕ} (r : Rows xs ys n a 
   mean-within : (i : ℕ) → i < n → Within (meanAt xs ys n i) 178
   unfolding meanAt
   mean-within i l = elim (ℕ-discrete i 0) [
-    | yes first ↦ rw (eq-eqb i 0 first) (secant-within 0 (omega (arith, r .two)))
+    | yes first ↦ rw (eq-eqb i 0 first) (secant-within 0 (omega arith))
     | no inner ↦
         rw (ne-eqb i 0 inner)
         (elim (ℕ-discrete (i + 1) n) [

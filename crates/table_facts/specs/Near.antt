@@ -68,7 +68,7 @@ byte-of-range z f low high =
     let near =
     byte-near z (top z) (den z) (den-pos z)
     (omega (arith, is-of-le z 𝟐𝟓𝟓 (top z) 0 (den z) 255 0 1 i 𝟐𝟓𝟓-is high)) i in
-    (omega (arith, near .0, unsigned z f low), omega (arith, near .1, unsigned z f low))
+    (omega (arith, unsigned z f low), omega (arith, unsigned z f low))
 
 module _ (l : List Point) (bytes : All Bytes l) where
   abbrev ks : List Point

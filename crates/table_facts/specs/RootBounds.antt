@@ -161,7 +161,7 @@ size-of x b zero w = inl (widen b w zero-le)
 size-of x b (suc k) w = elim (decLe (num x * 2 ^ 149) (2 ^ k * den x)) [
   | yes h ↦ elim (size-of x b k (within-of (w .most .fin) h)) [
     | inl a ↦ inl a
-    | inr a ↦ inr (a .0, a .1, omega (arith, a .2), a .3, a .4)
+    | inr a ↦ inr (a .0, a .1, omega arith, a .3, a .4)
   ]
   | no h ↦ elim (decLe b k) [
     | yes l ↦ inr (k, l, omega arith, beyond-of (w .most .fin) (le-of-lt (lt-of-not-le h)), w)

@@ -84,10 +84,10 @@ pub record Sized (s : Segment) (w : ℕ) : Type 0 where
 
 pub width-within : {s : Segment} {w : ℕ} → Sized s w → Within (s .width) 157
 width-within {s} {w} z =
-    most-within (s .width) w 1 256 157 (lit< tt) (z .width) (omega (arith, z .byte)) (lit≤ tt)
+    most-within (s .width) w 1 256 157 (lit< tt) (z .width) (omega arith) (lit≤ tt)
 
 double-is : {s : Segment} {w : ℕ} → Sized s w → Is (𝟐 ⊗ s .width) (2 * w) 0 1
-double-is {s} {w} z = whole-mul 𝟐 (s .width) 2 w (omega (arith, z .byte)) 𝟐-is (z .width)
+double-is {s} {w} z = whole-mul 𝟐 (s .width) 2 w (omega arith) 𝟐-is (z .width)
 
 -- right-hand sides
 right-most : {x : Float} → Within x 190 → AtMost (2 ^ 41) 1 x
@@ -101,12 +101,12 @@ six-most v w =
 module _ {p q : Segment} {u v : ℕ} (y : Sized p u) (z : Sized q v) where
   sum-is : Is (p .width ⊕ q .width) (u + v) 0 1
   sum-is =
-      whole-add (p .width) (q .width) u v (omega (arith, y .byte, z .byte)) (y .width) (z .width)
+      whole-add (p .width) (q .width) u v (omega arith) (y .width) (z .width)
 
   inner-row : InnerRow u v (inner p q)
   inner-row = record {
     a = y .width;
-    b = whole-mul 𝟐 (p .width ⊕ q .width) 2 (u + v) (omega (arith, y .byte, z .byte)) 𝟐-is sum-is;
+    b = whole-mul 𝟐 (p .width ⊕ q .width) 2 (u + v) (omega arith) 𝟐-is sum-is;
     c = z .width;
     d = six-most (z .secant) (y .secant);
   }
@@ -118,7 +118,7 @@ module _ {p q : Segment} {u v : ℕ} (y : Sized p u) (z : Sized q v) where
   free-diagonal : (f g : Float) (c d : ℕ) → c < 512 → d < 512 → Is f c 0 1 → Is g d 0 1
       → Is ((p .width ⊕ q .width) ⊗ (f ⊕ g)) ((u + v) * (c + d)) 0 1
   free-diagonal f g c d C D i j =
-      let small : u + v ≤ 512 = omega (arith, y .byte, z .byte) in
+      let small : u + v ≤ 512 = omega arith in
       whole-mul (p .width ⊕ q .width) (f ⊕ g) (u + v) (c + d)
       (omega (arith, mul-le-mul-right (c + d) small)) sum-is (whole-add f g c d (omega arith) i j)
 
@@ -147,7 +147,7 @@ module _ {p q : Segment} {u v : ℕ} (y : Sized p u) (z : Sized q v) where
   parabola-within : Within (parabola p q) 179
   parabola-within =
       let width : Beyond (p .width ⊕ q .width) 150 =
-      least-beyond _ (u + v) 1 2 150 (lit< tt) sum-is (omega (arith, y .some, z .some)) (lit≤ tt) in
+      least-beyond _ (u + v) 1 2 150 (lit< tt) sum-is (omega arith) (lit≤ tt) in
       quotient-within pico 179 (within-mul 180 two-within bend-within (lit≤ tt) (lit≤ tt)) width
       (lit≤ tt) (lit≤ tt)
 

@@ -69,9 +69,9 @@ piece-within {a} b {w = w} p z va vb vx =
     let sixth = within-div 233 bend six-beyond (lit≤ tt) (lit≤ tt) in
     let c1 = within-sub (widen 233 (z .secant) (lit≤ tt)) sixth (lit< tt) in
     let c2 = within-div 224 va two-beyond (lit≤ tt) (lit≤ tt) in
-    let six-widths = whole-mul 𝟔 (b .x ⊖ a .x) 6 w (omega (arith, z .byte)) 𝟔-is (z .width) in
+    let six-widths = whole-mul 𝟔 (b .x ⊖ a .x) 6 w (omega arith) 𝟔-is (z .width) in
     let divisor : Beyond (𝟔 ⊗ (b .x ⊖ a .x)) 151 =
-    least-beyond _ (6 * w) 1 6 151 (lit< tt) six-widths (omega (arith, z .some)) (lit≤ tt) in
+    least-beyond _ (6 * w) 1 6 151 (lit< tt) six-widths (omega arith) (lit≤ tt) in
     let c3 = within-div 224 (within-sub vb va (lit< tt)) divisor (lit≤ tt) (lit≤ tt) in
     let first = within-mul 243 c1 t (lit≤ tt) (lit≤ tt) in
     let second = within-mul 244 (within-mul 233 c2 t (lit≤ tt) (lit≤ tt)) t (lit≤ tt) (lit≤ tt) in
@@ -90,7 +90,7 @@ range-within x p =
     let f = finite-between 𝟎 x 𝟐𝟓𝟓 (𝟎-is .0) (𝟐𝟓𝟓-is .0) (p .low) (p .high) in
     let i = nonnegative-is x f (p .low) in
     let most = is-of-le x 𝟐𝟓𝟓 (top x) 0 (den x) 255 0 1 i 𝟐𝟓𝟓-is (p .high) in
-    most-within x (top x) (den x) (256 * den x) 157 (den-pos x) i (omega (arith, most))
+    most-within x (top x) (den x) (256 * den x) 157 (den-pos x) i (omega arith)
     (units (den x) (2 ^ 149))
   where
     units : (d u : ℕ) → 256 * d * u ≤ 256 * u * d

@@ -93,7 +93,7 @@ module _ {xs ys : List Float} {n : ℕ} {a h : ℕ → ℕ} (r : Rows xs ys n a 
       let p = piece r s l in
       guarded-value (x ⊖ at xs s) (at xs (s + 1) ⊖ at xs s) micro (a (s + 1) - a s) 0 1 8796093
       (2 ^ 43) (lit< tt) (lit< tt) (width-is p) micro-is
-      (omega (arith, width-some p))
+      (omega arith)
 
   abbrev pub line : ℕ → Float → Float
   line s x = Line.line (at xs s) (at ys s) (at xs (s + 1)) (at ys (s + 1)) x
@@ -171,7 +171,7 @@ module _ {xs ys : List Float} {n : ℕ} {a h : ℕ → ℕ} (r : Rows xs ys n a 
   straight-in-range x p =
       let s = segment xs n x in
       let k = held p in
-      let l : s < n = omega (arith, k .inside) in
+      let l : s < n = omega arith in
       let g = piece r s (k .inside) in
       rw (straight-line s x (k .inside))
       (elim (total (h s) (h (s + 1))) [
@@ -204,7 +204,7 @@ module _ {xs ys : List Float} {n : ℕ} {a h : ℕ → ℕ} (r : Rows xs ys n a 
           let order = held-order r x y s t l k m in
           line-across (piece r s (k .inside)) (piece r t (m .inside)) (on-piece p k) (on-piece q m)
           (rise s (k .inside))
-          (never-falls (s + 1) t (omega arith) (omega (arith, m .inside))) (rise t (m .inside))
+          (never-falls (s + 1) t (omega arith) (omega arith)) (rise t (m .inside))
     ]
 
     pub straight-order : (x y : Float) → InRange x → InRange y → T (le x y)

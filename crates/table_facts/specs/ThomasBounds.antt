@@ -73,7 +73,7 @@ inverse-most {n} {j} {r} x v h =
     let one = whole-most 𝟏 𝟏-is in
     at-most-cond (lt (absolute x) pico)
     (at-most-more r u (pow-pos j) (omega arith) (whole-most 𝟎 𝟎-is))
-    (at-most-div binary32 r u (pow-pos j) rep one h (v .pos) (omega (arith, v .least)))
+    (at-most-div binary32 r u (pow-pos j) rep one h (v .pos) (omega arith))
 
 -- ---- rows over their pivots
 -- above the diagonal is at most 1, and on the right-hand side at most t * 2 ^ 41
@@ -111,7 +111,7 @@ unfolding sweep
 first-most {j = j} row s v J b c d l =
     steady
     (scaled-most 1 2 (lit< tt) v (whole-least (row .b) b) c d l
-    (omega (arith, v .small, pow-mono {i = 23} {j = j} J)))
+    (omega (arith, pow-mono {i = 23} {j = j} J)))
 
 -- a later row, whose pivot is at least b - a
 later-most : {a b c n j r : ℕ} (t k : ℕ) {s : Swept} (row : Row) → t < 2 ^ 24 → Inverse n j r
@@ -244,7 +244,7 @@ free-last {h} {g} k r H h< G g< a b c d i =
     let v = 2 * h + g in
     let size = diagonal (h + g) v (omega arith) (omega arith) (omega arith) (omega arith) in
     let rest = free-least h g (h - g + (g - h)) H h< G g< (omega arith) (omega arith) in
-    last-most 1 k r (lit≤ tt) i a b c d (rest .0) (omega (arith, size .1, rest .1))
+    last-most 1 k r (lit≤ tt) i a b c d (rest .0) (omega (arith, rest .1))
     (omega (arith, rest .1))
 
 -- ---- back substitution adds at most 2 ^ 58 for each unknown

@@ -231,4 +231,4 @@ module _ (l : List Point) (bytes : All Bytes l) where
       → Is (sampleOf k l 4096 (273 * j)) (256 * p .y) 0 256
   fine-through k h p m j e =
       let b = all-mem Bytes (kept l) (is-kept .bytes) p m in
-      sample-through k h p m 4096 (273 * j) (rw e (fine-x-is j (omega (arith, b .0))))
+      sample-through k h p m 4096 (273 * j) (rw e (fine-x-is j (omega arith)))
