@@ -3,26 +3,22 @@
 use mathlib.Core.Path.{_≡_, refl}
 use mathlib.Core.Bool.{Bool, true, false, _||_, true≢false}
 use mathlib.Core.List.{List}
-use Prim.Native.Nat.{ℕ, suc, _+_, _≤_, _<_}
-use lib.Dec.{lit<, lit≤, eqb}
+use Prim.Native.Nat.{ℕ, suc, _+_, _<_}
+use native.Mathlib.Omega.{arith}
+use lib.Dec.{T, lit<, lit≤, leb, eqb}
 use lib.Ieee.{Float}
 use Rattle.floats.specs.Notation.{_⊘_}
-use Rattle.floats.specs.Within.{
-  Within,
-  within-zero,
-  widen,
-  within-cond,
-  within-test,
-  within-add,
-  within-sub,
-  within-div,
-}
+use Rattle.floats.specs.Within.{Within, within-zero, within-cond, within-test}
 use Rattle.single.specs.Constants.{𝟎, 𝟎-is}
 use Rattle.single.specs.Rules.{tiny}
 use Rattle.points.specs.declared.Knot.{Knot}
-use Rattle.chords.specs.Alpha.{chord, spacing, over, threeTerms, alphaTangent, alphaAt}
+use Rattle.chords.specs.Alpha.{chord, spacing, over, endTangent, threeTerms, alphaTangent, alphaAt}
 use Rattle.segments.specs.Rows.{Rows}
 use Rattle.table_facts.specs.Sizes.{
+  plus,
+  minus,
+  divided,
+  either,
   nano-guard,
   passed,
   guarded-within,
@@ -46,13 +42,13 @@ spacing-within centripetal p q =
     within-cond centripetal (root-from-zero 159 chord (lit≤ tt) (lit≤ tt) .most) (chord .most)
 
 -- ---- quotients
-over-within : {p d : Float} {j k : ℕ} (t : ℕ) → Within p j → Within d k → j + 149 ≤ t + 119
-    → t ≤ 276 → Within (over p d) t
-over-within t v w h K = guarded-within t nano-guard v w h K
+over-within : {p d : Float} {j k : ℕ} → Within p j → Within d k → T (leb (j + 30) 276)
+    → Within (over p d) (j + 30)
+over-within {j = j} v w small = guarded-within (j + 30) nano-guard v w (omega arith) (lit≤ small)
 
 plain-within : {p d : Float} {k : ℕ} → Within p 158 → Within d k → tiny d ≡ false
     → Within (p ⊘ d) 188
-plain-within v w e = within-div 188 v (passed w nano-guard e) (lit≤ tt) (lit≤ tt)
+plain-within v w e = divided v (passed w nano-guard e) tt
 
 neither : (a b : Bool) → (a || b) ≡ false → (a ≡ false) × (b ≡ false)
 neither true b e = absurd (true≢false e)
@@ -67,29 +63,26 @@ three-terms-within {dr = dr} {ds} {dl} vr va vl wr ws wl =
     within-test (tiny dl || tiny dr || tiny ds) (within-zero 𝟎 190 𝟎-is) (λ e.
     let first = neither (tiny dl || tiny dr) (tiny ds) e in
     let second = neither (tiny dl) (tiny dr) (first .0) in
-    within-add
-    (within-sub (plain-within vr wr (second .1)) (plain-within va ws (first .1)) (lit< tt))
-    (widen 189 (plain-within vl wl (second .0)) (lit≤ tt)) (lit< tt))
+    let right-less-across =
+    minus (plain-within vr wr (second .1)) (plain-within va ws (first .1)) tt in
+    plus right-less-across (plain-within vl wl (second .0)) tt)
 
 -- ---- the tangent
+end-within : {a b : Knot} {d : Float} {k : ℕ} → Small a → Small b → Within d k
+    → Within (endTangent a b d) 218
+end-within p q w =
+    over-within (over-within (rise-within p q) w tt) (over-within (run-within p q) w tt) tt
+
 alpha-tangent-within : (centripetal first last : Bool) {l c r : Knot} → Small l → Small c → Small r
     → Within (alphaTangent centripetal first last l c r) 220
 unfolding alphaTangent
 alpha-tangent-within centripetal first last p q s =
     let dl = spacing-within centripetal p q in
     let dr = spacing-within centripetal q s in
-    let ds = within-add dl dr (lit< tt) in
-    within-cond first (one-sided (rise-within q s) (run-within q s) dr)
-    (within-cond last (one-sided (rise-within p q) (run-within p q) dl)
-    (over-within 220
-    (three-terms-within (rise-within q s) (rise-within p s) (rise-within p q) dr ds dl)
-    (over-within 188 (run-within p s) ds (lit≤ tt) (lit≤ tt)) (lit≤ tt) (lit≤ tt)))
-  where
-    one-sided : {y x d : Float} {k : ℕ} → Within y 158 → Within x 158 → Within d k
-        → Within (over (over y d) (over x d)) 220
-    one-sided v w u =
-        over-within 220 (over-within 188 v u (lit≤ tt) (lit≤ tt))
-        (over-within 188 w u (lit≤ tt) (lit≤ tt)) (lit≤ tt) (lit≤ tt)
+    let ds = plus dl dr tt in
+    let terms = three-terms-within (rise-within q s) (rise-within p s) (rise-within p q) dr ds dl in
+    either first (end-within q s dr)
+    (either last (end-within p q dl) (over-within terms (over-within (run-within p s) ds tt) tt))
 
 module _ {xs ys : List Float} {n : ℕ} {a h : ℕ → ℕ} (r : Rows xs ys n a h) where
   pub alpha-within : (centripetal : Bool) (i : ℕ) → i < n

@@ -3,14 +3,14 @@ use mathlib.Core.List.{List}
 use Prim.Native.Nat.{ℕ, _+_, _^_, _<_}
 use native.Mathlib.Nat.{le-of-eq, mul-comm}
 use native.Mathlib.Omega.{arith}
-use lib.Dec.{T, lit<, lit≤}
+use lib.Dec.{T}
 use lib.Ieee.{Float, le}
 use lib.Ieee.Scale.{finite}
 use lib.Ieee.Positive.{den, den-pos}
 use Rattle.floats.specs.Value.{top, is-of-le}
 use Rattle.floats.specs.Position.{part-near, part-low, part-high}
 use Rattle.floats.specs.Segment.{at-float}
-use Rattle.floats.specs.Within.{Within, widen, within-add, within-sub, within-mul}
+use Rattle.floats.specs.Within.{Within}
 use Rattle.single.specs.Constants.{𝟎, 𝟏, 𝟎-is, 𝟏-is}
 use Rattle.points.specs.declared.Knot.{Knot}
 use Rattle.segments.specs.Segments.{segment}
@@ -25,6 +25,9 @@ use Rattle.table_facts.specs.Sizes.{
   one-within,
   two-within,
   three-within,
+  plus,
+  minus,
+  times,
   Small,
   run-within,
   knot-small,
@@ -43,24 +46,15 @@ hermite-within : {a b : Knot} {ma mb t : Float} → Small a → Small b → With
 unfolding hermite
 hermite-within p q va vb vt =
     let w = run-within p q in
-    let rest = within-sub one-within vt (lit< tt) in
-    let twice = within-mul 150 two-within vt (lit≤ tt) (lit≤ tt) in
-    let squared = within-mul 149 vt vt (lit≤ tt) (lit≤ tt) in
-    let more = within-add (widen 150 one-within (lit≤ tt)) twice (lit< tt) in
-    let h00 =
-    within-mul 153 (within-mul 152 more rest (lit≤ tt) (lit≤ tt)) rest (lit≤ tt) (lit≤ tt) in
-    let h10 =
-    within-mul 151 (within-mul 150 vt rest (lit≤ tt) (lit≤ tt)) rest (lit≤ tt) (lit≤ tt) in
-    let h01 =
-    within-mul 152 squared (within-sub three-within (widen 151 twice (lit≤ tt)) (lit< tt))
-    (lit≤ tt) (lit≤ tt) in
-    let h11 = within-mul 150 squared (within-sub vt one-within (lit< tt)) (lit≤ tt) (lit≤ tt) in
-    within-add
-    (within-add
-    (within-add (within-mul 231 h00 (p .high) (lit≤ tt) (lit≤ tt))
-    (within-mul 231 (within-mul 160 h10 w (lit≤ tt) (lit≤ tt)) va (lit≤ tt) (lit≤ tt)) (lit< tt))
-    (within-mul 232 h01 (q .high) (lit≤ tt) (lit≤ tt)) (lit< tt))
-    (within-mul 233 (within-mul 160 h11 w (lit≤ tt) (lit≤ tt)) vb (lit≤ tt) (lit≤ tt)) (lit< tt)
+    let rest = minus one-within vt tt in
+    let twice = times two-within vt tt in
+    let squared = times vt vt tt in
+    let h00 = times (times (plus one-within twice tt) rest tt) rest tt in
+    let h10 = times (times vt rest tt) rest tt in
+    let h01 = times squared (minus three-within twice tt) tt in
+    let h11 = times squared (minus vt one-within tt) tt in
+    let left = plus (times h00 (p .high) tt) (times (times h10 w tt) va tt) tt in
+    plus (plus left (times h01 (q .high) tt) tt) (times (times h11 w tt) vb tt) tt
 
 module _ {xs ys : List Float} {n : ℕ} {a h : ℕ → ℕ} (r : Rows xs ys n a h) (ms : List Float)
     (tame : (i : ℕ) → i < n → Within (at ms i) 220) where

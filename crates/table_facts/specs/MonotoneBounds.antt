@@ -6,24 +6,14 @@ use mathlib.Core.Logic.{inl, inr}
 use mathlib.Core.Bool.{Bool, true, false, cond}
 use mathlib.Core.List.{List}
 use Prim.Native.Nat.{ℕ, zero, suc, _+_, _-_, _≤_, _<_}
-use native.Mathlib.Decide.{ℕ-discrete}
 use native.Mathlib.Omega.{arith}
-use borrow.Author.Tests.{eq-eqb, ne-eqb}
-use lib.Dec.{lit<, lit≤}
+use borrow.Author.Tests.{eqb-false}
+use lib.Dec.{lit<, lit≤, eqb}
 use lib.Ieee.{Float, lt}
 use Rattle.floats.specs.Notation.{_⊕_, _⊗_, _⊘_}
 use Rattle.floats.specs.Value.{absolute}
-use Rattle.floats.specs.Within.{
-  Within,
-  Beyond,
-  within-zero,
-  widen,
-  within-cond,
-  within-add,
-  within-mul,
-  within-div,
-  beyond-mul,
-}
+use Rattle.floats.specs.Within.{Within, Beyond, within-zero, widen, within-cond, within-test}
+use Rattle.floats.specs.Within.{within-mul, within-div, beyond-mul}
 use Rattle.single.specs.Constants.{𝟎, 𝟑, 𝟗, nano, 𝟎-is}
 use Rattle.single.specs.Root.{rootOf}
 use Rattle.monotone.specs.declared.Tangents.{Tangents}
@@ -51,6 +41,10 @@ use Rattle.table_facts.specs.RootBounds.{
 use Rattle.table_facts.specs.Sizes.{
   half-within,
   three-within,
+  plus,
+  times,
+  divided,
+  either,
   nano-guard,
   nine-guard,
   passed,
@@ -74,8 +68,7 @@ nonnegative-within m q {k} w = within-cond (lt q 𝟎) (within-zero 𝟎 k 𝟎-
 -- ---- the Box kind
 capped-within : (m q d : Float) → Within m 181 → Within d 178 → Within (capped m q d) 181
 capped-within m q d w v =
-    within-cond (lt 𝟑 q) (within-mul 181 three-within v (lit≤ tt) (lit≤ tt))
-    (nonnegative-within m q w)
+    either (lt 𝟑 q) (times three-within v tt) (nonnegative-within m q w)
 
 boxed-tame : (d l r : Float) → Within d 178 → Within l 181 → Within r 181 → Tame (boxed d l r)
 unfolding boxed
@@ -101,8 +94,7 @@ ratio-within : {x s : Float} → Within x 211 → FromZero s 274 → Beyond s 15
 ratio-within {x} v w nine squared = elim (size-of x 150 211 v) [
   | inl small ↦
       let root = root-beyond 150 212 w nine (lit≤ tt) (lit≤ tt) (lit≤ tt) in
-      within-mul 152 (within-div 150 three-within root (lit≤ tt) (lit≤ tt)) small (lit≤ tt)
-      (lit≤ tt)
+      widen 152 (times (divided three-within root tt) small tt) (lit≤ tt)
   | inr large ↦
       let p = large .0 in
       let low : 150 ≤ p = large .1 in
@@ -117,20 +109,15 @@ circled-tame : (d l r : Float) → Within d 178 → Beyond d 119 → Within l 18
     → Tame (circled d l r)
 unfolding circled
 circled-tame d l r v away wl wr =
-    let a : Within (l ⊘ d) 211 = within-div 211 wl away (lit≤ tt) (lit≤ tt) in
-    let b : Within (r ⊘ d) 211 = within-div 211 wr away (lit≤ tt) (lit≤ tt) in
+    let a : Within (l ⊘ d) 211 = divided wl away tt in
+    let b : Within (r ⊘ d) 211 = divided wr away tt in
     let s = sum-from-zero (square-within a) (square-within b) (lit< tt) in
     tame-cond (lt 𝟗 _)
     (λ above.
     let nine = above-guard s nine-guard above in
-    record {
-      left = within-mul 181
-          (ratio-within a s nine (λ p low high w. squares-beyond p a b low high w .0)) v (lit≤ tt)
-          (lit≤ tt);
-      right = within-mul 181
-          (ratio-within b s nine (λ p low high w. squares-beyond p b a low high w .1)) v (lit≤ tt)
-          (lit≤ tt);
-    })
+    let left = ratio-within a s nine (λ p low high w. squares-beyond p a b low high w .0) in
+    let right = ratio-within b s nine (λ p low high w. squares-beyond p b a low high w .1) in
+    record { left = times left v tt; right = times right v tt })
     (λ else. record {
       left = nonnegative-within l (l ⊘ d) wl;
       right = nonnegative-within r (r ⊘ d) wr;
@@ -154,35 +141,28 @@ module _ {xs ys : List Float} {n : ℕ} {a h : ℕ → ℕ} (r : Rows xs ys n a 
 
   mean-within : (i : ℕ) → i < n → Within (meanAt xs ys n i) 178
   unfolding meanAt
-  mean-within i l = elim (ℕ-discrete i 0) [
-    | yes first ↦ rw (eq-eqb i 0 first) (secant-within 0 (omega arith))
-    | no inner ↦
-        rw (ne-eqb i 0 inner)
-        (elim (ℕ-discrete (i + 1) n) [
-          | yes last ↦ rw (eq-eqb (i + 1) n last) (secant-within (i - 1) (omega arith))
-          | no more ↦
-              let sum =
-              within-add (secant-within (i - 1) (omega arith)) (secant-within i (omega arith))
-              (lit< tt) in
-              rw (ne-eqb (i + 1) n more) (within-mul 178 half-within sum (lit≤ tt) (lit≤ tt))
-        ])
-  ]
+  mean-within i l =
+      within-test (eqb i 0) (secant-within 0 (omega arith)) (λ later.
+      within-test (eqb (i + 1) n) (secant-within (i - 1) (omega arith)) (λ more.
+      let right = secant-within i (omega (arith, eqb-false)) in
+      times half-within (plus (secant-within (i - 1) (omega arith)) right tt) tt))
+
+  -- what the segment i makes of its tangents, the right one being the mean of the knot j
+  step-tame : (box : Bool) (i j : ℕ) → i + 1 < n → j < n → Within (reached box xs ys n i) 181
+      → Tame (adjusted box (secantAt xs ys i) (reached box xs ys n i) (meanAt xs ys n j))
+  step-tame box i j l m w =
+      adjusted-tame box _ _ _ (secant-within i l) w (widen 181 (mean-within j m) (lit≤ tt))
 
   reached-within : (box : Bool) (i : ℕ) → i < n → Within (reached box xs ys n i) 181
   unfolding reached
   reached-within box zero l = widen 181 (mean-within 0 l) (lit≤ tt)
   reached-within box (suc i) l =
-      adjusted-tame box (secantAt xs ys i) (reached box xs ys n i) (meanAt xs ys n (suc i))
-      (secant-within i (omega arith))
-      (reached-within box i (omega arith)) (widen 181 (mean-within (suc i) l) (lit≤ tt)) .right
+      step-tame box i (suc i) (omega arith) l (reached-within box i (omega arith)) .right
 
   pub monotone-within : (box : Bool) (i : ℕ) → i < n → Within (monotoneAt box xs ys n i) 181
   unfolding monotoneAt
-  monotone-within box i l = elim (ℕ-discrete (i + 1) n) [
-    | yes last ↦ rw (eq-eqb (i + 1) n last) (reached-within box i l)
-    | no more ↦
-        rw (ne-eqb (i + 1) n more)
-        (adjusted-tame box (secantAt xs ys i) (reached box xs ys n i) (meanAt xs ys n (i + 1))
-        (secant-within i (omega arith))
-        (reached-within box i l) (widen 181 (mean-within (i + 1) (omega arith)) (lit≤ tt)) .left)
-  ]
+  monotone-within box i l =
+      let left = reached-within box i l in
+      within-test (eqb (i + 1) n) left (λ inner.
+      let more : i + 1 < n = omega (arith, eqb-false) in
+      step-tame box i (i + 1) more more left .left)

@@ -3,27 +3,32 @@
 -- and height are at most 2 ^ 8, so 2 ^ 157 units.
 use mathlib.Core.Path.{_≡_, sym}
 use mathlib.Core.Logic.{inl}
-use mathlib.Core.Bool.{false}
+use mathlib.Core.Bool.{Bool, false, cond}
 use mathlib.Core.List.{List}
-use Prim.Native.Nat.{ℕ, _+_, _*_, _^_, _≤_, _<_}
-use native.Mathlib.Nat.{le-trans, zero-add, mul-le-mul-right}
+use Prim.Native.Nat.{ℕ, suc, _+_, _-_, _*_, _^_, max, _≤_, _<_}
+use native.Mathlib.Nat.{le-trans, le-max-left, le-max-right, zero-add, mul-le-mul-right}
 use native.Mathlib.Omega.{arith}
-use lib.Dec.{T, lit<, lit≤}
+use lib.Dec.{T, lit<, lit≤, ltb, leb}
 use lib.Ieee.{Float, lt, ofBits}
-use Rattle.floats.specs.Notation.{_⊖_}
+use Rattle.floats.specs.Notation.{_⊕_, _⊖_, _⊗_, _⊘_}
 use Rattle.floats.specs.Value.{Is, unsigned, absolute}
 use Rattle.floats.specs.Within.{
   Within,
   Beyond,
+  within-of,
   beyond-of,
   within-is,
   within-zero,
+  widen,
+  within-cond,
   within-test,
+  within-add,
   within-sub,
+  within-mul,
   within-div,
   guarded,
 }
-use Rattle.single.specs.Constants.{𝟎, ½, 𝟏, 𝟐, 𝟑, 𝟗, micro, nano, 𝟎-is, ½-is, 𝟏-is, 𝟐-is, 𝟑-is}
+use Rattle.single.specs.Constants.{𝟎, ½, 𝟏, 𝟐, 𝟑, 𝟗, micro, nano, 𝟎-is}
 use Rattle.single.specs.Rules.{guardedQuotient}
 use Rattle.points.specs.declared.Knot.{Knot}
 use Rattle.points.specs.Knots.{knotAt, before, after}
@@ -36,16 +41,47 @@ most-within x p c b k C i l h =
     within-is x p 0 c p k C i (inl (sym (zero-add p))) (le-trans (mul-le-mul-right (2 ^ 149) l) h)
 
 pub half-within : Within ½ 148
-half-within = most-within ½ 1 2 1 148 (lit< tt) ½-is (lit≤ tt) (lit≤ tt)
+unfolding ofBits
+half-within = within-of tt (lit≤ tt)
 
 pub one-within : Within 𝟏 149
-one-within = most-within 𝟏 1 1 1 149 (lit< tt) 𝟏-is (lit≤ tt) (lit≤ tt)
+unfolding ofBits
+one-within = within-of tt (lit≤ tt)
 
 pub two-within : Within 𝟐 150
-two-within = most-within 𝟐 2 1 2 150 (lit< tt) 𝟐-is (lit≤ tt) (lit≤ tt)
+unfolding ofBits
+two-within = within-of tt (lit≤ tt)
 
 pub three-within : Within 𝟑 151
-three-within = most-within 𝟑 3 1 3 151 (lit< tt) 𝟑-is (lit≤ tt) (lit≤ tt)
+unfolding ofBits
+three-within = within-of tt (lit≤ tt)
+
+-- ---- operations on numbers whose sizes are numerals: the result's size is computed, and `tt` says
+-- that it is at most 2 ^ 276 units
+module _ {x y : Float} {j k : ℕ} (v : Within x j) (w : Within y k) where
+  -- both, at the larger of their sizes
+  left-wide : Within x (max j k)
+  left-wide = widen (max j k) v (le-max-left j k)
+
+  right-wide : Within y (max j k)
+  right-wide = widen (max j k) w (le-max-right j k)
+
+  pub plus : T (ltb (max j k) 276) → Within (x ⊕ y) (suc (max j k))
+  plus small = within-add left-wide right-wide (lit< small)
+
+  pub minus : T (ltb (max j k) 276) → Within (x ⊖ y) (suc (max j k))
+  minus small = within-sub left-wide right-wide (lit< small)
+
+  pub times : T (leb (j + k - 149) 276) → Within (x ⊗ y) (j + k - 149)
+  times small = within-mul (j + k - 149) v w (omega arith) (lit≤ small)
+
+pub divided : {x y : Float} {j l : ℕ} → Within x j → Beyond y l → T (leb (j + 149 - l) 276)
+    → Within (x ⊘ y) (j + 149 - l)
+divided {j = j} {l} v w small = within-div (j + 149 - l) v w (omega arith) (lit≤ small)
+
+pub either : (b : Bool) {x y : Float} {j k : ℕ} → Within x j → Within y k
+    → Within (cond b x y) (max j k)
+either b v w = within-cond b (left-wide v w) (right-wide v w)
 
 -- ---- a guard: a number above 0, of at least 2 ^ l units
 pub record Guard (g : Float) (l : ℕ) : Type 0 where
@@ -83,10 +119,10 @@ pub record Small (k : Knot) : Type 0 where
   pub high : Within (k .y) 157
 
 pub run-within : {l r : Knot} → Small l → Small r → Within (r .x ⊖ l .x) 158
-run-within p q = within-sub (q .across) (p .across) (lit< tt)
+run-within p q = minus (q .across) (p .across) tt
 
 pub rise-within : {l r : Knot} → Small l → Small r → Within (r .y ⊖ l .y) 158
-rise-within p q = within-sub (q .high) (p .high) (lit< tt)
+rise-within p q = minus (q .high) (p .high) tt
 
 module _ {xs ys : List Float} {n : ℕ} {a h : ℕ → ℕ} (r : Rows xs ys n a h) where
   pub knot-small : (i : ℕ) → i < n → Small (knotAt xs ys i)

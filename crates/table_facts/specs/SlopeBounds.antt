@@ -4,15 +4,7 @@ use Prim.Native.Nat.{ℕ, _≤_, _<_}
 use native.Mathlib.Omega.{arith}
 use lib.Dec.{lit<, lit≤}
 use lib.Ieee.{Float, ofBits}
-use Rattle.floats.specs.Within.{
-  Within,
-  Beyond,
-  beyond-of,
-  widen,
-  within-sub,
-  within-mul,
-  within-div,
-}
+use Rattle.floats.specs.Within.{Within, Beyond, beyond-of}
 use Rattle.single.specs.Constants.{𝟐𝟓𝟓}
 use Rattle.single.specs.Rules.{float}
 use Rattle.single.specs.RuleLaws.{float-is}
@@ -23,6 +15,9 @@ use Rattle.segments.specs.Rows.{Rows}
 use Rattle.table_facts.specs.Sizes.{
   most-within,
   one-within,
+  minus,
+  times,
+  divided,
   micro-guard,
   guarded-within,
   Small,
@@ -46,15 +41,14 @@ unfolding looseness
 looseness-within q h =
     let tension =
     most-within (float q) q 1 255 157 (lit< tt) (float-is q (omega arith)) h (lit≤ tt) in
-    within-sub (widen 150 one-within (lit≤ tt))
-    (within-div 150 tension top-beyond (lit≤ tt) (lit≤ tt)) (lit< tt)
+    minus one-within (divided tension top-beyond tt) tt
 
 loose-slope-within : {c : Float} {l r : Knot} → Within c 151 → Small l → Small r
     → Within (looseSlope c l r) 180
 unfolding looseSlope
 loose-slope-within v p q =
-    guarded-within 180 micro-guard (within-mul 160 v (rise-within p q) (lit≤ tt) (lit≤ tt))
-    (run-within p q) (lit≤ tt) (lit≤ tt)
+    guarded-within 180 micro-guard (times v (rise-within p q) tt) (run-within p q) (lit≤ tt)
+    (lit≤ tt)
 
 module _ {xs ys : List Float} {n : ℕ} {a h : ℕ → ℕ} (r : Rows xs ys n a h) where
   pub catmull-rom-within : (i : ℕ) → i < n → Within (catmullRomAt xs ys n i) 178

@@ -8,20 +8,20 @@ use Prim.Native.Nat.{ℕ, zero, suc, _+_, _-_, _*_, _^_, _≤_, _<_, zero-le}
 use native.Mathlib.Nat.{le-trans, le-of-eq, zero-add, mul-le-mul-right}
 use native.Mathlib.Omega.{arith}
 use borrow.Author.Tests.{eq-eqb, ne-eqb, eqb-false, ltb-false}
-use lib.Dec.{lit<, lit≤, ltb, eqb}
+use lib.Dec.{T, lit<, lit≤, ltb, leb, eqb}
 use lib.Pow.{pow-pos}
-use lib.Ieee.{Float, binary32, lt}
+use lib.Ieee.{Float, binary32, lt, ofBits}
 use lib.Ieee.Positive.{num, den, through}
 use Rattle.floats.specs.Notation.{_⊕_, _⊖_, _⊗_}
 use Rattle.floats.specs.Value.{Is, Apart, absolute, size-is}
 use Rattle.floats.specs.Exact.{rep-dyadic}
 use Rattle.floats.specs.Small.{dyadic-sub, whole-add, whole-mul}
 use Rattle.floats.specs.Bound.{AtMost, at-most-is, at-most-more, at-most-mul}
-use Rattle.floats.specs.Within.{Within, Beyond, beyond-of, widen, within-zero, within-cond}
-use Rattle.floats.specs.Within.{within-test, within-add, within-sub, within-mul, within-div}
+use Rattle.floats.specs.Within.{Within, Beyond, within-of, beyond-of, widen}
+use Rattle.floats.specs.Within.{within-zero, within-cond, within-test}
 use Rattle.floats.specs.Frac.{total}
 use Rattle.floats.specs.Segment.{width-is, width-some}
-use Rattle.single.specs.Constants.{𝟎, 𝟐, 𝟔, pico, 𝟎-is, 𝟐-is, 𝟔-is}
+use Rattle.single.specs.Constants.{𝟎, 𝟐, 𝟔, pico, 𝟎-is, 𝟐-is}
 use Rattle.single.specs.Rules.{guardedQuotient}
 use Rattle.segments.specs.Straight.{slope}
 use Rattle.segments.specs.Rows.{Rows, piece}
@@ -36,6 +36,7 @@ use Rattle.spline.specs.Second.{inner, notAKnotFirst, notAKnotLast}
 use Rattle.spline.specs.Second.{parabola, recovered, framed, rowCount, rowAt, unknown}
 use Rattle.spline.specs.Second.{naturalAt, endsRecovered, notAKnotAt, secondAt}
 use Rattle.table_facts.specs.Sizes.{most-within, two-within, knot-small}
+use Rattle.table_facts.specs.Sizes.{plus, minus, times, divided}
 use Rattle.table_facts.specs.SlopeBounds.{slope-within}
 use Rattle.table_facts.specs.ThomasBounds.{Steady, Bounded, InnerRow, steady-bounded}
 use Rattle.table_facts.specs.ThomasBounds.{inner-first, inner-next, clamped-first}
@@ -51,7 +52,8 @@ least-beyond x p c b k C i l h =
     (le-of-eq (sym (size-is x p 0 c p i (inl (sym (zero-add p)))))))
 
 six-within : Within 𝟔 152
-six-within = most-within 𝟔 6 1 6 152 (lit< tt) 𝟔-is (lit≤ tt) (lit≤ tt)
+unfolding ofBits
+six-within = within-of tt (lit≤ tt)
 
 -- |p² - q²|, as a product
 apart-most : (x y : Float) (p q : ℕ) → p < 256 → q < 256 → Is x p 0 1 → Is y q 0 1
@@ -69,11 +71,11 @@ apart-most x y p q P Q i j =
     (inl (sym (zero-add (p + q))))) (omega arith)
 
 -- where a divisor is known, a guard takes nothing from the bound
-quotient-within : {p d : Float} {j l : ℕ} (guard : Float) (t : ℕ) → Within p j → Beyond d l
-    → j + 149 ≤ t + l → t ≤ 276 → Within (guardedQuotient p d guard) t
+quotient-within : {p d : Float} {j l : ℕ} → Within p j → Beyond d l → T (leb (j + 149 - l) 276)
+    → Within (guardedQuotient p d pico) (j + 149 - l)
 unfolding guardedQuotient
-quotient-within {d = d} guard t v w h K =
-    within-cond (lt (absolute d) guard) (within-zero 𝟎 t 𝟎-is) (within-div t v w h K)
+quotient-within {d = d} v w small =
+    within-cond (lt (absolute d) pico) (within-zero 𝟎 _ 𝟎-is) (divided v w small)
 
 -- ---- segments: w is the width, a whole number from 1 to 255
 pub record Sized (s : Segment) (w : ℕ) : Type 0 where
@@ -90,12 +92,11 @@ double-is : {s : Segment} {w : ℕ} → Sized s w → Is (𝟐 ⊗ s .width) (2 
 double-is {s} {w} z = whole-mul 𝟐 (s .width) 2 w (omega arith) 𝟐-is (z .width)
 
 -- right-hand sides
-right-most : {x : Float} → Within x 190 → AtMost (2 ^ 41) 1 x
-right-most w = at-most-more (2 ^ 41) 1 (lit< tt) (lit≤ tt) (w .most)
+right-most : {x : Float} {k : ℕ} → Within x k → k ≤ 190 → AtMost (2 ^ 41) 1 x
+right-most w h = at-most-more (2 ^ 41) 1 (lit< tt) (lit≤ tt) (widen 190 w h .most)
 
 six-most : {x y : Float} → Within x 178 → Within y 178 → AtMost (2 ^ 41) 1 (𝟔 ⊗ (x ⊖ y))
-six-most v w =
-    right-most (within-mul 190 six-within (within-sub v w (lit< tt)) (lit≤ tt) (lit≤ tt))
+six-most v w = right-most (times six-within (minus v w tt) tt) (lit≤ tt)
 
 -- ---- two segments, of the widths u and v
 module _ {p q : Segment} {u v : ℕ} (y : Sized p u) (z : Sized q v) where
@@ -112,7 +113,7 @@ module _ {p q : Segment} {u v : ℕ} (y : Sized p u) (z : Sized q v) where
   }
 
   bend-within : Within (q .secant ⊖ p .secant) 179
-  bend-within = within-sub (z .secant) (y .secant) (lit< tt)
+  bend-within = minus (z .secant) (y .secant) tt
 
   -- what the end rows of not-a-knot have on the diagonal, where f + g is the other factor, ..
   free-diagonal : (f g : Float) (c d : ℕ) → c < 512 → d < 512 → Is f c 0 1 → Is g d 0 1
@@ -124,9 +125,7 @@ module _ {p q : Segment} {u v : ℕ} (y : Sized p u) (z : Sized q v) where
 
   -- .. and on the right
   free-right : {x : Float} → Within x 157 → AtMost (2 ^ 41) 1 (x ⊗ 𝟔 ⊗ (q .secant ⊖ p .secant))
-  free-right w =
-      let scale = within-mul 160 w six-within (lit≤ tt) (lit≤ tt) in
-      right-most (within-mul 190 scale bend-within (lit≤ tt) (lit≤ tt))
+  free-right w = right-most (times (times w six-within tt) bend-within tt) (lit≤ tt)
 
   free-starts : (s : Swept) → Steady (sweep 0 s (notAKnotFirst p q))
   free-starts s =
@@ -148,16 +147,14 @@ module _ {p q : Segment} {u v : ℕ} (y : Sized p u) (z : Sized q v) where
   parabola-within =
       let width : Beyond (p .width ⊕ q .width) 150 =
       least-beyond _ (u + v) 1 2 150 (lit< tt) sum-is (omega arith) (lit≤ tt) in
-      quotient-within pico 179 (within-mul 180 two-within bend-within (lit≤ tt) (lit≤ tt)) width
-      (lit≤ tt) (lit≤ tt)
+      quotient-within (times two-within bend-within tt) width tt
 
   recovered-within : {f g : Float} → Within f 215 → Within g 215 → Within (recovered p q f g) 225
   unfolding recovered
   recovered-within vf vg =
       let width = least-beyond (q .width) v 1 1 149 (lit< tt) (z .width) (z .some) (lit≤ tt) in
-      let ratio = quotient-within pico 157 (width-within y) width (lit≤ tt) (lit≤ tt) in
-      let change = within-mul 224 ratio (within-sub vf vg (lit< tt)) (lit≤ tt) (lit≤ tt) in
-      within-add (widen 224 vf (lit≤ tt)) change (lit< tt)
+      let ratio = quotient-within (width-within y) width tt in
+      plus vf (times ratio (minus vf vg tt) tt) tt
 
 -- ---- a system of m rows: the first, those between, and the last where that is not the first
 record System (rows : ℕ → Row) (m : ℕ) : Type 0 where
@@ -192,8 +189,7 @@ framed-within : (n : ℕ) (first last : Float) (inside : ℕ → Float) (i : ℕ
 unfolding framed
 framed-within n first last inside i l v w each =
     within-test (eqb i 0) v (λ later. within-test (eqb (i + 1) n) w (λ more.
-    let between = each (i - 1) (omega (arith, eqb-false i 0 later, eqb-false (i + 1) n more)) in
-    widen 225 between (lit≤ tt)))
+    widen 225 (each (i - 1) (omega (arith, eqb-false))) (lit≤ tt)))
 
 -- what the rule that carries slopes asks of them
 abbrev pub SlopesWithin : SplineBoundary → Type 0
@@ -296,4 +292,4 @@ module _ {xs ys : List Float} {n : ℕ} {a h : ℕ → ℕ} (r : Rows xs ys n a 
       let three : 3 ≤ n = ltb-false n 3 few in
       let middle = parabola-within (sized 0 (omega arith)) (sized 1 (omega arith)) in
       within-test (eqb n 3) (widen 225 middle (lit≤ tt)) (λ more.
-      ends-within (omega (arith, eqb-false n 3 more)) i l))
+      ends-within (omega (arith, eqb-false)) i l))

@@ -10,16 +10,15 @@ use native.Mathlib.Omega.{arith}
 use lib.Dec.{lit<, lit≤}
 use lib.IntN.{ℤ, pos, negsuc}
 use lib.Signed.{mag}
-use lib.Ieee.{Float, binary32, round, ofInt}
+use lib.Ieee.{Float, binary32, round, ofInt, ofBits}
 use lib.Ieee.Back.{round-whole}
 use lib.Ieee.Positive.{den, den-pos}
 use Rattle.floats.specs.Notation.{_⊖_, _⊗_}
 use Rattle.floats.specs.Value.{top, is-of-le, is-of-neg}
 use Rattle.floats.specs.Order.{finite-between}
 use Rattle.floats.specs.Small.{whole-mul}
-use Rattle.floats.specs.Within.{Within, Beyond, widen, within-is, within-cond}
-use Rattle.floats.specs.Within.{within-add, within-sub, within-mul, within-div}
-use Rattle.single.specs.Constants.{𝟎, 𝟐, 𝟔, 𝟐𝟓𝟓, 𝟐𝟓𝟔, 𝟎-is, 𝟐-is, 𝟔-is, 𝟐𝟓𝟓-is, 𝟐𝟓𝟔-is}
+use Rattle.floats.specs.Within.{Within, Beyond, beyond-of, within-is, widen}
+use Rattle.single.specs.Constants.{𝟎, 𝟐, 𝟔, 𝟐𝟓𝟓, 𝟐𝟓𝟔, 𝟎-is, 𝟔-is, 𝟐𝟓𝟓-is}
 use Rattle.single.specs.RuleLaws.{float-is}
 use Rattle.points.specs.declared.Knot.{Knot}
 use Rattle.points.specs.Knots.{knotAt, at, tooThin}
@@ -28,6 +27,7 @@ use Rattle.segments.specs.Rows.{Rows}
 use Rattle.segments.specs.SegmentLaws.{InRange, nonnegative-is, segment-holds}
 use Rattle.spline.specs.Segments.{between, segmentAt, firstCoefficient, splinePiece, slopeOf}
 use Rattle.table_facts.specs.Sizes.{most-within, two-within, Small, knot-small}
+use Rattle.table_facts.specs.Sizes.{plus, minus, times, divided, either}
 use Rattle.table_facts.specs.SplineBounds.{least-beyond, Sized, width-within, sized}
 
 -- ---- slopes
@@ -45,43 +45,37 @@ signed-within (negsuc n) h =
 
 -- no larger than what is known of a secant
 pub slope-of-within : (q : ℤ) → mag q < 32768 → Within (slopeOf q) 178
-unfolding slopeOf
+unfolding slopeOf ofBits
 slope-of-within q h =
-    let divisor = least-beyond 𝟐𝟓𝟔 256 1 256 157 (lit< tt) 𝟐𝟓𝟔-is (lit≤ tt) (lit≤ tt) in
-    within-div 178 (signed-within q h) divisor (lit≤ tt) (lit≤ tt)
+    let divisor : Beyond 𝟐𝟓𝟔 157 = beyond-of tt (lit≤ tt) in
+    widen 178 (divided (signed-within q h) divisor tt) (lit≤ tt)
 
 -- ---- a piece
 two-beyond : Beyond 𝟐 150
-two-beyond = least-beyond 𝟐 2 1 2 150 (lit< tt) 𝟐-is (lit≤ tt) (lit≤ tt)
+unfolding ofBits
+two-beyond = beyond-of tt (lit≤ tt)
 
 six-beyond : Beyond 𝟔 151
-six-beyond = least-beyond 𝟔 6 1 6 151 (lit< tt) 𝟔-is (lit≤ tt) (lit≤ tt)
+unfolding ofBits
+six-beyond = beyond-of tt (lit≤ tt)
 
 -- t is x less the x of the knot a
 piece-within : {a : Knot} (b : Knot) {ma mb x : Float} {w : ℕ} → Small a → Sized (between a b) w
     → Within ma 225 → Within mb 225 → Within x 157 → Within (splinePiece a b ma mb x) 252
 unfolding splinePiece firstCoefficient between
 piece-within {a} b {w = w} p z va vb vx =
-    let t = within-sub vx (p .across) (lit< tt) in
-    let twice = within-mul 226 two-within va (lit≤ tt) (lit≤ tt) in
-    let sum = within-add twice (widen 226 vb (lit≤ tt)) (lit< tt) in
-    let bend = within-mul 235 (width-within z) sum (lit≤ tt) (lit≤ tt) in
-    let sixth = within-div 233 bend six-beyond (lit≤ tt) (lit≤ tt) in
-    let c1 = within-sub (widen 233 (z .secant) (lit≤ tt)) sixth (lit< tt) in
-    let c2 = within-div 224 va two-beyond (lit≤ tt) (lit≤ tt) in
+    let t = minus vx (p .across) tt in
+    let sum = plus (times two-within va tt) vb tt in
+    let c1 = minus (z .secant) (divided (times (width-within z) sum tt) six-beyond tt) tt in
+    let c2 = divided va two-beyond tt in
     let six-widths = whole-mul 𝟔 (b .x ⊖ a .x) 6 w (omega arith) 𝟔-is (z .width) in
     let divisor : Beyond (𝟔 ⊗ (b .x ⊖ a .x)) 151 =
     least-beyond _ (6 * w) 1 6 151 (lit< tt) six-widths (omega arith) (lit≤ tt) in
-    let c3 = within-div 224 (within-sub vb va (lit< tt)) divisor (lit≤ tt) (lit≤ tt) in
-    let first = within-mul 243 c1 t (lit≤ tt) (lit≤ tt) in
-    let second = within-mul 244 (within-mul 233 c2 t (lit≤ tt) (lit≤ tt)) t (lit≤ tt) (lit≤ tt) in
-    let c3-square =
-    within-mul 242 (within-mul 233 c3 t (lit≤ tt) (lit≤ tt)) t (lit≤ tt) (lit≤ tt) in
-    let third = within-mul 251 c3-square t (lit≤ tt) (lit≤ tt) in
-    let two-terms = within-add (widen 243 (p .high) (lit≤ tt)) first (lit< tt) in
-    let three-terms = widen 251 (within-add two-terms second (lit< tt)) (lit≤ tt) in
-    within-cond (tooThin (a .x) (b .x)) (widen 252 (p .high) (lit≤ tt))
-    (within-add three-terms third (lit< tt))
+    let c3 = divided (minus vb va tt) divisor tt in
+    let linear = plus (p .high) (times c1 t tt) tt in
+    let square = plus linear (times (times c2 t tt) t tt) tt in
+    let cubic = plus square (times (times (times c3 t tt) t tt) t tt) tt in
+    either (tooThin (a .x) (b .x)) (p .high) cubic
 
 -- ---- a curve
 -- where it has a height

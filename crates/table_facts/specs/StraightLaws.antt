@@ -18,7 +18,7 @@ use Rattle.floats.specs.Frac.{Frac, frac, Below, Close, total, close-same}
 use Rattle.floats.specs.Calc.{val}
 use Rattle.floats.specs.Line as Line
 use Rattle.floats.specs.Position.{Position}
-use Rattle.floats.specs.Segment.{width-is, width-some, at-float, at-start, at-end}
+use Rattle.floats.specs.Segment.{width-is, at-float, at-start, at-end}
 use Rattle.floats.specs.Segment.{
   line-start,
   line-end,
