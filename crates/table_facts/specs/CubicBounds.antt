@@ -1,14 +1,10 @@
 -- The cubic piece is finite at every position, where its tangents are at most 2 ^ 220 units.
 use mathlib.Core.List.{List}
-use Prim.Native.Nat.{ℕ, _+_, _^_, _<_}
-use native.Mathlib.Nat.{le-of-eq, mul-comm}
+use Prim.Native.Nat.{ℕ, _+_, _<_}
 use native.Mathlib.Omega.{arith}
-use lib.Dec.{T}
-use lib.Ieee.{Float, le}
-use lib.Ieee.Scale.{finite}
-use lib.Ieee.Positive.{den, den-pos}
-use Rattle.floats.specs.Value.{top, is-of-le}
-use Rattle.floats.specs.Position.{part-near, part-low, part-high}
+use lib.Dec.{lit≤}
+use lib.Ieee.{Float}
+use Rattle.floats.specs.Position.{part-low, part-high}
 use Rattle.floats.specs.Segment.{at-float}
 use Rattle.floats.specs.Within.{Within}
 use Rattle.single.specs.Constants.{𝟎, 𝟏, 𝟎-is, 𝟏-is}
@@ -17,14 +13,14 @@ use Rattle.segments.specs.Segments.{segment}
 use Rattle.points.specs.Knots.{at}
 use Rattle.hermite.specs.Hermite.{hermite}
 use Rattle.segments.specs.Rows.{Rows, piece}
-use Rattle.segments.specs.SegmentLaws.{InRange, nonnegative-is, segment-holds}
+use Rattle.segments.specs.SegmentLaws.{InRange, segment-holds}
 use Rattle.table_facts.specs.StraightLaws.{part-plain}
 use Rattle.table_facts.specs.CubicLaws.{cubicAt}
 use Rattle.table_facts.specs.Sizes.{
-  most-within,
   one-within,
   two-within,
   three-within,
+  upto-within,
   plus,
   minus,
   times,
@@ -32,14 +28,6 @@ use Rattle.table_facts.specs.Sizes.{
   run-within,
   knot-small,
 }
-
--- what is from 0 to 1
-unit-within : (t : Float) → T (finite t) → T (le 𝟎 t) → T (le t 𝟏) → Within t 149
-unit-within t f low high =
-    let i = nonnegative-is t f low in
-    let most = is-of-le t 𝟏 (top t) 0 (den t) 1 0 1 i 𝟏-is high in
-    most-within t (top t) (den t) (den t) 149 (den-pos t) i (omega arith)
-    (le-of-eq (mul-comm (den t) (2 ^ 149)))
 
 hermite-within : {a b : Knot} {ma mb t : Float} → Small a → Small b → Within ma 220 → Within mb 220
     → Within t 149 → Within (hermite a b ma mb t) 234
@@ -67,4 +55,4 @@ module _ {xs ys : List Float} {n : ℕ} {a h : ℕ → ℕ} (r : Rows xs ys n a 
       hermite-within (knot-small r s l) (knot-small r (s + 1) (k .inside)) (tame s l)
       (tame (s + 1) (k .inside))
       (rw (part-plain r s x (k .inside))
-      (unit-within _ (part-near at-x .fin) (part-low at-x 𝟎 𝟎-is) (part-high at-x 𝟏 𝟏-is)))
+      (upto-within _ 𝟏 1 149 𝟏-is (part-low at-x 𝟎 𝟎-is) (part-high at-x 𝟏 𝟏-is) (lit≤ tt)))

@@ -6,12 +6,15 @@ use mathlib.Core.Logic.{inl}
 use mathlib.Core.Bool.{Bool, false, cond}
 use mathlib.Core.List.{List}
 use Prim.Native.Nat.{ℕ, suc, _+_, _-_, _*_, _^_, max, _≤_, _<_}
-use native.Mathlib.Nat.{le-trans, le-max-left, le-max-right, zero-add, mul-le-mul-right}
+use native.Mathlib.Nat.{le-trans, le-max-left, le-max-right}
+use native.Mathlib.Nat.{zero-add, mul-right-comm, mul-le-mul-right}
 use native.Mathlib.Omega.{arith}
 use lib.Dec.{T, lit<, lit≤, ltb, leb}
-use lib.Ieee.{Float, lt, ofBits}
+use lib.Ieee.{Float, lt, le, ofBits}
+use lib.Ieee.Positive.{den, den-pos}
 use Rattle.floats.specs.Notation.{_⊕_, _⊖_, _⊗_, _⊘_}
-use Rattle.floats.specs.Value.{Is, unsigned, absolute}
+use Rattle.floats.specs.Value.{Is, top, is-of-le, unsigned, absolute}
+use Rattle.floats.specs.Order.{finite-between}
 use Rattle.floats.specs.Within.{
   Within,
   Beyond,
@@ -33,12 +36,22 @@ use Rattle.single.specs.Rules.{guardedQuotient}
 use Rattle.points.specs.declared.Knot.{Knot}
 use Rattle.points.specs.Knots.{knotAt, before, after}
 use Rattle.segments.specs.Rows.{Rows, x-most}
+use Rattle.segments.specs.SegmentLaws.{nonnegative-is}
 
 -- ---- numbers that are not negative: p / c, p being at most b
 pub most-within : (x : Float) (p c b k : ℕ) → 0 < c → Is x p 0 c → p ≤ b → b * 2 ^ 149 ≤ 2 ^ k * c
     → Within x k
 most-within x p c b k C i l h =
     within-is x p 0 c p k C i (inl (sym (zero-add p))) (le-trans (mul-le-mul-right (2 ^ 149) l) h)
+
+-- what is from 0 to the whole number b
+pub upto-within : (x y : Float) (b k : ℕ) → Is y b 0 1 → T (le 𝟎 x) → T (le x y)
+    → b * 2 ^ 149 ≤ 2 ^ k → Within x k
+upto-within x y b k e low high small =
+    let i = nonnegative-is x (finite-between 𝟎 x y (𝟎-is .0) (e .0) low high) low in
+    let most = is-of-le x y (top x) 0 (den x) b 0 1 i e high in
+    most-within x (top x) (den x) (b * den x) k (den-pos x) i (omega arith)
+    (rw mul-right-comm (mul-le-mul-right (den x) small))
 
 pub half-within : Within ½ 148
 unfolding ofBits

@@ -4,7 +4,7 @@ use mathlib.Core.Path.{sym}
 use mathlib.Core.Logic.{inr}
 use mathlib.Core.Bool.{true}
 use mathlib.Core.List.{List}
-use Prim.Native.Nat.{ℕ, suc, _+_, _*_, _^_, _≤_, _<_}
+use Prim.Native.Nat.{ℕ, suc, _+_, _*_, _^_, _<_}
 use native.Mathlib.Nat.{le-trans, zero-add, mul-le-mul-right}
 use native.Mathlib.Omega.{arith}
 use lib.Dec.{lit<, lit≤}
@@ -12,21 +12,19 @@ use lib.IntN.{ℤ, pos, negsuc}
 use lib.Signed.{mag}
 use lib.Ieee.{Float, binary32, round, ofInt, ofBits}
 use lib.Ieee.Back.{round-whole}
-use lib.Ieee.Positive.{den, den-pos}
 use Rattle.floats.specs.Notation.{_⊖_, _⊗_}
-use Rattle.floats.specs.Value.{top, is-of-le, is-of-neg}
-use Rattle.floats.specs.Order.{finite-between}
+use Rattle.floats.specs.Value.{is-of-neg}
 use Rattle.floats.specs.Small.{whole-mul}
 use Rattle.floats.specs.Within.{Within, Beyond, beyond-of, within-is, widen}
-use Rattle.single.specs.Constants.{𝟎, 𝟐, 𝟔, 𝟐𝟓𝟓, 𝟐𝟓𝟔, 𝟎-is, 𝟔-is, 𝟐𝟓𝟓-is}
+use Rattle.single.specs.Constants.{𝟐, 𝟔, 𝟐𝟓𝟓, 𝟐𝟓𝟔, 𝟔-is, 𝟐𝟓𝟓-is}
 use Rattle.single.specs.RuleLaws.{float-is}
 use Rattle.points.specs.declared.Knot.{Knot}
 use Rattle.points.specs.Knots.{knotAt, at, tooThin}
 use Rattle.segments.specs.Segments.{segment}
 use Rattle.segments.specs.Rows.{Rows}
-use Rattle.segments.specs.SegmentLaws.{InRange, nonnegative-is, segment-holds}
+use Rattle.segments.specs.SegmentLaws.{InRange, segment-holds}
 use Rattle.spline.specs.Segments.{between, segmentAt, firstCoefficient, splinePiece, slopeOf}
-use Rattle.table_facts.specs.Sizes.{most-within, two-within, Small, knot-small}
+use Rattle.table_facts.specs.Sizes.{most-within, upto-within, two-within, Small, knot-small}
 use Rattle.table_facts.specs.Sizes.{plus, minus, times, divided, either}
 use Rattle.table_facts.specs.SplineBounds.{least-beyond, Sized, width-within, sized}
 
@@ -78,18 +76,6 @@ piece-within {a} b {w = w} p z va vb vx =
     either (tooThin (a .x) (b .x)) (p .high) cubic
 
 -- ---- a curve
--- where it has a height
-range-within : (x : Float) → InRange x → Within x 157
-range-within x p =
-    let f = finite-between 𝟎 x 𝟐𝟓𝟓 (𝟎-is .0) (𝟐𝟓𝟓-is .0) (p .low) (p .high) in
-    let i = nonnegative-is x f (p .low) in
-    let most = is-of-le x 𝟐𝟓𝟓 (top x) 0 (den x) 255 0 1 i 𝟐𝟓𝟓-is (p .high) in
-    most-within x (top x) (den x) (256 * den x) 157 (den-pos x) i (omega arith)
-    (units (den x) (2 ^ 149))
-  where
-    units : (d u : ℕ) → 256 * d * u ≤ 256 * u * d
-    units d u = omega arith
-
 -- the piece in the segment of x, with the second derivatives of the row ms
 abbrev pub splineAt : List Float → List Float → List Float → ℕ → Float → Float
 splineAt xs ys ms n x =
@@ -105,4 +91,4 @@ module _ {xs ys : List Float} {n : ℕ} {a h : ℕ → ℕ} (r : Rows xs ys n a 
       let k = segment-holds r x (p .low) (p .high) in
       let l : s < n = omega (arith, k .inside) in
       piece-within (knotAt xs ys (s + 1)) (knot-small r s l) (sized r s (k .inside)) (tame s l)
-      (tame (s + 1) (k .inside)) (range-within x p)
+      (tame (s + 1) (k .inside)) (upto-within x 𝟐𝟓𝟓 255 157 𝟐𝟓𝟓-is (p .low) (p .high) (lit≤ tt))
