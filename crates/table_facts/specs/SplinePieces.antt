@@ -1,45 +1,43 @@
 -- The piece of a spline is finite at every position, where its second derivatives are at most
 -- 2 ^ 225 units; and how large the slopes of a clamped curve are.
-use mathlib.Core.Path.{sym}
-use mathlib.Core.Logic.{inr}
-use mathlib.Core.Bool.{true}
+use mathlib.Core.Bool.{Bool, true, false}
 use mathlib.Core.List.{List}
-use Prim.Native.Nat.{ℕ, suc, _+_, _*_, _^_, _<_}
-use native.Mathlib.Nat.{le-trans, zero-add, mul-le-mul-right}
+use Prim.Native.Nat.{ℕ, suc, _+_, _*_, _^_, _≤_, _<_}
+use native.Mathlib.Nat.{le-trans, le-of-lt, mul-le-mul-right}
 use native.Mathlib.Omega.{arith}
 use lib.Dec.{lit<, lit≤}
+use lib.Pow.{pow-pos}
 use lib.IntN.{ℤ, pos, negsuc}
 use lib.Signed.{mag}
 use lib.Ieee.{Float, binary32, round, ofInt, ofBits}
-use lib.Ieee.Back.{round-whole}
 use Rattle.floats.specs.Notation.{_⊖_, _⊗_}
-use Rattle.floats.specs.Value.{is-of-neg}
+use Rattle.floats.specs.Exact.{rep-power}
 use Rattle.floats.specs.Small.{whole-mul}
-use Rattle.floats.specs.Within.{Within, Beyond, beyond-of, within-is, widen}
+use Rattle.floats.specs.Bound.{round-at-most}
+use Rattle.floats.specs.Within.{Within, Beyond, beyond-of, widen}
 use Rattle.single.specs.Constants.{𝟐, 𝟔, 𝟐𝟓𝟓, 𝟐𝟓𝟔, 𝟔-is, 𝟐𝟓𝟓-is}
-use Rattle.single.specs.RuleLaws.{float-is}
 use Rattle.points.specs.declared.Knot.{Knot}
 use Rattle.points.specs.Knots.{knotAt, at, tooThin}
 use Rattle.segments.specs.Segments.{segment}
 use Rattle.segments.specs.Rows.{Rows}
 use Rattle.segments.specs.SegmentLaws.{InRange, segment-holds}
 use Rattle.spline.specs.Segments.{between, segmentAt, firstCoefficient, splinePiece, slopeOf}
-use Rattle.table_facts.specs.Sizes.{most-within, upto-within, two-within, Small, knot-small}
+use Rattle.table_facts.specs.Sizes.{upto-within, two-within, Small, knot-small}
 use Rattle.table_facts.specs.Sizes.{plus, minus, times, divided, either}
 use Rattle.table_facts.specs.SplineBounds.{least-beyond, Sized, width-within, sized}
 
 -- ---- slopes
 -- a signed number of 16 bits
+rounded-within : (s : Bool) (n : ℕ) → n ≤ 32768 → Within (round binary32 s n 1) 164
+rounded-within s n h = record {
+  most = round-at-most binary32 s n 1 (2 ^ 164) (2 ^ 149) (lit< tt) (pow-pos 149)
+      (rep-power 164 (lit≤ tt)) (le-trans (mul-le-mul-right (2 ^ 149) h) (lit≤ tt));
+}
+
 signed-within : (q : ℤ) → mag q < 32768 → Within (ofInt binary32 q) 164
 unfolding ofInt
-signed-within (pos n) h =
-    most-within (ofInt binary32 (pos n)) n 1 32768 164 (lit< tt) (float-is n (omega arith))
-    (omega arith) (lit≤ tt)
-signed-within (negsuc n) h =
-    let z = round binary32 true (suc n) 1 in
-    let i = is-of-neg z (suc n) 1 (round-whole binary32 true (suc n) (omega arith)) in
-    within-is z 0 (suc n) 1 (suc n) 164 (lit< tt) i (inr (sym (zero-add (suc n))))
-    (le-trans (mul-le-mul-right (2 ^ 149) h) (lit≤ tt))
+signed-within (pos n) h = rounded-within false n (le-of-lt h)
+signed-within (negsuc n) h = rounded-within true (suc n) h
 
 -- no larger than what is known of a secant
 pub slope-of-within : (q : ℤ) → mag q < 32768 → Within (slopeOf q) 178
