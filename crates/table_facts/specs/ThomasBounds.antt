@@ -6,7 +6,8 @@ use Prim.Native.Nat.{ℕ, zero, suc, _+_, _-_, _*_, _/_, _^_, _≤_, _<_}
 use native.Mathlib.Decide.{ℕ-discrete}
 use native.Mathlib.Nat.{le-trans, lt-of-not-le, not-le-of-lt, ne-of-gt}
 use native.Mathlib.Nat.{mul-le-mul, mul-le-mul-left, mul-le-mul-right}
-use native.Mathlib.Nat.{le-of-mul-le-mul-right, div-mul-le-self, lt-div-mul-add}
+use native.Mathlib.Nat.{le-of-mul-le-mul-right, lt-of-mul-lt-mul-right}
+use native.Mathlib.Nat.{div-mul-le-self, lt-div-mul-add}
 use native.Mathlib.Omega.{arith}
 use borrow.Author.Tests.{ne-eqb}
 use lib.Dec.{lit<, lit≤}
@@ -56,24 +57,13 @@ inverse-of : (j n : ℕ) → j ≤ 149 → 0 < n → 2 ^ j + n < 2 ^ 24 * n → 
 inverse-of j n J N s =
     let low = lt-div-mul-add {a = 2 ^ j} N in
     let high = div-mul-le-self (2 ^ j) n in
-    let few = small (2 ^ j / n) (2 ^ j) (2 ^ 24) high s in
-    record { pos = N; fine = J; small = few; least = omega arith; most = omega arith }
-  where
-    small : (q u t : ℕ) → q * n ≤ u → u + n < t * n → q + 1 < t
-    small q u t h k =
-        lt-of-not-le (λ (l : t ≤ q + 1). not-le-of-lt k (omega (arith, mul-le-mul-right n l)))
-
--- where the guard's test holds, the inverse is 0, which is no larger
-inverse-most : {n j r : ℕ} (x : Float) → Inverse n j r → AtLeast n 1 x
-    → AtMost r (2 ^ j) (inverse x)
-unfolding guardedQuotient
-inverse-most {n} {j} {r} x v h =
-    let u = 2 ^ j in
-    let rep = rep-dyadic r j (v .fine) (v .small) in
-    let one = whole-most 𝟏 𝟏-is in
-    at-most-cond (lt (absolute x) pico)
-    (at-most-more r u (pow-pos j) (omega arith) (whole-most 𝟎 𝟎-is))
-    (at-most-div binary32 r u (pow-pos j) rep one h (v .pos) (omega arith))
+    record {
+      pos = N;
+      fine = J;
+      small = lt-of-mul-lt-mul-right n (omega arith);
+      least = omega arith;
+      most = omega arith;
+    }
 
 -- ---- rows over their pivots
 -- above the diagonal is at most 1, and on the right-hand side at most t * 2 ^ 41
@@ -87,45 +77,55 @@ steady h = record { above = h .above; right = h .right }
 bounded : {s : Swept} → Over (2 ^ 17) s → Bounded s
 bounded h = record { above = h .above; right = h .right }
 
--- where the pivot is at least n, c at most a and d at most b * 2 ^ 41
-scaled-most : {n j r a : ℕ} (b t : ℕ) {pivot c d : Float} → t < 2 ^ 24 → Inverse n j r
-    → AtLeast n 1 pivot → AtMost a 1 c → AtMost (b * 2 ^ 41) 1 d → a * r ≤ 2 ^ j
-    → b * r ≤ t * 2 ^ j → Over t (scaled pivot c d)
-unfolding scaled
-scaled-most {n} {j} {r} {a} b t {pivot} few v h c d l m =
-    let i = inverse-most pivot v h in
-    let one = rep-whole 1 (lit< tt) in
-    let rep = rep-times t 41 few (lit≤ tt) in
-    record {
-      above = at-most-mul binary32 1 1 (lit< tt) one c i (omega arith);
-      right = at-most-mul binary32 (t * 2 ^ 41) 1 (lit< tt) rep d i (many (2 ^ 41) (2 ^ j) m);
-    }
-  where
-    many : (w u : ℕ) → b * r ≤ t * u → b * w * r * 1 ≤ t * w * (1 * u)
-    many w u h = omega (arith, mul-le-mul-right w h)
+module _ {n j r : ℕ} (v : Inverse n j r) where
+  -- where the guard's test holds, the inverse is 0, which is no larger
+  inverse-most : (x : Float) → AtLeast n 1 x → AtMost r (2 ^ j) (inverse x)
+  unfolding guardedQuotient
+  inverse-most x h =
+      let u = 2 ^ j in
+      at-most-cond (lt (absolute x) pico)
+      (at-most-more r u (pow-pos j) (omega arith) (whole-most 𝟎 𝟎-is))
+      (at-most-div binary32 r u (pow-pos j) (rep-dyadic r j (v .fine) (v .small)) (whole-most 𝟏 𝟏-is)
+      h (v .pos) (omega arith))
 
--- the first row, where the inverse is at most 2
-first-most : {n j r c : ℕ} (row : Row) (s : Swept) → Inverse n j r → 23 ≤ j → Is (row .b) n 0 1
-    → AtMost c 1 (row .c) → AtMost (2 ^ 41) 1 (row .d) → c * r ≤ 2 ^ j → Steady (sweep 0 s row)
-unfolding sweep
-first-most {j = j} row s v J b c d l =
-    steady
-    (scaled-most 1 2 (lit< tt) v (whole-least (row .b) b) c d l
-    (omega (arith, pow-mono {i = 23} {j = j} J)))
+  -- where the pivot is at least n, c at most a and d at most b * 2 ^ 41
+  scaled-most : {a : ℕ} (b t : ℕ) {pivot c d : Float} → t < 2 ^ 24 → AtLeast n 1 pivot
+      → AtMost a 1 c → AtMost (b * 2 ^ 41) 1 d → a * r ≤ 2 ^ j → b * r ≤ t * 2 ^ j
+      → Over t (scaled pivot c d)
+  unfolding scaled
+  scaled-most b t {pivot} few h c d l m =
+      let i = inverse-most pivot h in
+      let rep = rep-times t 41 few (lit≤ tt) in
+      record {
+        above = at-most-mul binary32 1 1 (lit< tt) (rep-whole 1 (lit< tt)) c i (omega arith);
+        right = at-most-mul binary32 (t * 2 ^ 41) 1 (lit< tt) rep d i (many (2 ^ 41) (2 ^ j) m);
+      }
+    where
+      many : (w u : ℕ) → b * r ≤ t * u → b * w * r * 1 ≤ t * w * (1 * u)
+      many w u h = omega (arith, mul-le-mul-right w h)
 
--- a later row, whose pivot is at least b - a
-later-most : {a b c n j r : ℕ} (t k : ℕ) {s : Swept} (row : Row) → t < 2 ^ 24 → Inverse n j r
-    → Steady s → AtMost a 1 (row .a) → Is (row .b) b 0 1 → AtMost c 1 (row .c)
-    → AtMost (2 ^ 41) 1 (row .d) → n + a ≤ b → b + a < 2 ^ 24 → c * r ≤ 2 ^ j
-    → (2 * a + 1) * r ≤ t * 2 ^ j → Over t (sweep (suc k) s row)
-unfolding sweep
-later-most {a} {n = n} t k row few v h ia ib ic id l m e f =
-    let below = mul-most (rep-whole a (omega arith)) ia (h .above) (omega arith) in
-    let twice = rep-times (2 * a) 41 (omega arith) (lit≤ tt) in
-    let more = rep-times (2 * a + 1) 41 (omega (arith, v .pos)) (lit≤ tt) in
-    let right = sub-most more id (mul-most twice ia (h .right) (omega arith)) (omega arith) in
-    rw (ne-eqb (suc k) 0 (ne-of-gt (omega arith)))
-    (scaled-most (2 * a + 1) t few v (sub-least (row .b) n l m ib below) ic right e f)
+  -- the first row, where the inverse is at most 2
+  first-most : {c : ℕ} (row : Row) (s : Swept) → 23 ≤ j → Is (row .b) n 0 1 → AtMost c 1 (row .c)
+      → AtMost (2 ^ 41) 1 (row .d) → c * r ≤ 2 ^ j → Steady (sweep 0 s row)
+  unfolding sweep
+  first-most row s J b c d l =
+      steady
+      (scaled-most 1 2 (lit< tt) (whole-least (row .b) b) c d l
+      (omega (arith, pow-mono {i = 23} {j = j} J)))
+
+  -- a later row, whose pivot is at least b - a
+  later-most : {a b c : ℕ} (t k : ℕ) {s : Swept} (row : Row) → t < 2 ^ 24 → Steady s
+      → AtMost a 1 (row .a) → Is (row .b) b 0 1 → AtMost c 1 (row .c) → AtMost (2 ^ 41) 1 (row .d)
+      → n + a ≤ b → b + a < 2 ^ 24 → c * r ≤ 2 ^ j → (2 * a + 1) * r ≤ t * 2 ^ j
+      → Over t (sweep (suc k) s row)
+  unfolding sweep
+  later-most {a} t k row few h ia ib ic id l m e f =
+      let below = mul-most (rep-whole a (omega arith)) ia (h .above) (omega arith) in
+      let twice = rep-times (2 * a) 41 (omega arith) (lit≤ tt) in
+      let more = rep-times (2 * a + 1) 41 (omega (arith, v .pos)) (lit≤ tt) in
+      let right = sub-most more id (mul-most twice ia (h .right) (omega arith)) (omega arith) in
+      rw (ne-eqb (suc k) 0 (ne-of-gt (omega arith)))
+      (scaled-most (2 * a + 1) t few (sub-least (row .b) n l m ib below) ic right e f)
 
 -- ---- r / u is the inverse of n, as `Inverse` has it
 -- a * r / u is at most 1, where a is less than n by no less than f
@@ -153,7 +153,7 @@ small-first : {n q : ℕ} (r : Row) (s : Swept) → 0 < n → n ≤ 1020 → q <
 small-first {n} {q} r s N m l b c d =
     let v = small n N in
     let above = small-most q 1 (lit≤ tt) (omega arith) m v in
-    first-most r s v (lit≤ tt) b (whole-most (r .c) c) d above
+    first-most v r s (lit≤ tt) b (whole-most (r .c) c) d above
 
 -- ---- inner knots
 -- the row of an inner knot between segments p and q wide, whole numbers
@@ -175,7 +175,7 @@ inner-next {p} {q} k {r = r} P p< Q q< i h =
     let above = small-most q 1 (lit≤ tt) (omega arith) (omega arith) v in
     let right = small-most (2 * p + 1) 2 (lit≤ tt) (omega arith) (omega arith) v in
     steady
-    (later-most 2 k r (lit< tt) v h (whole-most (r .a) (i .a)) (i .b) (whole-most (r .c) (i .c))
+    (later-most v 2 k r (lit< tt) h (whole-most (r .a) (i .a)) (i .b) (whole-most (r .c) (i .c))
     (i .d) (omega arith) (omega arith) above right)
 
 -- ---- slopes given
@@ -192,7 +192,7 @@ last-most j k r J h a b c d l m f =
     let v : Inverse (2 ^ j) j 1 =
     record { pos = P; fine = J; small = lit< tt; least = omega arith; most = omega arith } in
     let zero = whole-most (r .c) c in
-    bounded (later-most (2 ^ 17) k r (lit< tt) v h a b zero d l m (omega arith) (omega arith))
+    bounded (later-most v (2 ^ 17) k r (lit< tt) h a b zero d l m (omega arith) (omega arith))
 
 pub clamped-last : {p : ℕ} (k : ℕ) {s : Swept} (r : Row) → 0 < p → p < 256 → Is (r .a) p 0 1
     → Is (r .b) (2 * p) 0 1 → Is (r .c) 0 0 1 → AtMost (2 ^ 41) 1 (r .d) → Steady s
@@ -228,7 +228,7 @@ free-first {h} {g} r s H h< G g< b c d =
     let o = inverse-of 26 n (lit≤ tt) (omega (arith, size .0)) (omega (arith, size .0)) in
     let many = times-least 86 390150 n i (2 ^ 26) (lit< tt) (lit≤ tt) (size .1) (o .least) in
     let near : v ≤ f * 86 = omega arith in
-    first-most r s o (lit≤ tt) b c d
+    first-most o r s (lit≤ tt) b c d
     (free-most h g e f i (2 ^ 26) (omega arith) (le-trans near (mul-le-mul-left f many)) (o .most))
 
 -- e is |h - g|
