@@ -231,21 +231,17 @@ free-first {h} {g} r s H h< G g< b c d =
     first-most o r s (lit≤ tt) b c d
     (free-most h g e f i (2 ^ 26) (omega arith) (le-trans near (mul-le-mul-left f many)) (o .most))
 
--- e is |h - g|
-free-least : (h g e : ℕ) → 0 < h → h < 256 → 0 < g → g < 256 → e ≤ 254 → e < 2 * h + g
-    → (2 + e * (h + g) ≤ (h + g) * (2 * h + g)) × (e * (h + g) ≤ 129540)
-free-least h g e H h< G g< m l =
-    (omega (arith, mul-le-mul-right (h + g) l), mul-le-mul {n₂ = 254} {m₂ = 510} m (omega arith))
-
 pub free-last : {h g : ℕ} (k : ℕ) {s : Swept} (r : Row) → 0 < h → h < 256 → 0 < g → g < 256
     → AtMost ((h - g + (g - h)) * (h + g)) 1 (r .a) → Is (r .b) ((h + g) * (2 * h + g)) 0 1
     → Is (r .c) 0 0 1 → AtMost (2 ^ 41) 1 (r .d) → Steady s → Bounded (sweep (suc k) s r)
 free-last {h} {g} k r H h< G g< a b c d i =
-    let v = 2 * h + g in
-    let size = diagonal (h + g) v (omega arith) (omega arith) (omega arith) (omega arith) in
-    let rest = free-least h g (h - g + (g - h)) H h< G g< (omega arith) (omega arith) in
-    last-most 1 k r (lit≤ tt) i a b c d (rest .0) (omega (arith, rest .1))
-    (omega (arith, rest .1))
+    let w = h + g in
+    let e = h - g + (g - h) in
+    let less : e < 2 * h + g = omega arith in
+    let pivot : 2 + e * w ≤ w * (2 * h + g) = omega (arith, mul-le-mul-right w less) in
+    let size = diagonal w (2 * h + g) (omega arith) (omega arith) (omega arith) (omega arith) in
+    let side : e * w ≤ 129540 = mul-le-mul {n₂ = 254} {m₂ = 510} (omega arith) (omega arith) in
+    last-most 1 k r (lit≤ tt) i a b c d pivot (omega arith) (omega arith)
 
 -- ---- back substitution adds at most 2 ^ 58 for each unknown
 module _ (s : ℕ → Swept) (m : ℕ) (few : m ≤ 256) (all : (k : ℕ) → k < m → Bounded (s k)) where
