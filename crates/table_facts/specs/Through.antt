@@ -2,7 +2,6 @@
 -- tables. The seven that are no splines: where a sample is at a kept point's x, it is the
 -- point's y, in the byte table and in the fine one.
 use mathlib.Core.Path.{_≡_, refl, _∙_}
-use mathlib.Core.Logic.{_⊎_, inl, inr}
 use mathlib.Core.Bool.{true, false}
 use mathlib.Core.List.{List, List·Memᴰ}
 use Prim.Native.Nat.{ℕ, _*_, _<_}
@@ -32,6 +31,7 @@ use Rattle.spline.specs.Second.{secondAt}
 use Rattle.table_facts.specs.StraightLaws.{straight-finite}
 use Rattle.table_facts.specs.HermiteKinds.{
   HermiteRule,
+  MadeBy,
   catmull-rom,
   cardinal,
   monotone,
@@ -40,8 +40,8 @@ use Rattle.table_facts.specs.HermiteKinds.{
   kind-finite,
 }
 use Rattle.table_facts.specs.SplineBounds.{SlopesWithin, second-within}
-use Rattle.table_facts.specs.SplinePieces.{slope-of-within, splineAt, spline-within}
-use Rattle.table_facts.specs.ListLaws.{cubicOf, straight-at-point, kind-at-point}
+use Rattle.table_facts.specs.SplinePieces.{slope-of-within, spline-within}
+use Rattle.table_facts.specs.ListLaws.{straight-at-point, kind-at-point}
 use Rattle.tables.specs.declared.CurveInterpolation.{CurveInterpolation}
 use Rattle.tables.specs.declared.CurveInterpolation.the-variants.{
   Linear,
@@ -59,58 +59,34 @@ use Rattle.sampling.specs.declared.Form.the-variants.{Cubic, Spline}
 use Rattle.tables.specs.Kinds.{carriedOf, LegalKind, formOf, knotValueAt, knotValueRow}
 use Rattle.sampling.specs.Pieces.{pieceHeight, heightAt, sampled}
 use Rattle.tables.specs.Tables.{unclampedAt, sampleOf, entryOf}
-use Rattle.table_facts.specs.Given.{sampleX, sample-x-is, fine-x-is}
-use Rattle.table_facts.specs.Given.{linear-height, given-rows}
+use Rattle.table_facts.specs.Given.{sampleX, sample-x-is, fine-x-is, given-rows}
 
 -- none of document 01's "Splines (4, 8, 9)"; a tension is a byte, which is said of Cardinal alone
 pub record NoSpline (k : CurveInterpolation) : Type 0 where
   pub form : formOf k ≡ Spline → ⊥
   pub tension : carriedOf k .tension < 256
 
--- k is drawn by cubic pieces, with tangents by one of the Hermite rules
-record DrawnByCubics (k : CurveInterpolation) : Type 0 where
-  form : formOf k ≡ Cubic
-  rule : HermiteRule (knotValueAt k)
+-- how k is drawn: by straight pieces, by cubic ones with tangents by one of the Hermite rules, or by
+-- a spline's with second derivatives by a boundary rule
+data Drawn (k : CurveInterpolation) : Type 0 where
+  lines : k ≡ Linear → Drawn k
+  cubics : formOf k ≡ Cubic → HermiteRule (knotValueAt k) → Drawn k
+  splines : formOf k ≡ Spline → (rule : SplineBoundary) → (LegalKind k → SlopesWithin rule)
+      → knotValueAt k ≡ (λ xs ys n. secondAt xs ys n rule) → Drawn k
 
--- k is drawn by spline pieces, with second derivatives by a boundary rule
-record DrawnBySplines (k : CurveInterpolation) : Type 0 where
-  form : formOf k ≡ Spline
-  boundary : SplineBoundary
-  slopes : LegalKind k → SlopesWithin boundary
-  second : (xs ys : List Float) (n i : ℕ) → knotValueAt k xs ys n i ≡ secondAt xs ys n boundary i
-
--- each of the ten is Linear, or is drawn in one of the two ways
-three-ways : (k : CurveInterpolation) → carriedOf k .tension < 256
-    → (k ≡ Linear) ⊎ DrawnByCubics k ⊎ DrawnBySplines k
-three-ways Linear byte = inl refl
-three-ways CatmullRom byte = inr (inl (record { form = refl; rule = catmull-rom }))
-three-ways MonotoneCubic byte = inr (inl (record { form = refl; rule = monotone false }))
-three-ways MonotoneCubicBox byte = inr (inl (record { form = refl; rule = monotone true }))
-three-ways NaturalCubic byte =
-    inr (inr (record {
-      form = refl;
-      boundary = Natural;
-      slopes = λ legal. tt;
-      second = λ xs ys n i. refl;
-    }))
-three-ways CentripetalCatmullRom byte = inr (inl (record { form = refl; rule = alpha true }))
-three-ways ChordalCatmullRom byte = inr (inl (record { form = refl; rule = alpha false }))
-three-ways (Cardinal q) byte =
-    inr (inl (record { form = refl; rule = cardinal q (omega arith) }))
+three-ways : (k : CurveInterpolation) → carriedOf k .tension < 256 → Drawn k
+three-ways Linear byte = lines refl
+three-ways CatmullRom byte = cubics refl catmull-rom
+three-ways MonotoneCubic byte = cubics refl (monotone false)
+three-ways MonotoneCubicBox byte = cubics refl (monotone true)
+three-ways NaturalCubic byte = splines refl Natural (λ legal. tt) refl
+three-ways CentripetalCatmullRom byte = cubics refl (alpha true)
+three-ways ChordalCatmullRom byte = cubics refl (alpha false)
+three-ways (Cardinal q) byte = cubics refl (cardinal q (omega arith))
 three-ways (ClampedCubic start end) byte =
-    inr (inr (record {
-      form = refl;
-      boundary = Clamped (slopeOf start) (slopeOf end);
-      slopes = λ legal. (slope-of-within start (legal .start), slope-of-within end (legal .end));
-      second = λ xs ys n i. refl;
-    }))
-three-ways NotAKnotCubic byte =
-    inr (inr (record {
-      form = refl;
-      boundary = NotAKnot;
-      slopes = λ legal. tt;
-      second = λ xs ys n i. refl;
-    }))
+    splines refl (Clamped (slopeOf start) (slopeOf end))
+    (λ legal. (slope-of-within start (legal .start), slope-of-within end (legal .end))) refl
+three-ways NotAKnotCubic byte = splines refl NotAKnot (λ legal. tt) refl
 
 -- a height in 256ths of a byte is not clamped
 byte-kept : (z : Float) (y : ℕ) → y < 256 → Is z (256 * y) 0 256 → clamped z ≡ z
@@ -125,57 +101,37 @@ module _ (l : List Point) (bytes : All Bytes l) where
   is-kept : IsKept (kept l)
   is-kept = kept-is-kept l bytes
 
-  -- the values at the knots, by their rule and in a row
-  abbrev valueAt : CurveInterpolation → ℕ → Float
-  valueAt k i = knotValueAt k (xRow ks) (yRow ks) (length ks) i
-
+  -- the row of the values at the knots
   abbrev knotValues : CurveInterpolation → List Float
   knotValues k = knotValueRow k (xRow ks) (yRow ks) (length ks)
 
-  made : (k : CurveInterpolation) (i : ℕ) → i < length ks → at (knotValues k) i ≡ valueAt k i
-  made k i h = getD-filled (length ks) (valueAt k) (replicate 66 𝟎) i nan h
-
-  -- a Hermite kind is drawn by cubic pieces
-  hermite-height : (k : CurveInterpolation) → formOf k ≡ Cubic → (x : Float)
-      → unclampedAt k l x ≡ cubicOf (kept l) (knotValues k) x
-  unfolding unclampedAt heightAt pieceHeight
-  hermite-height k e x = rw e
-
-  -- and a spline by its own
-  spline-height : (k : CurveInterpolation) → formOf k ≡ Spline → (x : Float)
-      → unclampedAt k l x ≡ splineAt (xRow ks) (yRow ks) (knotValues k) (length ks) x
-  unfolding unclampedAt heightAt pieceHeight
-  spline-height k e x = rw e
+  made : (k : CurveInterpolation) → MadeBy (knotValueAt k) (xRow ks) (yRow ks) (length ks) (knotValues k)
+  made k i h = getD-filled (length ks) _ (replicate 66 𝟎) i nan h
 
   -- ---- every tangent and every second derivative is finite
-  second-small : (k : CurveInterpolation) → LegalKind k → DrawnBySplines k → (i : ℕ) → i < length ks
-      → Within (valueAt k i) 225
-  second-small k h s i inside =
-      rw (s .second (xRow ks) (yRow ks) (length ks) i)
-      (second-within (given-rows l bytes) (s .boundary) (s .slopes h) i inside)
-
   pub knot-values-finite : (k : CurveInterpolation) → LegalKind k → (i : ℕ)
       → i < length (knots (kept l))
       → T (finite (knotValueAt k (xRow (knots (kept l))) (yRow (knots (kept l)))
       (length (knots (kept l))) i))
   knot-values-finite k h i inside = elim (three-ways k (h .tension)) [
-    | inl e ↦ rw e (𝟎-is .0)
-    | inr (inl cubics) ↦ tangent-finite (given-rows l bytes) (cubics .rule) i inside
-    | inr (inr splines) ↦ second-small k h splines i inside .most .fin
+    | lines e ↦ rw e (𝟎-is .0)
+    | cubics form rule ↦ tangent-finite (given-rows l bytes) rule i inside
+    | splines form rule slopes second ↦
+        rw second (second-within (given-rows l bytes) rule (slopes h) i inside .most .fin)
   ]
 
   height-finite : (k : CurveInterpolation) → LegalKind k → (x : Float) → InRange x
       → T (finite (unclampedAt k l x))
+  unfolding unclampedAt heightAt pieceHeight
   height-finite k h x p = elim (three-ways k (h .tension)) [
-    | inl e ↦ rw (e, linear-height l x) (straight-finite (given-rows l bytes) x p)
-    | inr (inl cubics) ↦
-        rw (hermite-height k (cubics .form) x)
-        (kind-finite (given-rows l bytes) (cubics .rule) (knotValues k) (made k) x p)
-    | inr (inr splines) ↦
+    | lines e ↦ rw e (straight-finite (given-rows l bytes) x p)
+    | cubics form rule ↦
+        rw form (kind-finite (given-rows l bytes) rule (knotValues k) (made k) x p)
+    | splines form rule slopes second ↦
         let small : (i : ℕ) → i < length ks → Within (at (knotValues k) i) 225 =
-        λ i inside. rw (made k i inside) (second-small k h splines i inside) in
-        rw (spline-height k (splines .form) x)
-        (spline-within (given-rows l bytes) (knotValues k) small x p .most .fin)
+        λ i inside.
+        rw (made k i inside, second) (second-within (given-rows l bytes) rule (slopes h) i inside) in
+        rw form (spline-within (given-rows l bytes) (knotValues k) small x p .most .fin)
   ]
 
   -- and every sample, so none is NaN: for any S ..
@@ -198,12 +154,12 @@ module _ (l : List Point) (bytes : All Bytes l) where
   height-through : (k : CurveInterpolation) → NoSpline k → (p : Point) → List·Memᴰ p (kept l)
       → (x : Float) → Is x (p .x) 0 1
       → Is (unclampedAt k l x) (256 * p .y) 0 256
+  unfolding unclampedAt heightAt pieceHeight
   height-through k h p m x e = elim (three-ways k (h .tension)) [
-    | inl linear ↦ rw (linear, linear-height l x) (straight-at-point (kept l) is-kept x p m e)
-    | inr (inl cubics) ↦
-        rw (hermite-height k (cubics .form) x)
-        (kind-at-point (kept l) is-kept (cubics .rule) (knotValues k) (made k) x p m e)
-    | inr (inr splines) ↦ absurd (h .form (splines .form))
+    | lines linear ↦ rw linear (straight-at-point (kept l) is-kept x p m e)
+    | cubics form rule ↦
+        rw form (kind-at-point (kept l) is-kept rule (knotValues k) (made k) x p m e)
+    | splines form rule slopes second ↦ absurd (h .form form)
   ]
 
   -- for any S: a sample at a kept point's x has the point's height, exactly
