@@ -1,6 +1,6 @@
 -- The second derivatives of the three splines are finite: every row of their systems has one of the
 -- shapes that ThomasBounds asks for, as knots are at least 1 apart.
-use mathlib.Core.Path.{_≡_, sym}
+use mathlib.Core.Path.{_≡_, refl, sym}
 use mathlib.Core.Logic.{inl, inr}
 use mathlib.Core.Bool.{false}
 use mathlib.Core.List.{List}
@@ -10,13 +10,13 @@ use native.Mathlib.Omega.{arith}
 use borrow.Author.Tests.{eq-eqb, ne-eqb, eqb-false, ltb-false}
 use lib.Dec.{T, lit<, lit≤, ltb, leb, eqb}
 use lib.Pow.{pow-pos}
-use lib.Ieee.{Float, binary32, lt, ofBits}
+use lib.Ieee.{Float, lt, ofBits}
 use lib.Ieee.Positive.{num, den, through}
 use Rattle.floats.specs.Notation.{_⊕_, _⊖_, _⊗_}
 use Rattle.floats.specs.Value.{Is, Apart, absolute, size-is}
-use Rattle.floats.specs.Exact.{rep-dyadic}
+use Rattle.floats.specs.Exact.{rep-whole}
 use Rattle.floats.specs.Small.{dyadic-sub, whole-add, whole-mul}
-use Rattle.floats.specs.Bound.{AtMost, at-most-is, at-most-more, at-most-mul}
+use Rattle.floats.specs.Bound.{AtMost, at-most-is, at-most-more, whole-most, mul-most}
 use Rattle.floats.specs.Within.{Within, Beyond, within-of, beyond-of, widen}
 use Rattle.floats.specs.Within.{within-zero, within-cond, within-test}
 use Rattle.floats.specs.Frac.{total}
@@ -48,7 +48,7 @@ pub least-beyond : (x : Float) (p c b k : ℕ) → 0 < c → Is x p 0 c → b �
     → Beyond x k
 least-beyond x p c b k C i l h =
     beyond-of (i .0)
-    (through (2 ^ k) p (num x) (2 ^ 149) c (den x) C (le-trans h (mul-le-mul-right (2 ^ 149) l))
+    (through (2 ^ k) p (num x) _ c (den x) C (le-trans h (mul-le-mul-right _ l))
     (le-of-eq (sym (size-is x p 0 c p i (inl (sym (zero-add p)))))))
 
 six-within : Within 𝟔 152
@@ -61,14 +61,12 @@ apart-most : (x y : Float) (p q : ℕ) → p < 256 → q < 256 → Is x p 0 1 �
 apart-most x y p q P Q i j =
     let d = p - q + (q - p) in
     let small : d ≤ 256 = omega arith in
+    let less = dyadic-sub x y p 0 q 0 0 (lit≤ tt) (omega arith) (omega arith) i j in
     let apart : Apart (p + 0) (0 + q) d =
     elim (total p q) [ inl h ↦ inr (omega arith) | inr h ↦ inl (omega arith) ] in
-    at-most-mul binary32 (d * (p + q)) 1 (lit< tt)
-    (rep-dyadic (d * (p + q)) 0 (lit≤ tt) (omega (arith, mul-le-mul-right (p + q) small)))
-    (at-most-is (x ⊖ y) (p + 0) (0 + q) 1 d (lit< tt)
-    (dyadic-sub x y p 0 q 0 0 (lit≤ tt) (omega arith) (omega arith) i j) apart)
-    (at-most-is (x ⊕ y) (p + q) 0 1 (p + q) (lit< tt) (whole-add x y p q (omega arith) i j)
-    (inl (sym (zero-add (p + q))))) (omega arith)
+    mul-most (rep-whole _ (omega (arith, mul-le-mul-right (p + q) small)))
+    (at-most-is (x ⊖ y) _ _ 1 d (lit< tt) less apart)
+    (whole-most (x ⊕ y) (whole-add x y p q (omega arith) i j)) (le-of-eq refl)
 
 -- where a divisor is known, a guard takes nothing from the bound
 quotient-within : {p d : Float} {j l : ℕ} → Within p j → Beyond d l → T (leb (j + 149 - l) 276)
@@ -85,11 +83,10 @@ pub record Sized (s : Segment) (w : ℕ) : Type 0 where
   pub secant : Within (s .secant) 178
 
 pub width-within : {s : Segment} {w : ℕ} → Sized s w → Within (s .width) 157
-width-within {s} {w} z =
-    most-within (s .width) w 1 256 157 (lit< tt) (z .width) (omega arith) (lit≤ tt)
+width-within {w = w} z = most-within _ w 1 256 157 (lit< tt) (z .width) (omega arith) (lit≤ tt)
 
 double-is : {s : Segment} {w : ℕ} → Sized s w → Is (𝟐 ⊗ s .width) (2 * w) 0 1
-double-is {s} {w} z = whole-mul 𝟐 (s .width) 2 w (omega arith) 𝟐-is (z .width)
+double-is {w = w} z = whole-mul 𝟐 _ 2 w (omega arith) 𝟐-is (z .width)
 
 -- right-hand sides
 right-most : {x : Float} {k : ℕ} → Within x k → k ≤ 190 → AtMost (2 ^ 41) 1 x
@@ -101,13 +98,12 @@ six-most v w = right-most (times six-within (minus v w tt) tt) (lit≤ tt)
 -- ---- two segments, of the widths u and v
 module _ {p q : Segment} {u v : ℕ} (y : Sized p u) (z : Sized q v) where
   sum-is : Is (p .width ⊕ q .width) (u + v) 0 1
-  sum-is =
-      whole-add (p .width) (q .width) u v (omega arith) (y .width) (z .width)
+  sum-is = whole-add _ _ u v (omega arith) (y .width) (z .width)
 
   inner-row : InnerRow u v (inner p q)
   inner-row = record {
     a = y .width;
-    b = whole-mul 𝟐 (p .width ⊕ q .width) 2 (u + v) (omega arith) 𝟐-is sum-is;
+    b = whole-mul 𝟐 _ 2 (u + v) (omega arith) 𝟐-is sum-is;
     c = z .width;
     d = six-most (z .secant) (y .secant);
   }
@@ -120,8 +116,8 @@ module _ {p q : Segment} {u v : ℕ} (y : Sized p u) (z : Sized q v) where
       → Is ((p .width ⊕ q .width) ⊗ (f ⊕ g)) ((u + v) * (c + d)) 0 1
   free-diagonal f g c d C D i j =
       let small : u + v ≤ 512 = omega arith in
-      whole-mul (p .width ⊕ q .width) (f ⊕ g) (u + v) (c + d)
-      (omega (arith, mul-le-mul-right (c + d) small)) sum-is (whole-add f g c d (omega arith) i j)
+      whole-mul _ _ (u + v) (c + d) (omega (arith, mul-le-mul-right (c + d) small)) sum-is
+      (whole-add f g c d (omega arith) i j)
 
   -- .. and on the right
   free-right : {x : Float} → Within x 157 → AtMost (2 ^ 41) 1 (x ⊗ 𝟔 ⊗ (q .secant ⊖ p .secant))
@@ -129,18 +125,16 @@ module _ {p q : Segment} {u v : ℕ} (y : Sized p u) (z : Sized q v) where
 
   free-starts : (s : Swept) → Steady (sweep 0 s (notAKnotFirst p q))
   free-starts s =
-      free-first (notAKnotFirst p q) s (y .some) (y .byte) (z .some) (z .byte)
-      (free-diagonal (p .width) (𝟐 ⊗ q .width) u (2 * v) (omega (arith, y .byte))
-      (omega (arith, z .byte)) (y .width) (double-is z))
-      (apart-most (q .width) (p .width) v u (z .byte) (y .byte) (z .width) (y .width))
-      (free-right (width-within z))
+      free-first _ s (y .some) (y .byte) (z .some) (z .byte)
+      (free-diagonal _ _ u (2 * v) (omega arith) (omega arith) (y .width) (double-is z))
+      (apart-most _ _ v u (z .byte) (y .byte) (z .width) (y .width)) (free-right (width-within z))
 
   free-ends : {s : Swept} (k : ℕ) → Steady s → Bounded (sweep (suc k) s (notAKnotLast p q))
   free-ends k s =
-      free-last k (notAKnotLast p q) (y .some) (y .byte) (z .some) (z .byte)
-      (apart-most (p .width) (q .width) u v (y .byte) (z .byte) (y .width) (z .width))
-      (free-diagonal (𝟐 ⊗ p .width) (q .width) (2 * u) v (omega (arith, y .byte))
-      (omega (arith, z .byte)) (double-is y) (z .width)) 𝟎-is (free-right (width-within y)) s
+      free-last k _ (y .some) (y .byte) (z .some) (z .byte)
+      (apart-most _ _ u v (y .byte) (z .byte) (y .width) (z .width))
+      (free-diagonal _ _ (2 * u) v (omega arith) (omega arith) (double-is y) (z .width)) 𝟎-is
+      (free-right (width-within y)) s
 
   -- what not-a-knot makes of three knots, and of the unknowns f and g
   parabola-within : Within (parabola p q) 179
@@ -152,7 +146,7 @@ module _ {p q : Segment} {u v : ℕ} (y : Sized p u) (z : Sized q v) where
   recovered-within : {f g : Float} → Within f 215 → Within g 215 → Within (recovered p q f g) 225
   unfolding recovered
   recovered-within vf vg =
-      let width = least-beyond (q .width) v 1 1 149 (lit< tt) (z .width) (z .some) (lit≤ tt) in
+      let width = least-beyond _ v 1 1 149 (lit< tt) (z .width) (z .some) (lit≤ tt) in
       let ratio = quotient-within (width-within y) width tt in
       plus vf (times ratio (minus vf vg tt) tt) tt
 
@@ -177,7 +171,7 @@ module _ {rows : ℕ → Row} {m : ℕ} (e : System rows m) where
   solution-within : (k : ℕ) → k < m → Within (solution rows m k) 215
   solution-within k l =
       let most = solution-most rows m (e .few) swept-steady swept-bounded k l in
-      record { most = at-most-more (2 ^ 215) (2 ^ 149) (pow-pos 149) (lit≤ tt) most }
+      record { most = at-most-more _ _ (pow-pos 149) (lit≤ tt) most }
 
 not-first : (k : ℕ) → eqb (suc k) 0 ≡ false
 not-first k = ne-eqb (suc k) 0 (omega arith)
@@ -206,7 +200,7 @@ module _ {xs ys : List Float} {n : ℕ} {a h : ℕ → ℕ} (r : Rows xs ys n a 
       omega (arith, place-most i (omega arith), r .rising i (suc i) (omega arith) l)
 
   knots-few : n ≤ 256
-  knots-few = omega (arith, place-most (n - 1) (omega (arith, r .two)), r .end)
+  knots-few = omega (arith, place-most (n - 1) (omega arith))
 
   pub sized : (i : ℕ) → i + 1 < n → Sized (segmentAt xs ys i) (a (i + 1) - a i)
   unfolding segmentAt between slope
@@ -234,21 +228,21 @@ module _ {xs ys : List Float} {n : ℕ} {a h : ℕ → ℕ} (r : Rows xs ys n a 
         let y = sized 0 (omega arith) in
         let z = sized 1 (omega arith) in
         inner-first s (y .some) (y .byte) (z .some) (z .byte) (inner-row y z);
-    next = λ k l w. inner-at (suc k) (suc k + 1) k (omega arith) (omega arith) w;
-    last = λ k l w. steady-bounded (inner-at (suc k) (suc k + 1) k (omega arith) (omega arith) w);
+    next = λ k l w. inner-at (suc k) _ k (omega arith) (omega arith) w;
+    last = λ k l w. steady-bounded (inner-at (suc k) _ k (omega arith) (omega arith) w);
   }
   system (Clamped s0 s1) slopes = record {
     few = knots-few;
     first = λ some s.
-        let z = sized 0 (omega (arith, r .two)) in
+        let z = sized 0 (omega arith) in
         clamped-first _ s (z .some) (z .byte) (double-is z) (z .width)
         (six-most (z .secant) (slopes .0));
     next = λ k l w.
         rw (not-first k, ne-eqb (suc k + 1) n (omega arith))
-        (inner-at (suc k - 1) (suc k) k (omega arith) l w);
+        (inner-at _ (suc k) k (omega arith) l w);
     last = λ k l w.
         let y = sized (suc k - 1) (omega arith) in
-        rw (not-first k, eq-eqb (suc k + 1) n l)
+        rw (not-first k, eq-eqb _ n l)
         (clamped-last k _ (y .some) (y .byte) (y .width) (double-is y) 𝟎-is
         (six-most (slopes .1) (y .secant)) w);
   }
@@ -257,23 +251,23 @@ module _ {xs ys : List Float} {n : ℕ} {a h : ℕ → ℕ} (r : Rows xs ys n a 
     first = λ some s. free-starts (sized 0 (omega arith)) (sized 1 (omega arith)) s;
     next = λ k l w.
         rw (not-first k, ne-eqb (suc k + 3) n (omega arith))
-        (inner-at (suc k) (suc k + 1) k (omega arith) (omega arith) w);
+        (inner-at (suc k) _ k (omega arith) (omega arith) w);
     last = λ k l w.
         rw (not-first k, eq-eqb (suc k + 3) n (omega arith))
-        (free-ends (sized (suc k) (omega arith)) (sized (suc k + 1) (omega arith)) k w);
+        (free-ends (sized (suc k) (omega arith)) (sized _ (omega arith)) k w);
   }
 
   unknown-within : (e : SplineBoundary) → SlopesWithin e → (k : ℕ) → k < rowCount e n
       → Within (unknown xs ys n e k) 215
   unfolding unknown
-  unknown-within e slopes k l = solution-within (system e slopes) k l
+  unknown-within e slopes = solution-within (system e slopes)
 
   -- not-a-knot with at least 4 knots
   ends-within : 3 < n → (i : ℕ) → i < n → Within (endsRecovered xs ys n i) 225
   unfolding endsRecovered
   ends-within four i l =
       let each = unknown-within NotAKnot tt in
-      framed-within n _ _ (unknown xs ys n NotAKnot) i l
+      framed-within n _ _ _ i l
       (recovered-within (sized 0 (omega arith)) (sized 1 (omega arith)) (each 0 (omega arith))
       (each 1 (omega arith)))
       (recovered-within (sized (n - 2) (omega arith)) (sized (n - 3) (omega arith))
@@ -285,7 +279,7 @@ module _ {xs ys : List Float} {n : ℕ} {a h : ℕ → ℕ} (r : Rows xs ys n a 
   unfolding secondAt naturalAt notAKnotAt
   second-within Natural slopes i l =
       let end = within-zero 𝟎 225 𝟎-is in
-      framed-within n 𝟎 𝟎 (unknown xs ys n Natural) i l end end (unknown-within Natural slopes)
+      framed-within n 𝟎 𝟎 _ i l end end (unknown-within Natural slopes)
   second-within (Clamped s0 s1) slopes i l =
       widen 225 (unknown-within (Clamped s0 s1) slopes i l) (lit≤ tt)
   second-within NotAKnot slopes i l = within-test (ltb n 3) (within-zero 𝟎 225 𝟎-is) (λ few.

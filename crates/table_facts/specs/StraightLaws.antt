@@ -10,7 +10,6 @@ use lib.Dec.{T, lit<}
 use lib.Ieee.{Float, le}
 use lib.Ieee.Scale.{finite}
 use lib.Ieee.Positive.{den, den-pos}
-use Rattle.floats.specs.Notation.{_⊖_}
 use Rattle.floats.specs.Signed.{le-through}
 use Rattle.floats.specs.Value.{Is, top, bot, own, is-of-le, is→le, is→ge}
 use Rattle.floats.specs.Order.{le-trans, finite-between}
@@ -91,8 +90,7 @@ module _ {xs ys : List Float} {n : ℕ} {a h : ℕ → ℕ} (r : Rows xs ys n a 
   unfolding part
   part-plain s x l =
       let p = piece r s l in
-      guarded-value (x ⊖ at xs s) (at xs (s + 1) ⊖ at xs s) micro (a (s + 1) - a s) 0 1 8796093
-      (2 ^ 43) (lit< tt) (lit< tt) (width-is p) micro-is
+      guarded-value _ _ micro _ 0 1 8796093 (2 ^ 43) (lit< tt) (lit< tt) (width-is p) micro-is
       (omega arith)
 
   abbrev pub line : ℕ → Float → Float
@@ -134,12 +132,11 @@ module _ {xs ys : List Float} {n : ℕ} {a h : ℕ → ℕ} (r : Rows xs ys n a 
   straight-near x i {k} {w} l low high at-x =
       let p = piece r i l in
       let near = line-near p at-x in
-      elim (held-between r x i (segment xs n x) l high (between-holds r x i l low high)) [
+      elim (held-between r x i _ l high (between-holds r x i l low high)) [
         | inl same ↦ rw (← same, straight-line i x l) near
         | inr on-knot ↦
-            let e = equal-is x (at xs i) (a i) 0 1 (p .x0-is) low on-knot in
-            equally-close (straightAt xs ys n x) (line i x) (h i) 0 256
-            (exactLine (h i) (h (i + 1)) k w) (lit< tt)
+            let e = equal-is x _ (a i) 0 1 (p .x0-is) low on-knot in
+            equally-close (straightAt xs ys n x) (line i x) (h i) 0 256 _ (lit< tt)
             (straight-at-knot x i (omega arith) e) (line-start p (at-start p x e)) near
       ]
 
@@ -162,8 +159,7 @@ module _ {xs ys : List Float} {n : ℕ} {a h : ℕ → ℕ} (r : Rows xs ys n a 
   pub straight-finite : (x : Float) → InRange x → T (finite (straightAt xs ys n x))
   straight-finite x p =
       let k = held p in
-      rw (straight-line (segment xs n x) x (k .inside))
-      (line-finite (piece r (segment xs n x) (k .inside)) (on-piece p k))
+      rw (straight-line _ x (k .inside)) (line-finite (piece r _ (k .inside)) (on-piece p k))
 
   -- from 0 to 255, so that clamping changes nothing
   pub straight-in-range : (x : Float) → InRange x
@@ -177,13 +173,13 @@ module _ {xs ys : List Float} {n : ℕ} {a h : ℕ → ℕ} (r : Rows xs ys n a 
       (elim (total (h s) (h (s + 1))) [
         | inl up ↦
             let b = rising-within g (on-piece p k) up in (
-              le-trans 𝟎 (at ys s) (line s x) (y-low r s l) (b .0),
-              le-trans (line s x) (at ys (s + 1)) 𝟐𝟓𝟓 (b .1) (y-high r (s + 1) (k .inside)),
+              le-trans 𝟎 _ _ (y-low r s l) (b .0),
+              le-trans _ _ 𝟐𝟓𝟓 (b .1) (y-high r (s + 1) (k .inside)),
             )
         | inr down ↦
             let b = falling-within g (on-piece p k) down in (
-              le-trans 𝟎 (at ys (s + 1)) (line s x) (y-low r (s + 1) (k .inside)) (b .0),
-              le-trans (line s x) (at ys s) 𝟐𝟓𝟓 (b .1) (y-high r s l),
+              le-trans 𝟎 _ _ (y-low r (s + 1) (k .inside)) (b .0),
+              le-trans _ _ 𝟐𝟓𝟓 (b .1) (y-high r s l),
             )
       ])
 
@@ -210,8 +206,5 @@ module _ {xs ys : List Float} {n : ℕ} {a h : ℕ → ℕ} (r : Rows xs ys n a 
     pub straight-order : (x y : Float) → InRange x → InRange y → T (le x y)
         → T (le (straightAt xs ys n x) (straightAt xs ys n y))
     straight-order x y p q l =
-        rw (
-          straight-line (segment xs n x) x (held p .inside),
-          straight-line (segment xs n y) y (held q .inside),
-        )
+        rw (straight-line _ x (held p .inside), straight-line _ y (held q .inside))
         (pieces-rise p q l (held p) (held q))

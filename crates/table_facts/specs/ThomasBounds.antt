@@ -98,7 +98,7 @@ module _ {n j r : ℕ} (v : Inverse n j r) where
       let rep = rep-times t 41 few (lit≤ tt) in
       record {
         above = at-most-mul binary32 1 1 (lit< tt) (rep-whole 1 (lit< tt)) c i (omega arith);
-        right = at-most-mul binary32 (t * 2 ^ 41) 1 (lit< tt) rep d i (many (2 ^ 41) (2 ^ j) m);
+        right = at-most-mul binary32 _ 1 (lit< tt) rep d i (many (2 ^ 41) (2 ^ j) m);
       }
     where
       many : (w u : ℕ) → b * r ≤ t * u → b * w * r * 1 ≤ t * w * (1 * u)
@@ -110,7 +110,7 @@ module _ {n j r : ℕ} (v : Inverse n j r) where
   unfolding sweep
   first-most row s J b c d l =
       steady
-      (scaled-most 1 2 (lit< tt) (whole-least (row .b) b) c d l
+      (scaled-most 1 2 (lit< tt) (whole-least _ b) c d l
       (omega (arith, pow-mono {i = 23} {j = j} J)))
 
   -- a later row, whose pivot is at least b - a
@@ -125,7 +125,7 @@ module _ {n j r : ℕ} (v : Inverse n j r) where
       let more = rep-times (2 * a + 1) 41 (omega (arith, v .pos)) (lit≤ tt) in
       let right = sub-most more id (mul-most twice ia (h .right) (omega arith)) (omega arith) in
       rw (ne-eqb (suc k) 0 (ne-of-gt (omega arith)))
-      (scaled-most (2 * a + 1) t few (sub-least (row .b) n l m ib below) ic right e f)
+      (scaled-most _ t few (sub-least _ n l m ib below) ic right e f)
 
 -- ---- r / u is the inverse of n, as `Inverse` has it
 -- a * r / u is at most 1, where a is less than n by no less than f
@@ -145,7 +145,7 @@ small-most : {n r : ℕ} (a c : ℕ) → c ≤ 2 → a < c * n → n ≤ 1020 �
     → a * r ≤ c * 2 ^ 23
 small-most {n} {r} a c C l m v =
     let many = times-least 2040 1020 n r (2 ^ 23) (lit< tt) (lit≤ tt) m (v .least) in
-    times-most a 1 (c * n) r (c * 2 ^ 23) (omega arith) (omega (arith, mul-le-mul-right n C))
+    times-most a 1 (c * n) r _ (omega arith) (omega (arith, mul-le-mul-right n C))
     (omega (arith, mul-le-mul-left c (v .most)))
 
 small-first : {n q : ℕ} (r : Row) (s : Swept) → 0 < n → n ≤ 1020 → q < n → Is (r .b) n 0 1
@@ -212,7 +212,7 @@ free-most : (h g e f r u : ℕ) → e + f ≤ h + 2 * g → h + 2 * g ≤ f * r
     → r * ((h + g) * (h + 2 * g)) ≤ u + (h + g) * (h + 2 * g) → e * (g + h) * r ≤ u
 free-most h g e f r u s l m =
     let w = g + h in
-    times-most (e * w) (f * w) ((h + g) * (h + 2 * g)) r u (omega (arith, mul-le-mul-right w s))
+    times-most (e * w) (f * w) _ r u (omega (arith, mul-le-mul-right w s))
     (omega (arith, mul-le-mul-right w l)) m
 
 pub free-first : {h g : ℕ} (r : Row) (s : Swept) → 0 < h → h < 256 → 0 < g → g < 256
@@ -261,7 +261,7 @@ pub solution-most : (rows : ℕ → Row) (m : ℕ) → m ≤ 256
     → (k : ℕ) → k < m → AtMost (2 ^ 66) 1 (solution rows m k)
 unfolding solution substituted
 solution-most rows m few inner last k l =
-    let most = backward-most (sweptRow rows) m few all (m - k) (omega arith) in
+    let most = backward-most _ m few all (m - k) (omega arith) in
     at-most-more (2 ^ 66) 1 (lit< tt) (omega arith) most
   where
     all : (i : ℕ) → i < m → Bounded (sweptRow rows i)
