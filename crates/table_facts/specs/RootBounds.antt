@@ -4,22 +4,13 @@ use mathlib.Core.Path.{_≡_, refl, sym, _∙_, subst}
 use mathlib.Core.Logic.{_⊎_, inl, inr}
 use mathlib.Core.Bool.{true, false, true≢false}
 use Prim.Native.Nat.{ℕ, zero, suc, _+_, _*_, _/_, _^_, _≤_, _<_, zero-le}
-use native.Mathlib.Nat.{
-  le-trans,
-  le-of-eq,
-  le-of-lt,
-  lt-of-not-le,
-  not-le-of-lt,
-  le-of-suc-le-suc,
-  lt-of-le-of-lt,
-  lt-suc-self,
-}
+use native.Mathlib.Nat.{le-trans, le-of-eq, le-of-lt, lt-of-not-le, not-le-of-lt}
 use native.Mathlib.Nat.{
   zero-mul,
   mul-pos,
   mul-le-mul-right,
-  mul-lt-mul-of-pos-right,
-  div-lt-iff-lt-mul,
+  mul-comm,
+  div-le-of-le-mul,
   le-div-iff-mul-le,
 }
 use native.Mathlib.Decide.{decLe}
@@ -110,49 +101,44 @@ powers : (i j k l : ℕ) → i + j ≤ k + l → 2 ^ i * 2 ^ j ≤ 2 ^ k * 2 ^ l
 powers i j k l h =
     le-trans (le-of-eq (sym (pow-add 2 i j))) (le-trans (pow-mono h) (le-of-eq (pow-add 2 k l)))
 
-quotient-most : (a d k : ℕ) → 0 < d → a ≤ k * d → a / d ≤ k
-quotient-most a d k D h =
-    le-of-suc-le-suc
-    (div-lt-iff-lt-mul D .1 (lt-of-le-of-lt h (mul-lt-mul-of-pos-right (lt-suc-self k) D)))
-
 -- n against the square of 2 ^ t units
-units-most : (a d k t : ℕ) → 0 < d → a ≤ 2 ^ k * d → k + 149 ≤ t + t
-    → a / d * 2 ^ 149 ≤ 2 ^ t * 2 ^ t
-units-most a d k t D h l =
-    le-trans (mul-le-mul-right (2 ^ 149) (quotient-most a d (2 ^ k) D h)) (powers k 149 t t l)
+units-most : (a d k t : ℕ) → a ≤ 2 ^ k * d → k + 149 ≤ t + t → a / d * 2 ^ 149 ≤ 2 ^ t * 2 ^ t
+units-most a d k t h l =
+    le-trans (mul-le-mul-right (2 ^ 149) (div-le-of-le-mul d (rw mul-comm h))) (powers k 149 t t l)
+
+root-bounds : {x : Float} {k : ℕ} (t : ℕ) → FromZero x k → k + 149 ≤ t + t → t ≤ 276
+    → FromZero (rootOf x) t × ((u l : ℕ) → Beyond x l → u + u ≤ l + 149 → Beyond (rootOf x) u)
+unfolding rootOf
+root-bounds {x = nan} t v h K = absurd (v .plus)
+root-bounds {x = inf true} t v h K = absurd (v .plus)
+root-bounds {x = inf false} t v h K = absurd (v .most .most .fin)
+root-bounds {x = fin true m e} t v h K = absurd (v .plus)
+root-bounds {x = fin false zero e} t v h K = (
+  record { most = within-zero (fin false 0 e) t (tt, omega arith); plus = tt },
+  λ u l w g.
+      absurd (not-le-of-lt (mul-pos (pow-pos l) (down-pos e)) (simp zero-mul at (w .least .least))),
+)
+root-bounds {x = fin false (suc m) e} {k} t v h K =
+    let a = suc m * up e * 2 ^ 149 in
+    let n = a / down e * 2 ^ 149 in
+    let most = units-most a (down e) k t (v .most .most .most) h in
+    let r = root-most n t most K in (
+      value-from-zero (rootOfUnits n) (r .0) t (r .1) (r .2),
+      λ u l w g.
+          let least : 2 ^ u * 2 ^ u ≤ n =
+          le-trans (powers u u l 149 g)
+          (mul-le-mul-right (2 ^ 149) (le-div-iff-mul-le (down-pos e) .1 (w .least .least))) in
+          let s = root-between n u t least most K in
+          value-beyond (rootOfUnits n) (s .0) u (s .1) (s .2),
+    )
 
 pub root-from-zero : {x : Float} {k : ℕ} (t : ℕ) → FromZero x k → k + 149 ≤ t + t → t ≤ 276
     → FromZero (rootOf x) t
-unfolding rootOf
-root-from-zero {x = nan} t v h K = absurd (v .plus)
-root-from-zero {x = inf true} t v h K = absurd (v .plus)
-root-from-zero {x = inf false} t v h K = absurd (v .most .most .fin)
-root-from-zero {x = fin true m e} t v h K = absurd (v .plus)
-root-from-zero {x = fin false zero e} t v h K =
-    record { most = within-zero (fin false 0 e) t (tt, omega arith); plus = tt }
-root-from-zero {x = fin false (suc m) e} {k} t v h K =
-    let a = suc m * up e * 2 ^ 149 in
-    let r = root-most (a / down e * 2 ^ 149) t
-    (units-most a (down e) k t (down-pos e) (v .most .most .most) h) K in
-    value-from-zero (rootOfUnits (a / down e * 2 ^ 149)) (r .0) t (r .1) (r .2)
+root-from-zero t v h K = root-bounds t v h K .0
 
 pub root-beyond : {x : Float} {k l : ℕ} (u t : ℕ) → FromZero x k → Beyond x l → u + u ≤ l + 149
     → k + 149 ≤ t + t → t ≤ 276 → Beyond (rootOf x) u
-unfolding rootOf
-root-beyond {x = nan} u t v w g h K = absurd (v .plus)
-root-beyond {x = inf true} u t v w g h K = absurd (v .plus)
-root-beyond {x = inf false} u t v w g h K = absurd (v .most .most .fin)
-root-beyond {x = fin true m e} u t v w g h K = absurd (v .plus)
-root-beyond {x = fin false zero e} {l = l} u t v w g h K =
-    absurd (not-le-of-lt (mul-pos (pow-pos l) (down-pos e)) (simp zero-mul at (w .least .least)))
-root-beyond {x = fin false (suc m) e} {k} {l} u t v w g h K =
-    let a = suc m * up e * 2 ^ 149 in
-    let least : 2 ^ u * 2 ^ u ≤ a / down e * 2 ^ 149 =
-    le-trans (powers u u l 149 g)
-    (mul-le-mul-right (2 ^ 149) (le-div-iff-mul-le (down-pos e) .1 (w .least .least))) in
-    let r = root-between (a / down e * 2 ^ 149) u t least
-    (units-most a (down e) k t (down-pos e) (v .most .most .most) h) K in
-    value-beyond (rootOfUnits (a / down e * 2 ^ 149)) (r .0) u (r .1) (r .2)
+root-beyond u t v w g h K = root-bounds t v h K .1 u _ w g
 
 -- ---- where a value lies: at most 2 ^ b units, or between two neighbouring powers from there on
 pub size-of : (x : Float) (b k : ℕ) → Within x k
