@@ -30,7 +30,7 @@ at-left n m0 m1 d k z e = omega (arith, rw z at e)
 at-right : (n m0 m1 d k : ℕ) → k ≡ d → n + m0 * k ≡ m0 * d + m1 * k → n ≡ m1 * d
 at-right n m0 m1 d k z e = omega (arith, rw z at e)
 
-inside-piece : (m0 m1 k g : ℕ) → (m0 * g + m1 * k) + m0 * k ≡ m0 * (k + g) + m1 * k
+pub inside-piece : (m0 m1 k g : ℕ) → (m0 * g + m1 * k) + m0 * k ≡ m0 * (k + g) + m1 * k
 inside-piece m0 m1 k g = omega arith
 
 same-piece : (n m d e m0 m1 k : ℕ) → d ≡ e → n + m0 * k ≡ m0 * d + m1 * k

@@ -16,6 +16,7 @@ use Rattle.points.specs.Order.{All, Bytes}
 use Rattle.segments.specs.Rows.{fineHeight}
 use Rattle.segments.specs.Segments.{segment}
 use Rattle.segments.specs.SegmentLaws.{InRange, segment-holds}
+use Rattle.table_facts.specs.BrokenLine.{inside-piece}
 use Rattle.table_facts.specs.Given.{given-rows}
 
 -- "The exact broken line" of l at the position p / c is n / (256 * d): as `OnLine`, which is at a
@@ -55,10 +56,6 @@ at-byte l v n d o =
     }
 
 -- ---- it is there at every position in range
--- the height between two knots, k from the first and g from the second
-between : (y0 y1 k g : ℕ) → (y0 * g + y1 * k) + y0 * k ≡ y0 * (k + g) + y1 * k
-between y0 y1 k g = omega arith
-
 pub line-at : (l : List Point) → All Bytes l → (x : Float) → InRange x
     → (p c : ℕ) → 0 < c → Is x p 0 c
     → (n d : ℕ) × LineAt l p c n d
@@ -91,6 +88,6 @@ line-at l bytes x r p c C e =
         left = omega arith;
         right = omega arith;
         width = refl;
-        height = rw parts at (between (fineHeight ks s) (fineHeight ks (suc s)) k g);
+        height = rw parts at (inside-piece (fineHeight ks s) (fineHeight ks (suc s)) k g);
       },
     )

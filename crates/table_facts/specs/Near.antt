@@ -1,13 +1,12 @@
 -- Linear: a sample is within 1 / 16,384 of the exact broken line at its position, and an entry is a
 -- whole number nearest to the line.
-use mathlib.Core.Path.{_≡_, sym, ap, _∙_}
+use mathlib.Core.Path.{_≡_, ap, _∙_}
 use mathlib.Core.List.{List}
-use Prim.Native.Nat.{ℕ, suc, _+_, _-_, _*_, _≤_, _<_}
+use Prim.Native.Nat.{ℕ, suc, _+_, _-_, _*_, _<_}
 use native.Mathlib.Nat.{mul-pos, add-sub-of-le, eq-of-mul-eq-mul-right}
 use native.Mathlib.Numerals.{add-one}
 use native.Mathlib.Omega.{arith}
 use lib.Dec.{T, lit<}
-use lib.ListN.{length}
 use lib.Ieee.{Float, le}
 use lib.Ieee.Scale.{finite}
 use lib.Ieee.Positive.{den, den-pos}
@@ -35,7 +34,7 @@ use Rattle.table_facts.specs.StraightLaws.{
 }
 use Rattle.table_facts.specs.ListLaws.{straightOf}
 use Rattle.tables.specs.declared.CurveInterpolation.the-variants.{Linear}
-use Rattle.sampling.specs.Pieces.{sampled}
+use Rattle.sampling.specs.Pieces.{pieceHeight, heightAt, sampled}
 use Rattle.tables.specs.Tables.{unclampedAt, sampleOf, entryOf}
 use Rattle.table_facts.specs.Given.{sampleX, sample-x-is, linear-height, given-rows}
 use Rattle.table_facts.specs.Line.{LineAt, at-byte}
@@ -68,7 +67,8 @@ byte-of-range z f low high =
     let near =
     byte-near z (top z) (den z) (den-pos z)
     (omega (arith, is-of-le z 𝟐𝟓𝟓 (top z) 0 (den z) 255 0 1 i 𝟐𝟓𝟓-is high)) i in
-    (omega (arith, unsigned z f low), omega (arith, unsigned z f low))
+    let positive = unsigned z f low in
+    (omega arith, omega arith)
 
 module _ (l : List Point) (bytes : All Bytes l) where
   abbrev ks : List Point
@@ -77,11 +77,10 @@ module _ (l : List Point) (bytes : All Bytes l) where
   -- clamping changes no sample
   pub sample-unclamped : (S v : ℕ) → InRange (sampleX S v)
       → sampleOf Linear l S v ≡ unclampedAt Linear l (sampleX S v)
-  unfolding sampleOf sampled
+  unfolding sampleOf sampled unclampedAt heightAt pieceHeight
   sample-unclamped S v r =
       let b = straight-in-range (given-rows l bytes) (sampleX S v) r in
-      clamped-keeps (unclampedAt Linear l (sampleX S v)) (rw (linear-height l (sampleX S v)) (b .0))
-      (rw (linear-height l (sampleX S v)) (b .1))
+      clamped-keeps _ (b .0) (b .1)
 
   sample-straight : (S v : ℕ) → InRange (sampleX S v)
       → sampleOf Linear l S v ≡ straightOf (kept l) (sampleX S v)
@@ -92,38 +91,31 @@ module _ (l : List Point) (bytes : All Bytes l) where
       → (p c n d : ℕ) → Is (sampleX S v) p 0 c → LineAt l p c n d
       → Close 1 16384 (val (sampleOf Linear l S v)) (frac n 0 (256 * d))
   sample-near S v r p c n d e o =
-      let C = o .divisor in
       let rows = given-rows l bytes in
       let x = sampleX S v in
       let i = o .i in
       let a = xOf ks i in
-      let b = xOf ks (i + 1) in
-      let next : suc i ≡ i + 1 = sym (add-one i) in
-      let inside : i + 1 < length ks = rw next at (o .inside) in
-      let right : p ≤ b * c = rw next at (o .right) in
-      let width : d ≡ (b - a) * c = rw next at (o .width) in
+      let b = xOf ks (suc i) in
       let a-is = rows .x-is i (omega arith) in
       let low =
-      le-of-is (at (xRow ks) i) x a 0 1 p 0 c (lit< tt) C a-is e (omega (arith, o .left)) in
+      le-of-is (at (xRow ks) i) x a 0 1 p 0 c (lit< tt) (o .divisor) a-is e (omega arith) in
       let high =
-      le-of-is x (at (xRow ks) (i + 1)) p 0 c b 0 1 C (lit< tt) e (rows .x-is (i + 1) inside)
+      le-of-is x (at (xRow ks) (suc i)) p 0 c b 0 1 (o .divisor) (lit< tt) e (rows .x-is (suc i) (o .inside))
       (omega arith) in
       let own-left =
-      is-of-le (at (xRow ks) i) x a 0 1 (top x) 0 (den x) a-is
-      (nonnegative-is x (e .0) (r .low)) low in
+      is-of-le (at (xRow ks) i) x a 0 1 (top x) 0 (den x) a-is (nonnegative-is x (e .0) (r .low)) low in
       let positive = ap (λ (t : ℕ). t * c) (unsigned x (e .0) (r .low)) in
       let far : (top x - a * den x) * c ≡ (p - a * c) * den x =
       same-distance (top x - a * den x) (p - a * c) a c (den x) (top x) p
       (add-sub-of-le (omega (arith, own-left))) (add-sub-of-le (o .left))
       (omega (arith, e .1, positive)) in
-      let apart : 0 < b - a = omega (arith, rows .rising i (i + 1) (omega arith) inside) in
-      rw (sample-straight S v r)
-      (rw width
-      (same-height (fineHeight ks i) (fineHeight ks (i + 1)) (top x - a * den x) ((b - a) * den x)
-      (p - a * c) ((b - a) * c) n (straightOf (kept l) x)
+      let apart : 0 < b - a = omega (arith, rows .rising i (suc i) (omega arith) (o .inside)) in
+      rw (sample-straight S v r, o .width)
+      (same-height (fineHeight ks i) (fineHeight ks (suc i)) (top x - a * den x)
+      ((b - a) * den x) (p - a * c) ((b - a) * c) n (straightOf (kept l) x)
       (mul-pos apart (den-pos x)) (omega (arith, ap (λ (t : ℕ). (b - a) * t) far))
-      (rw (next, width) at (o .height))
-      (straight-close rows x r i inside low high)))
+      (rw (o .width) at (o .height))
+      ((rw (add-one i) at (straight-close rows x r i)) (o .inside) low high))
 
   -- of 256 samples, where sample v is at v ..
   pub byte-sample-near : (v : ℕ) → v < 256 → (n d : ℕ) → OnLine l v n d

@@ -15,21 +15,20 @@ use Rattle.segments.specs.SegmentLaws.{InRange}
 use Rattle.segments.specs.Samples.{sample-256, sample-4096, sample-le}
 use Rattle.table_facts.specs.ListLaws.{straight-rises}
 use Rattle.tables.specs.declared.CurveInterpolation.the-variants.{Linear}
-use Rattle.sampling.specs.Pieces.{sampled}
+use Rattle.sampling.specs.Pieces.{pieceHeight, heightAt, sampled}
 use Rattle.tables.specs.Tables.{unclampedAt, sampleOf, entryOf}
-use Rattle.table_facts.specs.Given.{sampleX, linear-height}
+use Rattle.table_facts.specs.Given.{sampleX}
 
 module _ (l : List Point) (bytes : All Bytes l) (never-falls : NeverFalls (kept l)) where
   -- ---- for any S whose numbers of samples are floats
   pub sample-order : (S : ℕ) → 2 ≤ S → S ≤ 2 ^ 24
       → (v w : ℕ) → v ≤ w → w < S → InRange (sampleX S v) → InRange (sampleX S w)
       → T (le (sampleOf Linear l S v) (sampleOf Linear l S w))
-  unfolding sampleOf sampled
+  unfolding sampleOf sampled unclampedAt heightAt pieceHeight
   sample-order S two most v w h k p q =
-      clamped-le (unclampedAt Linear l (sampleX S v)) (unclampedAt Linear l (sampleX S w))
-      (rw (linear-height l (sampleX S v), linear-height l (sampleX S w))
+      clamped-le _ _
       (straight-rises (kept l) (kept-is-kept l bytes) never-falls (sampleX S v) (sampleX S w) p q
-      (sample-le S two most v w h (omega arith))))
+      (sample-le S two most v w h (omega arith)))
 
   pub byte-sample-order : (v w : ℕ) → v ≤ w → w < 256
       → T (le (sampleOf Linear l 256 v) (sampleOf Linear l 256 w))
