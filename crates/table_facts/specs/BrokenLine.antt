@@ -56,8 +56,10 @@ module _ (l : List Point) (bytes : All Bytes l) where
   piece : (v i : ℕ) → suc i < length ks → xOf ks i ≤ v → v ≤ xOf ks (suc i)
       → (n d : ℕ) × OnLine l v n d
   piece v i h low high =
-      let parts : (v - xOf ks i) + (xOf ks (suc i) - v) ≡ xOf ks (suc i) - xOf ks i = omega arith in (
-        yOf ks i * (xOf ks (suc i) - v) + yOf ks (suc i) * (v - xOf ks i),
+      let k = v - xOf ks i in
+      let g = xOf ks (suc i) - v in
+      let parts : k + g ≡ xOf ks (suc i) - xOf ks i = omega arith in (
+        yOf ks i * g + yOf ks (suc i) * k,
         xOf ks (suc i) - xOf ks i,
         record {
           i = i;
@@ -65,8 +67,7 @@ module _ (l : List Point) (bytes : All Bytes l) where
           left = low;
           right = high;
           width = refl;
-          height = rw parts at
-              (inside-piece (yOf ks i) (yOf ks (suc i)) (v - xOf ks i) (xOf ks (suc i) - v));
+          height = rw parts at (inside-piece (yOf ks i) (yOf ks (suc i)) k g);
         },
       )
 

@@ -41,15 +41,13 @@ module _ (a b : Knot) (ma mb t : Float) (w : T (finite (b .x ⊖ a .x))) (fa : T
       let u : Is (𝟏 ⊖ t) 1 0 1 = whole-sub 𝟏 t 1 0 (lit≤ tt) (lit< tt) 𝟏-is e in
       let s : Is (t ⊗ t) 0 0 1 = whole-mul t t 0 0 (lit< tt) e e in
       left-stays _ _ _ _ (a .y) (b .y) (b .x ⊖ a .x) ma mb
-      (whole-mul (t ⊗ (𝟏 ⊖ t)) (𝟏 ⊖ t) 0 1 (lit< tt) (whole-mul t (𝟏 ⊖ t) 0 1 (lit< tt) e u) u)
-      (dyadic-mul (t ⊗ t) (t ⊖ 𝟏) 0 0 0 1 0 0 (lit≤ tt) (lit< tt) (lit< tt) s
-      (dyadic-sub t 𝟏 0 0 1 0 0 (lit≤ tt) (lit< tt) (lit< tt) e 𝟏-is))
+      (whole-mul _ _ 0 1 (lit< tt) (whole-mul _ _ 0 1 (lit< tt) e u) u)
+      (dyadic-mul _ _ 0 0 0 1 0 0 (lit≤ tt) (lit< tt) (lit< tt) s
+      (dyadic-sub _ _ 0 0 1 0 0 (lit≤ tt) (lit< tt) (lit< tt) e 𝟏-is))
       w fa fb n 0 256 (lit< tt)
-      (whole-mul ((𝟏 ⊕ 𝟐 ⊗ t) ⊗ (𝟏 ⊖ t)) (𝟏 ⊖ t) 1 1 (lit< tt)
-      (whole-mul (𝟏 ⊕ 𝟐 ⊗ t) (𝟏 ⊖ t) 1 1 (lit< tt) (whole-add 𝟏 (𝟐 ⊗ t) 1 0 (lit< tt) 𝟏-is d) u) u)
-      (whole-mul (t ⊗ t) (𝟑 ⊖ 𝟐 ⊗ t) 0 3 (lit< tt) s
-      (whole-sub 𝟑 (𝟐 ⊗ t) 3 0 (lit≤ tt) (lit< tt) 𝟑-is d))
-      f g i
+      (whole-mul _ _ 1 1 (lit< tt)
+      (whole-mul _ _ 1 1 (lit< tt) (whole-add _ _ 1 0 (lit< tt) 𝟏-is d) u) u)
+      (whole-mul _ _ 0 3 (lit< tt) s (whole-sub _ _ 3 0 (lit≤ tt) (lit< tt) 𝟑-is d)) f g i
 
   pub hermite-end : (n : ℕ) → Is t 1 0 1 → T (finite (a .y)) → T (fits binary32 (b .y))
       → Is (b .y) n 0 256 → Is (hermite a b ma mb t) n 0 256
@@ -59,14 +57,12 @@ module _ (a b : Knot) (ma mb t : Float) (w : T (finite (b .x ⊖ a .x))) (fa : T
       let u : Is (𝟏 ⊖ t) 0 0 1 = whole-sub 𝟏 t 1 1 (lit≤ tt) (lit< tt) 𝟏-is e in
       let s : Is (t ⊗ t) 1 0 1 = whole-mul t t 1 1 (lit< tt) e e in
       right-stays _ _ _ _ (a .y) (b .y) (b .x ⊖ a .x) ma mb
-      (whole-mul (t ⊗ (𝟏 ⊖ t)) (𝟏 ⊖ t) 0 0 (lit< tt) (whole-mul t (𝟏 ⊖ t) 1 0 (lit< tt) e u) u)
-      (whole-mul (t ⊗ t) (t ⊖ 𝟏) 1 0 (lit< tt) s (whole-sub t 𝟏 1 1 (lit≤ tt) (lit< tt) e 𝟏-is))
+      (whole-mul _ _ 0 0 (lit< tt) (whole-mul _ _ 1 0 (lit< tt) e u) u)
+      (whole-mul _ _ 1 0 (lit< tt) s (whole-sub _ _ 1 1 (lit≤ tt) (lit< tt) e 𝟏-is))
       w fa fb n 0 256 (lit< tt)
-      (whole-mul ((𝟏 ⊕ 𝟐 ⊗ t) ⊗ (𝟏 ⊖ t)) (𝟏 ⊖ t) 0 0 (lit< tt)
-      (whole-mul (𝟏 ⊕ 𝟐 ⊗ t) (𝟏 ⊖ t) 3 0 (lit< tt) (whole-add 𝟏 (𝟐 ⊗ t) 1 2 (lit< tt) 𝟏-is d) u) u)
-      (whole-mul (t ⊗ t) (𝟑 ⊖ 𝟐 ⊗ t) 1 1 (lit< tt) s
-      (whole-sub 𝟑 (𝟐 ⊗ t) 3 2 (lit≤ tt) (lit< tt) 𝟑-is d))
-      g f i
+      (whole-mul _ _ 0 0 (lit< tt)
+      (whole-mul _ _ 3 0 (lit< tt) (whole-add _ _ 1 2 (lit< tt) 𝟏-is d) u) u)
+      (whole-mul _ _ 1 1 (lit< tt) s (whole-sub _ _ 3 2 (lit≤ tt) (lit< tt) 𝟑-is d)) g f i
 
 -- ---- at the knots of rows
 module _ {xs ys : List Float} {n : ℕ} {a h : ℕ → ℕ} (r : Rows xs ys n a h) (ms : List Float)
@@ -78,14 +74,10 @@ module _ {xs ys : List Float} {n : ℕ} {a h : ℕ → ℕ} (r : Rows xs ys n a 
       (λ s j e.
       let p = piece r s j in
       rw (part-plain r s x j)
-      (hermite-start (knotAt xs ys s) (knotAt xs ys (s + 1)) (at ms s) (at ms (s + 1)) _
-      (width-is p .0) (tame s (omega arith)) (tame (s + 1) j)
-      (h s) (part-start (at-start p x e)) (r .y-fits s (omega arith)) (r .y-is s (omega arith))
-      (r .y-is (s + 1) j .0)))
+      (hermite-start _ _ _ _ _ (width-is p .0) (tame s (omega arith)) (tame (s + 1) j) (h s)
+      (part-start (at-start p x e)) (r .y-fits s (omega arith)) (p .y0-is) (p .y1-is .0)))
       (λ s j e.
       let p = piece r s j in
       rw (part-plain r s x j)
-      (hermite-end (knotAt xs ys s) (knotAt xs ys (s + 1)) (at ms s) (at ms (s + 1)) _
-      (width-is p .0) (tame s (omega arith)) (tame (s + 1) j)
-      (h (s + 1)) (part-end (at-end p x e)) (r .y-is s (omega arith) .0) (r .y-fits (s + 1) j)
-      (r .y-is (s + 1) j)))
+      (hermite-end _ _ _ _ _ (width-is p .0) (tame s (omega arith)) (tame (s + 1) j) (h (s + 1))
+      (part-end (at-end p x e)) (p .y0-is .0) (r .y-fits (s + 1) j) (p .y1-is)))

@@ -80,8 +80,7 @@ equally-close z w p n c r C i j near =
   where
     below : (x y : Float) → Is x p n c → Is y p n c → Below (val x) (val y)
     below x y i j =
-        le-through (top x) (bot x) (den x) p n c (top y) (bot y) (den y) C (is→le x p n c i)
-        (is→ge y p n c j)
+        le-through _ _ (den x) p n c _ _ (den y) C (is→le x p n c i) (is→ge y p n c j)
 
 module _ {xs ys : List Float} {n : ℕ} {a h : ℕ → ℕ} (r : Rows xs ys n a h) where
   -- ---- the guard against a width of 0 never applies
@@ -112,7 +111,7 @@ module _ {xs ys : List Float} {n : ℕ} {a h : ℕ → ℕ} (r : Rows xs ys n a 
       let k = segment-holds r x (knot-low r x i e) (knot-high r x i l e) in
       elim (held-at-knot r x i s l e k) [
         | inl next ↦ rw next (right s (k .inside) (rw next at e))
-        | inr first ↦ let same : i ≡ s = first .0 ∙ sym (first .1) in
+        | inr first ↦ let same : i ≡ s = omega arith in
             rw same (left s (k .inside) (rw same at e))
       ]
 
