@@ -24,18 +24,8 @@ between f v (suc n) low high = elim (decLe v (f (suc n))) [
 ]
 
 -- ---- a piece of width d from the height m0 to m1, and its value n / d at k from its left end
-at-left : (n m0 m1 d k : ℕ) → k ≡ 0 → n + m0 * k ≡ m0 * d + m1 * k → n ≡ m0 * d
-at-left n m0 m1 d k z e = omega (arith, rw z at e)
-
-at-right : (n m0 m1 d k : ℕ) → k ≡ d → n + m0 * k ≡ m0 * d + m1 * k → n ≡ m1 * d
-at-right n m0 m1 d k z e = omega (arith, rw z at e)
-
 pub inside-piece : (m0 m1 k g : ℕ) → (m0 * g + m1 * k) + m0 * k ≡ m0 * (k + g) + m1 * k
 inside-piece m0 m1 k g = omega arith
-
-same-piece : (n m d e m0 m1 k : ℕ) → d ≡ e → n + m0 * k ≡ m0 * d + m1 * k
-    → m + m0 * k ≡ m0 * e + m1 * k → n * e ≡ m * d
-same-piece n m d e m0 m1 k w f g = let same : n ≡ m = omega (arith, rw w at f) in rw (w, same)
 
 -- ---- the line
 module _ (l : List Point) (bytes : All Bytes l) where
@@ -88,12 +78,12 @@ module _ (l : List Point) (bytes : All Bytes l) where
       let not-behind : suc i < j → ⊥ = λ more. omega (arith, rise (suc i) j more h) in
       elim (ℕ-discrete j i) [
         | yes same ↦
-            rw same (at-left n (yOf ks i) (yOf ks (suc i)) d (v - xOf ks i)
-            (omega (arith, ap (xOf ks) same)) (o .height))
+            let left : v - xOf ks i ≡ 0 = omega (arith, ap (xOf ks) same) in
+            rw same (omega (arith, rw left at (o .height)))
         | no other ↦
             let next : j ≡ suc i = omega arith in
-            rw next (at-right n (yOf ks i) (yOf ks (suc i)) d (v - xOf ks i)
-            (omega (arith, ap (xOf ks) next)) (o .height))
+            let right : v - xOf ks i ≡ d = omega (arith, ap (xOf ks) next) in
+            rw next (omega (arith, rw right at (o .height)))
       ]
 
   -- two pieces meet at a knot
@@ -114,7 +104,8 @@ module _ (l : List Point) (bytes : All Bytes l) where
       | yes more ↦ sym (meet v m e n d p o more)
       | no not-more ↦
           let same : p .i ≡ o .i = omega arith in
-          same-piece n m d e (yOf ks (o .i)) (yOf ks (suc (o .i))) (v - xOf ks (o .i))
-          (o .width ∙ sym (rw same at (p .width))) (o .height) (rw same at (p .height))
+          let width : d ≡ e = o .width ∙ sym (rw same at (p .width)) in
+          let height : n ≡ m = omega (arith, rw width at (o .height), rw same at (p .height)) in
+          rw (width, height)
     ]
   ]

@@ -6,13 +6,13 @@ use native.Mathlib.Omega.{arith}
 use lib.Dec.{T, lit<, lit≤}
 use lib.Ieee.{Float, binary32, fits}
 use lib.Ieee.Scale.{finite}
-use Rattle.floats.specs.Notation.{_⊕_, _⊖_, _⊗_}
+use Rattle.floats.specs.Notation.{_⊖_, _⊗_}
 use Rattle.floats.specs.Value.{Is}
 use Rattle.floats.specs.Small.{dyadic-sub, dyadic-mul, whole-add, whole-sub, whole-mul}
 use Rattle.floats.specs.Position.{part-start, part-end}
 use Rattle.floats.specs.Segment.{width-is, at-start, at-end}
 use Rattle.floats.specs.Cubic.{left-stays, right-stays}
-use Rattle.single.specs.Constants.{𝟏, 𝟐, 𝟑, 𝟏-is, 𝟐-is, 𝟑-is}
+use Rattle.single.specs.Constants.{𝟏, 𝟐, 𝟏-is, 𝟐-is, 𝟑-is}
 use Rattle.points.specs.declared.Knot.{Knot}
 use Rattle.points.specs.Knots.{knotAt, at}
 use Rattle.segments.specs.Segments.{segment}

@@ -11,7 +11,7 @@ use lib.ListN.{length}
 use lib.Ieee.{Float}
 use Rattle.floats.specs.Value.{Is, is-of-le}
 use Rattle.points.specs.declared.Point.{Point}
-use Rattle.points.specs.Knots.{givenKnots, xOf, yOf, xRow, OnLine, at}
+use Rattle.points.specs.Knots.{givenKnots, xOf, xRow, OnLine, at}
 use Rattle.points.specs.Order.{All, Bytes}
 use Rattle.segments.specs.Rows.{fineHeight}
 use Rattle.segments.specs.Segments.{segment}
@@ -37,22 +37,16 @@ pub record LineAt (l : List Point) (p c n d : ℕ) : Type 0 where
       + fineHeight (givenKnots l) (suc i) * (p - xOf (givenKnots l) i * c)
 
 -- ---- at a byte it is what `OnLine` says
-in-256ths : (n y0 y1 d k : ℕ) → n + y0 * k ≡ y0 * d + y1 * k
-    → 256 * n + 256 * y0 * k ≡ 256 * y0 * d + 256 * y1 * k
-in-256ths n y0 y1 d k h = omega arith
-
 pub at-byte : (l : List Point) (v n d : ℕ) → OnLine l v n d → LineAt l v 1 (256 * n) d
 at-byte l v n d o =
-    let ks = givenKnots l in
-    let i = o .i in
     record {
       divisor = lit< tt;
-      i = i;
+      i = o .i;
       inside = o .inside;
       left = omega arith;
       right = omega arith;
       width = omega arith;
-      height = simp mul-one (in-256ths n (yOf ks i) (yOf ks (suc i)) d (v - xOf ks i) (o .height));
+      height = simp mul-one (omega arith);
     }
 
 -- ---- it is there at every position in range

@@ -140,10 +140,8 @@ rise-within p q = minus (q .high) (p .high) tt
 module _ {xs ys : List Float} {n : ℕ} {a h : ℕ → ℕ} (r : Rows xs ys n a h) where
   pub knot-small : (i : ℕ) → i < n → Small (knotAt xs ys i)
   knot-small i l = record {
-    across = most-within (knotAt xs ys i .x) (a i) 1 255 157 (lit< tt) (r .x-is i l) (x-most r i l)
-        (lit≤ tt);
-    high = most-within (knotAt xs ys i .y) (h i) 256 65280 157 (lit< tt) (r .y-is i l) (r .high i l)
-        (lit≤ tt);
+    across = most-within _ _ 1 255 157 (lit< tt) (r .x-is i l) (x-most r i l) (lit≤ tt);
+    high = most-within _ _ 256 65280 157 (lit< tt) (r .y-is i l) (r .high i l) (lit≤ tt);
   }
 
   pub before-small : (i : ℕ) → i < n → Small (knotAt xs ys (before i))

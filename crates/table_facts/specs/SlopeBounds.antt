@@ -6,7 +6,6 @@ use lib.Dec.{lit<, lit≤}
 use lib.Ieee.{Float, ofBits}
 use Rattle.floats.specs.Within.{Within, Beyond, beyond-of}
 use Rattle.single.specs.Constants.{𝟐𝟓𝟓}
-use Rattle.single.specs.Rules.{float}
 use Rattle.single.specs.RuleLaws.{float-is}
 use Rattle.points.specs.declared.Knot.{Knot}
 use Rattle.segments.specs.Straight.{slope}
@@ -39,8 +38,7 @@ top-beyond = beyond-of tt (lit≤ tt)
 looseness-within : (q : ℕ) → q ≤ 255 → Within (looseness q) 151
 unfolding looseness
 looseness-within q h =
-    let tension =
-    most-within (float q) q 1 255 157 (lit< tt) (float-is q (omega arith)) h (lit≤ tt) in
+    let tension = most-within _ q 1 255 157 (lit< tt) (float-is q (omega arith)) h (lit≤ tt) in
     minus one-within (divided tension top-beyond tt) tt
 
 loose-slope-within : {c : Float} {l r : Knot} → Within c 151 → Small l → Small r

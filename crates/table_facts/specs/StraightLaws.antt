@@ -1,6 +1,6 @@
 -- The straight piece at any position: exact at the knots, within 1 / 16,384 of the exact broken
 -- line, finite, and in order where the heights are.
-use mathlib.Core.Path.{_≡_, sym, _∙_}
+use mathlib.Core.Path.{_≡_}
 use mathlib.Core.Logic.{inl, inr}
 use mathlib.Core.List.{List}
 use Prim.Native.Nat.{ℕ, _+_, _-_, _*_, _^_, _≤_, _<_}
