@@ -5,16 +5,15 @@ use native.Mathlib.Omega.{arith}
 use lib.Dec.{lit≤}
 use lib.Ieee.{Float}
 use Rattle.floats.specs.Position.{part-low, part-high}
-use Rattle.floats.specs.Segment.{at-float}
 use Rattle.floats.specs.Within.{Within}
 use Rattle.single.specs.Constants.{𝟎, 𝟏, 𝟎-is, 𝟏-is}
 use Rattle.points.specs.declared.Knot.{Knot}
 use Rattle.segments.specs.Segments.{segment}
 use Rattle.points.specs.Knots.{at}
 use Rattle.hermite.specs.Hermite.{hermite}
-use Rattle.segments.specs.Rows.{Rows, piece}
-use Rattle.segments.specs.SegmentLaws.{InRange, segment-holds}
-use Rattle.table_facts.specs.StraightLaws.{part-plain}
+use Rattle.segments.specs.Rows.{Rows}
+use Rattle.segments.specs.SegmentLaws.{InRange}
+use Rattle.table_facts.specs.StraightLaws.{part-plain, on-piece, held}
 use Rattle.table_facts.specs.CubicLaws.{cubicAt}
 use Rattle.table_facts.specs.Sizes.{
   one-within,
@@ -49,9 +48,9 @@ module _ {xs ys : List Float} {n : ℕ} {a h : ℕ → ℕ} (r : Rows xs ys n a 
   pub cubic-within : (x : Float) → InRange x → Within (cubicAt xs ys ms n x) 234
   cubic-within x p =
       let s = segment xs n x in
-      let k = segment-holds r x (p .low) (p .high) in
+      let k = held r p in
       let l : s < n = omega arith in
-      let at-x = at-float (piece r s (k .inside)) x (p .in-format) (k .low) (k .high) in
+      let at-x = on-piece r p k in
       hermite-within (knot-small r s l) (knot-small r (s + 1) (k .inside)) (tame s l)
       (tame (s + 1) (k .inside))
       (rw (part-plain r s x (k .inside))

@@ -1,6 +1,6 @@
 -- The facts for the knots of a kept list: they are in rows, its curve goes through its points, and
 -- the straight pieces are in order where the list never falls.
-use mathlib.Core.Path.{sym, ap}
+use mathlib.Core.Path.{ap}
 use mathlib.Core.List.{List, List·Memᴰ}
 use Prim.Native.Nat.{ℕ, _*_, _≤_, _<_}
 use native.Mathlib.Nat.{le-of-eq, mul-le-mul-left}
@@ -41,7 +41,7 @@ module _ (l : List Point) (kept : IsKept l) where
   -- what holds at every knot holds at a point
   at-point : (P : Point → Type 0) → ((i : ℕ) → i < length ks → P (nth ks i)) → (p : Point)
       → List·Memᴰ p l → P p
-  at-point P all p m = let k = mem-at ks p (knots-mem l p m) in rw (sym (k .2)) (all (k .0) (k .1))
+  at-point P all p m = let k = mem-at ks p (knots-mem l p m) in rw (← (k .2)) (all (k .0) (k .1))
 
   pub straight-at-point : (x : Float) (p : Point) → List·Memᴰ p l → Is x (p .x) 0 1
       → Is (straightOf l x) (256 * p .y) 0 256

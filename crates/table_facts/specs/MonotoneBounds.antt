@@ -62,18 +62,11 @@ tame-cond : (b : Bool) {s t : Tangents} → (b ≡ true → Tame s) → (b ≡ f
 tame-cond true v w = v refl
 tame-cond false v w = w refl
 
-nonnegative-within : (m q : Float) {k : ℕ} → Within m k → Within (nonnegative m q) k
-nonnegative-within m q {k} w = within-cond (lt q 𝟎) (within-zero 𝟎 k 𝟎-is) w
+nonnegative-within : {m : Float} (q : Float) {k : ℕ} → Within m k → Within (nonnegative m q) k
+nonnegative-within q {k} w = within-cond (lt q 𝟎) (within-zero 𝟎 k 𝟎-is) w
 
--- ---- the Box kind
-capped-within : (m q d : Float) → Within m 181 → Within d 178 → Within (capped m q d) 181
-capped-within m q d w v =
-    either (lt 𝟑 q) (times three-within v tt) (nonnegative-within m q w)
-
-boxed-tame : (d l r : Float) → Within d 178 → Within l 181 → Within r 181 → Tame (boxed d l r)
-unfolding boxed
-boxed-tame d l r v wl wr =
-    record { left = capped-within l (l ⊘ d) d wl v; right = capped-within r (r ⊘ d) d wr v }
+capped-within : {m d : Float} (q : Float) → Within m 181 → Within d 178 → Within (capped m q d) 181
+capped-within q w v = either (lt 𝟑 q) (times three-within v tt) (nonnegative-within q w)
 
 -- ---- the circle
 square-within : {x : Float} → Within x 211 → FromZero (x ⊗ x) 273
@@ -95,44 +88,43 @@ ratio-within {x} v w nine squared = elim (size-of x 150 211 v) [
   | inl small ↦
       let root = root-beyond 150 212 w nine (lit≤ tt) (lit≤ tt) (lit≤ tt) in
       widen 152 (times (divided three-within root tt) small tt) (lit≤ tt)
-  | inr large ↦
-      let p = large .0 in
-      let low : 150 ≤ p = large .1 in
-      let high : p < 211 = large .2 in
-      let root =
-      root-beyond p 212 w (squared p low high (large .3)) (omega arith) (lit≤ tt) (lit≤ tt) in
-      within-mul 152 (within-div (300 - p) three-within root (omega arith) (omega arith)) (large .4)
+  | inr (p, low, high, least, most) ↦
+      let root = root-beyond p 212 w (squared p low high least) (omega arith) (lit≤ tt) (lit≤ tt) in
+      within-mul 152 (within-div (300 - p) three-within root (omega arith) (omega arith)) most
       (omega arith) (lit≤ tt)
 ]
 
-circled-tame : (d l r : Float) → Within d 178 → Beyond d 119 → Within l 181 → Within r 181
-    → Tame (circled d l r)
-unfolding circled
-circled-tame d l r v away wl wr =
-    let a : Within (l ⊘ d) 211 = divided wl away tt in
-    let b : Within (r ⊘ d) 211 = divided wr away tt in
-    let s = sum-from-zero (square-within a) (square-within b) (lit< tt) in
-    tame-cond (lt 𝟗 _)
-    (λ above.
-    let nine = above-guard s nine-guard above in
-    let left = ratio-within a s nine (λ p low high w. squares-beyond p a b low high w .0) in
-    let right = ratio-within b s nine (λ p low high w. squares-beyond p b a low high w .1) in
-    record { left = times left v tt; right = times right v tt })
-    (λ else. record {
-      left = nonnegative-within l (l ⊘ d) wl;
-      right = nonnegative-within r (r ⊘ d) wr;
-    })
+-- ---- a segment with the secant d and the tangents l and r
+module _ {d l r : Float} (v : Within d 178) (wl : Within l 181) (wr : Within r 181) where
+  boxed-tame : Tame (boxed d l r)
+  unfolding boxed
+  boxed-tame = record { left = capped-within (l ⊘ d) wl v; right = capped-within (r ⊘ d) wr v }
 
--- ---- a segment of either kind
-adjusted-tame : (box : Bool) (d l r : Float) → Within d 178 → Within l 181 → Within r 181
-    → Tame (adjusted box d l r)
-unfolding adjusted
-adjusted-tame box d l r v wl wr =
-    tame-cond (lt (absolute d) nano)
-    (λ tiny. record { left = within-zero 𝟎 181 𝟎-is; right = within-zero 𝟎 181 𝟎-is })
-    (λ large.
-    tame-cond box (λ is-box. boxed-tame d l r v wl wr)
-    (λ is-circle. circled-tame d l r v (passed v nano-guard large) wl wr))
+  circled-tame : Beyond d 119 → Tame (circled d l r)
+  unfolding circled
+  circled-tame away =
+      let a : Within (l ⊘ d) 211 = divided wl away tt in
+      let b : Within (r ⊘ d) 211 = divided wr away tt in
+      let s = sum-from-zero (square-within a) (square-within b) (lit< tt) in
+      tame-cond (lt 𝟗 _)
+      (λ above.
+      let nine = above-guard s nine-guard above in
+      let left = ratio-within a s nine (λ p low high w. squares-beyond p a b low high w .0) in
+      let right = ratio-within b s nine (λ p low high w. squares-beyond p b a low high w .1) in
+      record { left = times left v tt; right = times right v tt })
+      (λ else. record {
+        left = nonnegative-within (l ⊘ d) wl;
+        right = nonnegative-within (r ⊘ d) wr;
+      })
+
+  adjusted-tame : (box : Bool) → Tame (adjusted box d l r)
+  unfolding adjusted
+  adjusted-tame box =
+      let zero = within-zero 𝟎 181 𝟎-is in
+      tame-cond (lt (absolute d) nano) (λ tiny. record { left = zero; right = zero })
+      (λ large.
+      tame-cond box (λ is-box. boxed-tame)
+      (λ is-circle. circled-tame (passed v nano-guard large)))
 
 module _ {xs ys : List Float} {n : ℕ} {a h : ℕ → ℕ} (r : Rows xs ys n a h) where
   secant-within : (i : ℕ) → i + 1 < n → Within (secantAt xs ys i) 178
@@ -151,7 +143,7 @@ module _ {xs ys : List Float} {n : ℕ} {a h : ℕ → ℕ} (r : Rows xs ys n a 
   step-tame : (box : Bool) (i j : ℕ) → i + 1 < n → j < n → Within (reached box xs ys n i) 181
       → Tame (adjusted box (secantAt xs ys i) (reached box xs ys n i) (meanAt xs ys n j))
   step-tame box i j l m w =
-      adjusted-tame box _ _ _ (secant-within i l) w (widen 181 (mean-within j m) (lit≤ tt))
+      adjusted-tame (secant-within i l) w (widen 181 (mean-within j m) (lit≤ tt)) box
 
   reached-within : (box : Bool) (i : ℕ) → i < n → Within (reached box xs ys n i) 181
   unfolding reached

@@ -20,10 +20,11 @@ use Rattle.points.specs.declared.Knot.{Knot}
 use Rattle.points.specs.Knots.{knotAt, at, tooThin}
 use Rattle.segments.specs.Segments.{segment}
 use Rattle.segments.specs.Rows.{Rows}
-use Rattle.segments.specs.SegmentLaws.{InRange, segment-holds}
+use Rattle.segments.specs.SegmentLaws.{InRange}
 use Rattle.spline.specs.Segments.{between, segmentAt, firstCoefficient, splinePiece, slopeOf}
 use Rattle.table_facts.specs.Sizes.{upto-within, two-within, Small, knot-small}
 use Rattle.table_facts.specs.Sizes.{plus, minus, times, divided, either}
+use Rattle.table_facts.specs.StraightLaws.{held}
 use Rattle.table_facts.specs.SplineBounds.{least-beyond, Sized, width-within, sized}
 
 -- ---- slopes
@@ -86,7 +87,7 @@ module _ {xs ys : List Float} {n : ℕ} {a h : ℕ → ℕ} (r : Rows xs ys n a 
   unfolding segmentAt
   spline-within x p =
       let s = segment xs n x in
-      let k = segment-holds r x (p .low) (p .high) in
+      let k = held r p in
       let l : s < n = omega (arith, k .inside) in
       piece-within (knotAt xs ys (s + 1)) (knot-small r s l) (sized r s (k .inside)) (tame s l)
       (tame (s + 1) (k .inside)) (upto-within x 𝟐𝟓𝟓 255 157 𝟐𝟓𝟓-is (p .low) (p .high) (lit≤ tt))

@@ -148,11 +148,11 @@ module _ {xs ys : List Float} {n : ℕ} {a h : ℕ → ℕ} (r : Rows xs ys n a 
       straight-near x i l low high (at-float (piece r i l) x (p .in-format) low high)
 
   -- ---- in every segment
-  on-piece : {x : Float} {s : ℕ} → InRange x → Holds xs n x s
+  pub on-piece : {x : Float} {s : ℕ} → InRange x → Holds xs n x s
       → Position (at xs s) (at xs (s + 1)) x (top x - a s * den x) ((a (s + 1) - a s) * den x)
   on-piece {x} {s} p k = at-float (piece r s (k .inside)) x (p .in-format) (k .low) (k .high)
 
-  held : {x : Float} → InRange x → Holds xs n x (segment xs n x)
+  pub held : {x : Float} → InRange x → Holds xs n x (segment xs n x)
   held {x} p = segment-holds r x (p .low) (p .high)
 
   pub straight-finite : (x : Float) → InRange x → T (finite (straightAt xs ys n x))
