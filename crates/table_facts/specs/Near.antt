@@ -107,8 +107,8 @@ module _ (l : List Point) (bytes : All Bytes l) where
       let positive = ap (λ (t : ℕ). t * c) (unsigned x (e .0) (r .low)) in
       let far : (top x - a * den x) * c ≡ (p - a * c) * den x =
       same-distance (top x - a * den x) (p - a * c) a c (den x) (top x) p
-      (add-sub-of-le (omega (arith, own-left))) (add-sub-of-le (o .left))
-      (omega (arith, e .1, positive)) in
+      (add-sub-of-le (omega arith)) (add-sub-of-le (o .left))
+      (omega arith) in
       let apart : 0 < b - a = omega (arith, rows .rising i (suc i) (omega arith) (o .inside)) in
       rw (sample-straight S v r, o .width)
       (same-height (fineHeight ks i) (fineHeight ks (suc i)) (top x - a * den x)
@@ -145,4 +145,4 @@ module _ (l : List Point) (bytes : All Bytes l) where
       let same = sample-straight 256 v r in
       nearest (byteOf z) (val z) (frac n 0 d) (den-pos z)
       (byte-of-range z (rw same (straight-finite rows x r)) (rw same (b .0)) (rw same (b .1)))
-      (byte-sample-near v h n d o) (omega (arith, o .width, x-most rows (suc (o .i)) (o .inside)))
+      (byte-sample-near v h n d o) (omega (arith, x-most rows (suc (o .i)) (o .inside)))

@@ -88,6 +88,6 @@ module _ {xs ys : List Float} {n : ℕ} {a h : ℕ → ℕ} (r : Rows xs ys n a 
   spline-within x p =
       let s = segment xs n x in
       let k = held r p in
-      let l : s < n = omega (arith, k .inside) in
+      let l : s < n = omega arith in
       piece-within (knotAt xs ys (s + 1)) (knot-small r s l) (sized r s (k .inside)) (tame s l)
       (tame (s + 1) (k .inside)) (upto-within x 𝟐𝟓𝟓 255 157 𝟐𝟓𝟓-is (p .low) (p .high) (lit≤ tt))

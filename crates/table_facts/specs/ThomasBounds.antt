@@ -122,7 +122,7 @@ module _ {n j r : ℕ} (v : Inverse n j r) where
   later-most {a} t k row few h ia ib ic id l m e f =
       let below = mul-most (rep-whole a (omega arith)) ia (h .above) (omega arith) in
       let twice = rep-times (2 * a) 41 (omega arith) (lit≤ tt) in
-      let more = rep-times (2 * a + 1) 41 (omega (arith, v .pos)) (lit≤ tt) in
+      let more = rep-times (2 * a + 1) 41 (omega arith) (lit≤ tt) in
       let right = sub-most more id (mul-most twice ia (h .right) (omega arith)) (omega arith) in
       rw (ne-eqb (suc k) 0 (ne-of-gt (omega arith)))
       (scaled-most _ t few (sub-least _ n l m ib below) ic right e f)
@@ -225,7 +225,7 @@ free-first {h} {g} r s H h< G g< b c d =
     let e = g - h + (h - g) in
     let f = v - e in
     let size = diagonal (h + g) v (omega arith) (omega arith) (omega arith) (omega arith) in
-    let o = inverse-of 26 n (lit≤ tt) (omega (arith, size .0)) (omega (arith, size .0)) in
+    let o = inverse-of 26 n (lit≤ tt) (omega arith) (omega arith) in
     let many = times-least 86 390150 n i (2 ^ 26) (lit< tt) (lit≤ tt) (size .1) (o .least) in
     let near : v ≤ f * 86 = omega arith in
     first-most o r s (lit≤ tt) b c d
