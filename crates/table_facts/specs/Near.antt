@@ -100,10 +100,11 @@ module _ (l : List Point) (bytes : All Bytes l) where
       let low =
       le-of-is (at (xRow ks) i) x a 0 1 p 0 c (lit< tt) (o .divisor) a-is e (omega arith) in
       let high =
-      le-of-is x (at (xRow ks) (suc i)) p 0 c b 0 1 (o .divisor) (lit< tt) e (rows .x-is (suc i) (o .inside))
-      (omega arith) in
+      le-of-is x (at (xRow ks) (suc i)) p 0 c b 0 1 (o .divisor) (lit< tt) e
+      (rows .x-is (suc i) (o .inside)) (omega arith) in
       let own-left =
-      is-of-le (at (xRow ks) i) x a 0 1 (top x) 0 (den x) a-is (nonnegative-is x (e .0) (r .low)) low in
+      is-of-le (at (xRow ks) i) x a 0 1 (top x) 0 (den x) a-is
+      (nonnegative-is x (e .0) (r .low)) low in
       let positive = ap (λ (t : ℕ). t * c) (unsigned x (e .0) (r .low)) in
       let far : (top x - a * den x) * c ≡ (p - a * c) * den x =
       same-distance (top x - a * den x) (p - a * c) a c (den x) (top x) p

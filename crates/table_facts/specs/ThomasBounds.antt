@@ -85,8 +85,8 @@ module _ {n j r : ℕ} (v : Inverse n j r) where
       let u = 2 ^ j in
       at-most-cond (lt (absolute x) pico)
       (at-most-more r u (pow-pos j) (omega arith) (whole-most 𝟎 𝟎-is))
-      (at-most-div binary32 r u (pow-pos j) (rep-dyadic r j (v .fine) (v .small)) (whole-most 𝟏 𝟏-is)
-      h (v .pos) (omega arith))
+      (at-most-div binary32 r u (pow-pos j) (rep-dyadic r j (v .fine) (v .small))
+      (whole-most 𝟏 𝟏-is) h (v .pos) (omega arith))
 
   -- where the pivot is at least n, c at most a and d at most b * 2 ^ 41
   scaled-most : {a : ℕ} (b t : ℕ) {pivot c d : Float} → t < 2 ^ 24 → AtLeast n 1 pivot

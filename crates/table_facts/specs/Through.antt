@@ -66,8 +66,8 @@ pub record NoSpline (k : CurveInterpolation) : Type 0 where
   pub form : formOf k ≡ Spline → ⊥
   pub tension : carriedOf k .tension < 256
 
--- how k is drawn: by straight pieces, by cubic ones with tangents by one of the Hermite rules, or by
--- a spline's with second derivatives by a boundary rule
+-- how k is drawn: by straight pieces, by cubic ones with tangents by one of the Hermite rules, or
+-- by a spline's with second derivatives by a boundary rule
 data Drawn (k : CurveInterpolation) : Type 0 where
   lines : k ≡ Linear → Drawn k
   cubics : formOf k ≡ Cubic → HermiteRule (knotValueAt k) → Drawn k
@@ -105,7 +105,8 @@ module _ (l : List Point) (bytes : All Bytes l) where
   abbrev knotValues : CurveInterpolation → List Float
   knotValues k = knotValueRow k (xRow ks) (yRow ks) (length ks)
 
-  made : (k : CurveInterpolation) → MadeBy (knotValueAt k) (xRow ks) (yRow ks) (length ks) (knotValues k)
+  made : (k : CurveInterpolation)
+      → MadeBy (knotValueAt k) (xRow ks) (yRow ks) (length ks) (knotValues k)
   made k i h = getD-filled (length ks) _ (replicate 66 𝟎) i nan h
 
   -- ---- every tangent and every second derivative is finite
@@ -130,7 +131,8 @@ module _ (l : List Point) (bytes : All Bytes l) where
     | splines form rule slopes second ↦
         let small : (i : ℕ) → i < length ks → Within (at (knotValues k) i) 225 =
         λ i inside.
-        rw (made k i inside, second) (second-within (given-rows l bytes) rule (slopes h) i inside) in
+        rw (made k i inside, second)
+        (second-within (given-rows l bytes) rule (slopes h) i inside) in
         rw form (spline-within (given-rows l bytes) (knotValues k) small x p .most .fin)
   ]
 
