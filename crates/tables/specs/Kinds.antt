@@ -46,35 +46,35 @@ twoSlopes start end = record { tension = 0; start = start; end = end }
 -- ---- the table of the kinds
 -- "Kinds, numbered 0 to 9"; "Cardinal carries a tension", "ClampedCubic carries two slopes";
 -- "Linear", "Hermite kinds (1, 2, 3, 5, 6, 7)", "Splines (4, 8, 9)"
-pub record KindEntry : Type 0 where
+pub record Description : Type 0 where
   pub number : ℕ
   pub carried : Carried
   pub form : Form
 
-abbrev entry : ℕ → Carried → Form → KindEntry
-entry number carried form = record { number = number; carried = carried; form = form }
+abbrev described : ℕ → Carried → Form → Description
+described number carried form = record { number = number; carried = carried; form = form }
 
-abbrev pub entryOf : CurveInterpolation → KindEntry
-entryOf Linear = entry 0 nothing Straight
-entryOf CatmullRom = entry 1 nothing Cubic
-entryOf MonotoneCubic = entry 2 nothing Cubic
-entryOf MonotoneCubicBox = entry 3 nothing Cubic
-entryOf NaturalCubic = entry 4 nothing Spline
-entryOf CentripetalCatmullRom = entry 5 nothing Cubic
-entryOf ChordalCatmullRom = entry 6 nothing Cubic
-entryOf (Cardinal q) = entry 7 (aTension q) Cubic
-entryOf (ClampedCubic start end) = entry 8 (twoSlopes start end) Spline
-entryOf NotAKnotCubic = entry 9 nothing Spline
+abbrev pub descriptionOf : CurveInterpolation → Description
+descriptionOf Linear = described 0 nothing Straight
+descriptionOf CatmullRom = described 1 nothing Cubic
+descriptionOf MonotoneCubic = described 2 nothing Cubic
+descriptionOf MonotoneCubicBox = described 3 nothing Cubic
+descriptionOf NaturalCubic = described 4 nothing Spline
+descriptionOf CentripetalCatmullRom = described 5 nothing Cubic
+descriptionOf ChordalCatmullRom = described 6 nothing Cubic
+descriptionOf (Cardinal q) = described 7 (aTension q) Cubic
+descriptionOf (ClampedCubic start end) = described 8 (twoSlopes start end) Spline
+descriptionOf NotAKnotCubic = described 9 nothing Spline
 
 abbrev pub kindNumber : CurveInterpolation → ℕ
-kindNumber k = entryOf k .number
+kindNumber k = descriptionOf k .number
 
 abbrev pub carriedOf : CurveInterpolation → Carried
-carriedOf k = entryOf k .carried
+carriedOf k = descriptionOf k .carried
 
 -- how a piece of its curve is drawn
 abbrev pub formOf : CurveInterpolation → Form
-formOf k = entryOf k .form
+formOf k = descriptionOf k .form
 
 -- ---- by number
 -- the number of the last kind
