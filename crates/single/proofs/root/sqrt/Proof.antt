@@ -1,15 +1,14 @@
 -- `sqrt` meets its contract: each way through it has a law of `Patterns`.
-use mathlib.Core.Path.{_≡_, refl, sym, ap, _∙_, subst}
+use mathlib.Core.Path.{_≡_, refl, ap, _∙_}
 use Prim.Native.Nat.{ℕ}
 use native.Mathlib.Omega.{arith}
 use lib.Dec.{T}
-use lib.Ieee.{Float, binary32, fits, toBits, div, ofBits, nan}
+use lib.Ieee.{binary32, fits, toBits, div, ofBits, nan}
 use lib.Ieee.Bits.{ofBits-toBits, toBits-lt}
 use Rattle.single.specs.Root.{rootOf}
 use Rattle.single.proofs.root.Patterns.{
   not-nan,
   nan-root,
-  zero-root,
   own-root,
   negative-root,
   subnormal-root,
@@ -22,7 +21,7 @@ abbrev B : tie.Start → ℕ
 B c = toBits binary32 (c .args .x)
 
 held : (c : tie.Start) → T (fits binary32 (c .args .x))
-held c = subst T (sym (c .good .0 .1)) tt
+held c = rw (c .good .0 .1) tt
 
 is : (c : tie.Start) → ofBits binary32 (B c) ≡ c .args .x
 is c = ofBits-toBits binary32 (c .args .x) (held c)
@@ -40,16 +39,15 @@ float-to-bits-b c = not-nan (c .before .args .x) (c .if1 .left)
 returns-2 : tie.Need-returns-2
 returns-2 c =
     let s = c .before .before .before in
-    made ∙ negative-root (B s) (c .if3 .taken) (toBits-lt binary32 (s .args .x) (held s)) ∙ ap rootOf (is s)
+    rw (made, ← is s) (negative-root (B s) (c .if3 .taken) (toBits-lt binary32 (s .args .x) (held s)))
 
 returns-3 : tie.Need-returns-3
 returns-3 c = let s = c .before .before .before in
-    subst (λ (y : Float). y ≡ rootOf y) (is s) (own-root (B s) (c .before .if2 .taken) (c .if3 .left))
+    rw (is s) at (own-root (B s) (c .before .if2 .taken) (c .if3 .left))
 
 returns-4 : tie.Need-returns-4
-returns-4 c =
-    let s = c .before .before .before .before in
-    subst (λ (y : Float). y ≡ rootOf y) (ap (ofBits binary32) (sym (c .if5 .taken)) ∙ is s) zero-root
+unfolding rootOf ofBits
+returns-4 c = rw (← is (c .before .before .before .before), c .if5 .taken)
 
 returns-5 : tie.Need-returns-5
 returns-5 c =
