@@ -1,6 +1,6 @@
 -- What `to_byte` and `floor` go by: x kept to 0..n is a fraction a / d, two sums leave the whole
 -- number w nearest to it, and one test says on which side of w, or of w + ½, it lies.
-use mathlib.Core.Path.{_≡_, refl, sym, ap, _∙_, subst}
+use mathlib.Core.Path.{_≡_, refl, sym, ap, _∙_}
 use mathlib.Core.Bool.{true, false}
 use Prim.Native.Nat.{ℕ, zero, suc, _+_, _*_, _/_, _^_, _<_, _≤_, zero-le}
 use native.Mathlib.Nat.{le-refl, le-trans, le-of-suc-le-suc, lt-of-not-le, mul-le-mul-right, div-eq-of-lt-le}
@@ -29,12 +29,10 @@ held-cases : (P : Float → Type 0) (top x : Float)
     → (T (lt 𝟎 x) → lt x top ≡ false → P top)
     → P (held top x)
 unfolding held
-held-cases P top x low between high = by-test (lt 𝟎 x) above (λ e. rw e (low e))
-  where
-    above : lt 𝟎 x ≡ true → P (held top x)
-    above e =
-        let positive : T (lt 𝟎 x) = subst T (sym e) tt in
-        by-test (lt x top) (λ g. rw (e, g) (between positive (subst T (sym g) tt))) (λ g. rw (e, g) (high positive g))
+held-cases P top x low between high =
+    by-test (lt 𝟎 x)
+    (λ e. by-test (lt x top) (λ g. rw (e, g) (between (rw e tt) (rw g tt))) (λ g. rw (e, g) (high (rw e tt) g)))
+    (λ e. rw e (low e))
 
 -- x so kept has x's whole number, by any rule
 module _ (rule : ℕ → ℕ → ℕ) (n : ℕ) (R : Rule rule) (small : n ≤ 2 ^ 24) where
@@ -75,10 +73,8 @@ pub record Split (n : ℕ) (b : Float) : Type 0 where
   pub high : 2 * a ≤ 2 * w * d + d
 
 nearest-small : (n a d w : ℕ) → 0 < d → a ≤ n * d → 2 * w * d ≤ 2 * a + d → w ≤ n
-nearest-small n a d w D h l = le-of-suc-le-suc (lt-of-not-le (λ (g : suc n ≤ w). clash (mul-le-mul-right d g)))
-  where
-    clash : suc n * d ≤ w * d → ⊥
-    clash g = omega arith
+nearest-small n a d w D h l =
+    le-of-suc-le-suc (lt-of-not-le (λ (g : suc n ≤ w). omega (arith, mul-le-mul-right d g)))
 
 split : (n : ℕ) → n ≤ 2 ^ 22 → (b : Float) → T (unsigned b) → T (finite b) → T (le b (float n)) → Split n b
 unfolding ofBits
@@ -139,9 +135,7 @@ module _ (n : ℕ) (s : n ≤ 2 ^ 22) where
 pub cast-back : (bits k : ℕ) (t : Float) → k < 2 ^ bits → k ≤ 2 ^ 24 → t ≡ float k
     → T (inUnsigned binary32 bits t) × (toUnsigned bits t ≡ k)
 unfolding inFloat
-cast-back bits k t h l e =
-    let u = unsigned-back binary32 bits k (le→leb k (2 ^ 24) l) h in
-    (rw e (u .0), ap (toUnsigned bits) e ∙ u .1)
+cast-back bits k t h l e = rw e (unsigned-back binary32 bits k (le→leb k (2 ^ 24) l) h)
 
 -- ---- to a byte: w where b is below w + ½, which is exact, and w + 1 where it is not
 half-above : (w : ℕ) → w ≤ 255 → Is (float w ⊕ ½) (2 * w + 1) 0 2
@@ -168,10 +162,7 @@ module _ {b : Float} (s : Split 255 b) where
 
 -- ---- the whole part: w where b is not below w, and one less where it is
 one-less : (a d w : ℕ) → 2 * w * d ≤ 2 * a + d → a < w * d → a / d + 1 ≡ w
-one-less a d zero l h = absurd (none h)
-  where
-    none : a < 0 * d → ⊥
-    none g = omega arith
+one-less a d zero l h = omega arith
 one-less a d (suc v) l h = let e : a / d ≡ v = div-eq-of-lt-le d (omega arith) (omega arith) in omega arith
 
 module _ {b : Float} (s : Split 4094 b) where

@@ -6,7 +6,6 @@ use mathlib.Core.Bool.{true, false}
 use Prim.Native.Nat.{ℕ, _+_, _-_, _*_, _/_, _^_, _≤_, _<_, min, zero-le}
 use native.Mathlib.Nat.{
   le-refl,
-  le-trans,
   le-antisymm,
   le-of-eq,
   sub-zero,
@@ -38,7 +37,7 @@ nearest-rule = record {
 }
 
 pub floor-rule : Rule _/_
-floor-rule = record { grows = λ a d b c D C h. div-mono a d b c D C h; whole = div-one }
+floor-rule = record { grows = div-mono; whole = div-one }
 
 module _ (rule : ℕ → ℕ → ℕ) (most : ℕ) where
   pub whole-small : (x : Float) → wholeBy rule most x ≤ most
@@ -111,24 +110,23 @@ module _ (rule : ℕ → ℕ → ℕ) (most : ℕ) where
     pub whole-low : (x : Float) → T (le x 𝟎) → wholeBy rule most x ≡ 0
     whole-low x h =
         let z : wholeBy rule most 𝟎 ≡ 0 = rw 𝟎-float (whole-float 0 zero-le zero-le) in
-        le-antisymm (le-trans (whole-le x 𝟎 h) (le-of-eq z)) zero-le
+        omega (arith, whole-le x 𝟎 h)
 
     pub whole-high : most ≤ 2 ^ 24 → (x : Float) → T (le (float most) x)
         → wholeBy rule most x ≡ most
     whole-high l x h =
-        let z : wholeBy rule most (float most) ≡ most = whole-float most (le-refl most) l in
-        le-antisymm (whole-small x) (le-trans (le-of-eq (sym z)) (whole-le (float most) x h))
+        omega (arith, whole-small x, whole-float most (le-refl most) l, whole-le (float most) x h)
 
 -- ---- to a byte
 pub byte-small : (x : Float) → byteOf x ≤ 255
 unfolding byteOf
-byte-small x = whole-small nearestWhole 255 x
+byte-small = whole-small nearestWhole 255
 
 -- from 0 to 255 nothing is cut off
 pub byte-nearest : (x : Float) (s d : ℕ) → 0 < d → s ≤ 255 * d → Is x s 0 d
     → byteOf x ≡ nearestWhole s d
 unfolding byteOf
-byte-nearest x s d D h i = whole-uncut nearestWhole 255 nearest-rule x s d D h i
+byte-nearest = whole-uncut nearestWhole 255 nearest-rule
 
 -- the byte R of s / d is within a half of it, 2 * |R * d - s| ≤ d, and a half goes up
 pub byte-near : (x : Float) (s d : ℕ) → 0 < d → s ≤ 255 * d → Is x s 0 d
@@ -148,11 +146,11 @@ byte-float n h = whole-float nearestWhole 255 nearest-rule n h (omega arith)
 -- The order is kept, infinities included. A comparison that holds has no NaN.
 pub byte-le : (x y : Float) → T (le x y) → byteOf x ≤ byteOf y
 unfolding byteOf
-byte-le x y h = whole-le nearestWhole 255 nearest-rule x y h
+byte-le = whole-le nearestWhole 255 nearest-rule
 
 pub byte-low : (x : Float) → T (le x 𝟎) → byteOf x ≡ 0
 unfolding byteOf
-byte-low x h = whole-low nearestWhole 255 nearest-rule x h
+byte-low = whole-low nearestWhole 255 nearest-rule
 
 pub byte-high : (x : Float) → T (le 𝟐𝟓𝟓 x) → byteOf x ≡ 255
 unfolding byteOf
@@ -170,9 +168,9 @@ byte-clamped x =
 -- ---- the whole part
 pub floor-small : (x : Float) → floorOf x ≤ 4094
 unfolding floorOf
-floor-small x = whole-small _/_ 4094 x
+floor-small = whole-small _/_ 4094
 
 -- from 0 to 4,094 nothing is cut off
 pub floor-quotient : (x : Float) (s d : ℕ) → 0 < d → s ≤ 4094 * d → Is x s 0 d → floorOf x ≡ s / d
 unfolding floorOf
-floor-quotient x s d D h i = whole-uncut _/_ 4094 floor-rule x s d D h i
+floor-quotient = whole-uncut _/_ 4094 floor-rule

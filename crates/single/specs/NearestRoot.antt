@@ -1,9 +1,9 @@
 -- The rounded root by squares alone. `NearestRoot n k p` says that p * 2 ^ k is nearest to the root
 -- of n, p being even at a tie:
 -- there is one such p, and `nearestRoot n k` is it.
-use mathlib.Core.Path.{_≡_, refl, sym, ap, _∙_, subst}
+use mathlib.Core.Path.{_≡_, refl, sym, ap, subst}
 use mathlib.Core.Logic.{_⊎_, inl, inr}
-use mathlib.Core.Bool.{Bool, true, false, not, cond}
+use mathlib.Core.Bool.{not}
 use Prim.Native.Nat.{
   ℕ,
   zero,
@@ -29,27 +29,25 @@ use native.Mathlib.Nat.{
   le-of-eq,
   le-antisymm,
   lt-of-le-of-lt,
-  lt-of-lt-of-le,
   lt-of-not-le,
   not-le-of-lt,
   le-of-suc-le-suc,
 }
 use native.Mathlib.Nat.{
   mul-le-mul,
-  mul-assoc,
   mul-pos,
   mul-le-mul-left,
   mul-le-mul-right,
   mul-lt-mul-of-pos-right,
   mul-mul-mul-comm,
-  add-assoc,
 }
-use native.Mathlib.Nat.{two-pow-succ, div-lt-iff-lt-mul, div-mul-le-self}
+use native.Mathlib.Nat.{div-lt-iff-lt-mul, div-mul-le-self}
 use native.Mathlib.Omega.{arith}
 use lib.Dec.{T, leb, leb→le, nleb→lt, isLe, isEq, eqb→eq}
 use lib.Pow.{pow-pos}
 use lib.Ieee.{nearest}
 use lib.Ieee.Fits.{eq→eqb}
+use Rattle.lists.specs.Test.{by-test}
 use Rattle.single.specs.Root.{rootDigits, nearestRoot}
 
 -- the square of a * 2 ^ k
@@ -68,9 +66,7 @@ pub square-of : (k a : ℕ) → square k a ≡ a * a * (2 ^ k * 2 ^ k)
 square-of k a = mul-mul-mul-comm a (2 ^ k) a (2 ^ k)
 
 square-double : (k a : ℕ) → square k (2 * a) ≡ 4 * (a * a * (2 ^ k * 2 ^ k))
-square-double k a =
-    square-of k (2 * a) ∙ ap (λ (x : ℕ). x * (2 ^ k * 2 ^ k)) (mul-mul-mul-comm 2 a 2 a)
-    ∙ mul-assoc 4 (a * a) (2 ^ k * 2 ^ k)
+square-double k a = omega arith
 
 pub square-mono : (k : ℕ) {a b : ℕ} → a ≤ b → square k a ≤ square k b
 square-mono k h = mul-le-mul (mul-le-mul-right (2 ^ k) h) (mul-le-mul-right (2 ^ k) h)
@@ -95,44 +91,37 @@ digits-are : (d r n : ℕ) → r * r ≤ n → n < (r + 2 ^ d) * (r + 2 ^ d)
 unfolding rootDigits
 digits-are zero r n a b = (a, b)
 digits-are (suc d) r n a b =
-    go (leb ((r + 2 ^ d) * (r + 2 ^ d)) n)
-    (λ h. digits-are d (r + 2 ^ d) n (leb→le _ _ h)
-    (subst (λ (x : ℕ). n < x * x)
-    (ap (λ (y : ℕ). r + y) (two-pow-succ d) ∙ sym (add-assoc r (2 ^ d) (2 ^ d))) b))
-    (λ h. digits-are d r n a (nleb→lt _ _ h))
-  where
-    go : (t : Bool) → (T t → WholeRoot n (rootDigits d (r + 2 ^ d) n))
-        → (T (not t) → WholeRoot n (rootDigits d r n))
-        → WholeRoot n (rootDigits d (cond t (r + 2 ^ d) r) n)
-    go true h k = h tt
-    go false h k = k tt
+    let double : r + 2 ^ suc d ≡ r + 2 ^ d + 2 ^ d = omega arith in
+    by-test (leb ((r + 2 ^ d) * (r + 2 ^ d)) n)
+    (λ e. rw e (digits-are d (r + 2 ^ d) n (leb→le _ _ (rw e tt)) (rw double at b)))
+    (λ e. rw e (digits-are d r n a (nleb→lt _ _ (rw e tt))))
 
 -- ---- of q and q + 1, between which the root lies, the nearer one
 module _ (n k q : ℕ) (low : square k (2 * q) ≤ 4 * n) (high : 4 * n < square k (2 * q + 2)) where
   stays : 4 * n ≤ square k (2 * q + 1) → (4 * n ≡ square k (2 * q + 1) → q % 2 ≡ 0)
       → NearestRoot n k q
-  stays h tie = record { low = le-trans (square-mono k (omega arith)) low; high = h; even = go }
-    where
-      go : (4 * n ≡ square k (2 * q - 1)) ⊎ (4 * n ≡ square k (2 * q + 1)) → q % 2 ≡ 0
-      go (inl e) = let g : 2 * q ≤ 2 * q - 1 =
-          square-le k (2 * q) (2 * q - 1) (le-trans low (le-of-eq e)) in omega arith
-      go (inr e) = tie e
+  stays h tie = record {
+    low = le-trans (square-mono k (omega arith)) low;
+    high = h;
+    even = elim [
+      | inl e ↦ omega (arith, square-le k (2 * q) (2 * q - 1) (le-trans low (le-of-eq e)))
+      | inr e ↦ tie e
+    ];
+  }
 
   rises : square k (2 * q + 1) ≤ 4 * n → (4 * n ≡ square k (2 * q + 1) → suc q % 2 ≡ 0)
       → NearestRoot n k (suc q)
-  rises h tie = record {
-    low = subst (λ (a : ℕ). square k a ≤ 4 * n) (sym (odd q)) h;
-    high = le-trans (le-of-lt high) (square-mono k (omega arith));
-    even = go;
-  }
-    where
-      odd : (q : ℕ) → 2 * suc q - 1 ≡ 2 * q + 1
-      odd q = omega arith
-
-      go : (4 * n ≡ square k (2 * suc q - 1)) ⊎ (4 * n ≡ square k (2 * suc q + 1)) → suc q % 2 ≡ 0
-      go (inl e) = tie (e ∙ ap (square k) (odd q))
-      go (inr e) =
-          absurd (not-le-of-lt high (le-trans (square-mono k (omega arith)) (le-of-eq (sym e))))
+  rises h tie =
+      let odd : 2 * suc q - 1 ≡ 2 * q + 1 = omega arith in
+      let next : square k (2 * q + 2) ≤ square k (2 * suc q + 1) = square-mono k (omega arith) in
+      record {
+        low = rw odd h;
+        high = le-trans (le-of-lt high) next;
+        even = elim [
+          | inl e ↦ tie (rw odd at e)
+          | inr e ↦ absurd (not-le-of-lt high (le-trans next (le-of-eq (sym e))))
+        ];
+      }
 
   at-tie : (r : ℕ) → q % 2 ≡ r → 4 * n ≡ square k (2 * q + 1) → NearestRoot n k (q + r)
   at-tie zero e t = subst (NearestRoot n k) (omega arith) (stays (le-of-eq t) (λ _. e))
@@ -179,18 +168,11 @@ nearest-root-is n k h =
     root = digits-are 24 0 (n / unit) zero-le (div-lt-iff-lt-mul positive .1 h)
 
     low : square k (2 * q) ≤ 4 * n
-    low = le-trans (le-of-eq (square-double k q))
+    low = rw (square-double k q)
         (mul-le-mul-left 4 (le-trans (mul-le-mul-right unit (root .0)) (div-mul-le-self n unit)))
 
     high : 4 * n < square k (2 * q + 2)
-    high = lt-of-lt-of-le (four (div-lt-iff-lt-mul positive .0 (root .1)))
-        (le-of-eq (sym (square-double k (q + 1)) ∙ ap (square k) (next q)))
-      where
-        four : {a b : ℕ} → a < b → 4 * a < 4 * b
-        four h = omega arith
-
-        next : (q : ℕ) → 2 * (q + 1) ≡ 2 * q + 2
-        next q = omega arith
+    high = omega (arith, div-lt-iff-lt-mul positive .0 (root .1))
 
 -- ---- there is one
 module _ (n k : ℕ) where
@@ -199,13 +181,11 @@ module _ (n k : ℕ) where
     where
       go : suc q ≤ p → ⊥
       go h =
-          let l : 2 * p - 1 ≤ 2 * q + 1 =
-          square-le k (2 * p - 1) (2 * q + 1) (le-trans (a .low) (b .high)) in
-          let e : square k (2 * p - 1) ≡ square k (2 * q + 1) = ap (square k) (omega arith) in
-          let x : p % 2 ≡ 0 =
-          a .even (inl (le-antisymm (le-trans (b .high) (le-of-eq (sym e))) (a .low))) in
-          let y : q % 2 ≡ 0 =
-          b .even (inr (le-antisymm (b .high) (le-trans (le-of-eq (sym e)) (a .low)))) in
+          let next : p ≡ suc q =
+          omega (arith, square-le k (2 * p - 1) (2 * q + 1) (le-trans (a .low) (b .high))) in
+          let same : 2 * p - 1 ≡ 2 * q + 1 = omega arith in
+          let x : p % 2 ≡ 0 = a .even (inl (le-antisymm (rw same (b .high)) (a .low))) in
+          let y : q % 2 ≡ 0 = b .even (inr (le-antisymm (b .high) (rw same at (a .low)))) in
           omega arith
 
   pub nearest-root-unique : (p q : ℕ) → NearestRoot n k p → NearestRoot n k q → p ≡ q
@@ -216,13 +196,11 @@ module _ (n k : ℕ) where
 pub nearest-root-least : {n k p : ℕ} → NearestRoot n k p → (a : ℕ) → a * a * (2 ^ k * 2 ^ k) ≤ n
     → a ≤ p
 nearest-root-least {n} {k} {p} r a h =
-    let s : square k (2 * a) ≤ square k (2 * p + 1) =
-    le-trans (le-of-eq (square-double k a)) (le-trans (mul-le-mul-left 4 h) (r .high)) in
-    omega (arith, square-le k (2 * a) (2 * p + 1) s)
+    let s : square k (2 * a) ≤ 4 * n = rw (square-double k a) (mul-le-mul-left 4 h) in
+    omega (arith, square-le k (2 * a) (2 * p + 1) (le-trans s (r .high)))
 
 pub nearest-root-most : {n k p : ℕ} → NearestRoot n k p → (a : ℕ) → n ≤ a * a * (2 ^ k * 2 ^ k)
     → p ≤ a
 nearest-root-most {n} {k} {p} r a h =
-    let s : square k (2 * p - 1) ≤ square k (2 * a) =
-    le-trans (r .low) (le-trans (mul-le-mul-left 4 h) (le-of-eq (sym (square-double k a)))) in
-    omega (arith, square-le k (2 * p - 1) (2 * a) s)
+    let s : 4 * n ≤ square k (2 * a) = rw (square-double k a) (mul-le-mul-left 4 h) in
+    omega (arith, square-le k (2 * p - 1) (2 * a) (le-trans (r .low) s))

@@ -3,22 +3,12 @@
 use mathlib.Core.Path.{_≡_, refl, sym, ap, _∙_, subst}
 use mathlib.Core.Bool.{Bool, true, false, cond}
 use Prim.Native.Nat.{ℕ, zero, suc, _+_, _-_, _*_, _/_, _^_, _≤_, _<_}
-use native.Mathlib.Nat.{
-  le-trans,
-  le-of-eq,
-  le-of-lt,
-  lt-of-le-of-lt,
-  lt-of-lt-of-le,
-  lt-of-not-le,
-  mul-le-mul-right,
-  one-mul,
-  mul-assoc,
-}
+use native.Mathlib.Nat.{le-trans, le-of-lt, lt-of-not-le, mul-le-mul-right, mul-assoc}
 use native.Mathlib.Nat.{
   not-le-of-lt,
   le-of-suc-le-suc,
   mul-one,
-  mul-div-cancel,
+  div-eq-of-eq-mul-left,
   mul-lt-mul-of-pos-right,
   mul-right-comm,
   zero-lt-suc,
@@ -38,9 +28,9 @@ use Rattle.single.specs.RootUnits.{dropped, part, Rooted, units-rooted, 
 -- ---- the root of a positive float
 -- 2 ^ e in units, where it is a whole number of them
 in-units : (e : ℤ) → down e ≤ 2 ^ 149 → (i : ℕ) × (up e * 2 ^ 149 ≡ 2 ^ i * down e)
-in-units (pos j) h = (j + 149, sym (pow-add 2 j 149) ∙ sym (mul-one (2 ^ (j + 149))))
+in-units (pos j) h = (j + 149, rw (mul-one, pow-add))
 in-units (negsuc j) h =
-    (149 - suc j, one-mul (2 ^ 149) ∙ sym (part 149 (suc j) (le-of-suc-le-suc (lt-of-not-le more))))
+    (149 - suc j, sym (part 149 (suc j) (le-of-suc-le-suc (lt-of-not-le more))))
   where
     more : 150 ≤ suc j → ⊥
     more g = not-le-of-lt (lit< {m = 2 ^ 149} {n = 2 ^ 150} tt) (le-trans (pow-mono g) h)
@@ -53,23 +43,18 @@ module _ (m : ℕ) (e : ℤ) (f : T (fits binary32 (fin false (suc m) e))) where
   i = in-units e (what-fits .1) .0
 
   exact : suc m * up e * 2 ^ 149 ≡ suc m * 2 ^ i * down e
-  exact =
-      mul-assoc (suc m) (up e) (2 ^ 149)
-      ∙ ap (λ (x : ℕ). suc m * x) (in-units e (what-fits .1) .1)
-      ∙ sym (mul-assoc (suc m) (2 ^ i) (down e))
+  exact = rw (mul-assoc (suc m) (up e), in-units e (what-fits .1) .1, ← mul-assoc (suc m))
 
   units-are : suc m * up e * 2 ^ 149 / down e ≡ suc m * 2 ^ i
-  units-are = ap (λ (x : ℕ). x / down e) exact ∙ mul-div-cancel (suc m * 2 ^ i) (down-pos e)
+  units-are = div-eq-of-eq-mul-left (down-pos e) exact
 
   below : suc m * 2 ^ i < 2 ^ 277
   below = lt-of-not-le
       (λ (g : 2 ^ 277 ≤ suc m * 2 ^ i). not-le-of-lt small (mul-le-mul-right (down e) g))
     where
       small : suc m * 2 ^ i * down e < 2 ^ 277 * down e
-      small =
-          lt-of-le-of-lt (le-of-eq (sym exact))
-          (lt-of-lt-of-le (mul-lt-mul-of-pos-right (what-fits .2) (pow-pos 149))
-          (le-of-eq (mul-right-comm (2 ^ 128) (down e) (2 ^ 149))))
+      small = rw (exact, mul-right-comm (2 ^ 128)) at
+          (mul-lt-mul-of-pos-right (what-fits .2) (pow-pos 149))
 
   -- The root of a positive float x is correctly rounded, `Rooted n`, n being x's units times 2 ^
   -- 149. `rooted-unique`: no other float is.
@@ -82,11 +67,10 @@ module _ (m : ℕ) (e : ℤ) (f : T (fits binary32 (fin false (suc m) e))) where
       (lit≤ tt))
     where
       joined : suc m * 2 ^ i * 2 ^ 149 ≡ suc m * 2 ^ (i + 149)
-      joined = mul-assoc (suc m) (2 ^ i) (2 ^ 149)
-          ∙ ap (λ (x : ℕ). suc m * x) (sym (pow-add 2 i 149))
+      joined = rw (pow-add 2 i, ← mul-assoc (suc m))
 
       most : suc m * 2 ^ (i + 149) ≤ 2 ^ 213 * 2 ^ 213
-      most = le-trans (le-of-eq (sym joined)) (mul-le-mul-right (2 ^ 149) (le-of-lt below))
+      most = rw joined at (mul-le-mul-right (2 ^ 149) (le-of-lt below))
 
 -- ---- its sign
 odd-unsigned : (d q k l : ℕ) → T (sign (odd d false q k l)) → ⊥

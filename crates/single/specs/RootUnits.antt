@@ -1,9 +1,9 @@
 -- The root of n units as a float, `rootOfUnits n`: powers of two around it, and its value where n
 -- has 24 digits at most, followed by zeros.
-use mathlib.Core.Path.{_≡_, sym, ap, _∙_}
+use mathlib.Core.Path.{_≡_, ap, _∙_}
 use mathlib.Core.Bool.{false}
 use Prim.Native.Nat.{ℕ, suc, _+_, _-_, _*_, _/_, _^_, _≤_, _<_}
-use native.Mathlib.Nat.{le-trans, le-of-eq, le-of-lt, le-of-suc-le-suc, lt-of-le-of-lt}
+use native.Mathlib.Nat.{le-trans, le-of-lt, le-of-suc-le-suc, lt-of-le-of-lt}
 use native.Mathlib.Nat.{lt-of-lt-of-le, lt-of-not-le, one-mul}
 use native.Mathlib.Nat.{le-antisymm, mul-assoc, mul-le-mul, mul-le-mul-left, mul-le-mul-right}
 use native.Mathlib.Nat.{mul-mul-mul-comm, pow-suc}
@@ -28,12 +28,10 @@ even-power c k = pow-add 2 c (k + k) ∙ ap (λ (x : ℕ). 2 ^ c * x) (pow-add 2
 
 -- 2 ^ t as a multiple of 2 ^ k
 pub part : (t k : ℕ) → k ≤ t → 2 ^ (t - k) * 2 ^ k ≡ 2 ^ t
-part t k h = sym (pow-add 2 (t - k) k) ∙ ap (λ (x : ℕ). 2 ^ x) (back t k h)
+part t k h = rw (← pow-add 2 (t - k) k, back t k h)
 
 part-square : (t k : ℕ) → k ≤ t → 2 ^ (t - k) * 2 ^ (t - k) * (2 ^ k * 2 ^ k) ≡ 2 ^ t * 2 ^ t
-part-square t k h =
-    mul-mul-mul-comm (2 ^ (t - k)) (2 ^ (t - k)) (2 ^ k) (2 ^ k)
-    ∙ ap (λ (x : ℕ). x * x) (part t k h)
+part-square t k h = rw (mul-mul-mul-comm (2 ^ (t - k)), part t k h)
 
 -- ---- the root of n units
 -- how many of its digits are dropped
@@ -48,11 +46,9 @@ module _ (n : ℕ) where
   p = nearestRoot n k
 
   below : n < 2 ^ 48 * (2 ^ k * 2 ^ k)
-  below = lt-of-lt-of-le (size-lt n)
-      (le-trans (pow-mono (enough (size n))) (le-of-eq (even-power 48 k)))
-    where
-      enough : (z : ℕ) → z ≤ 48 + (suc z / 2 - 24 + (suc z / 2 - 24))
-      enough z = omega arith
+  below =
+      let enough : size n ≤ 48 + (k + k) = omega arith in
+      rw (← even-power 48 k) (lt-of-lt-of-le (size-lt n) (pow-mono enough))
 
   pub units-nearest : NearestRoot n k p
   units-nearest = nearest-root-is n k below
@@ -60,33 +56,25 @@ module _ (n : ℕ) where
   up-to : (t : ℕ) → n ≤ 2 ^ t * 2 ^ t → p * 2 ^ k ≤ 2 ^ t
   up-to t h =
       let l : n < 2 ^ suc (t + t) =
-      lt-of-le-of-lt (le-trans h (le-of-eq (sym (pow-add 2 t t))))
-      (pow-lt {i = t + t} (omega arith)) in
+      lt-of-le-of-lt h (rw (← pow-add 2 t t) (pow-lt {i = t + t} (omega arith))) in
       let s : size n ≤ suc (t + t) = size-le n (suc (t + t)) l in
       let kt : k ≤ t = omega arith in
-      le-trans
-      (mul-le-mul-right (2 ^ k)
-      (nearest-root-most units-nearest (2 ^ (t - k))
-      (le-trans h (le-of-eq (sym (part-square t k kt))))))
-      (le-of-eq (part t k kt))
+      rw (part t k kt) at (mul-le-mul-right (2 ^ k)
+      (nearest-root-most units-nearest (2 ^ (t - k)) (rw (part-square t k kt) h)))
 
   down-to : (t : ℕ) → 2 ^ t * 2 ^ t ≤ n → 2 ^ t ≤ p * 2 ^ k
   down-to t h = go (decLe k t)
     where
       go : Dec (k ≤ t) → 2 ^ t ≤ p * 2 ^ k
       go (yes kt) =
-          le-trans (le-of-eq (sym (part t k kt)))
-          (mul-le-mul-right (2 ^ k)
-          (nearest-root-least units-nearest (2 ^ (t - k))
-          (le-trans (le-of-eq (part-square t k kt)) h)))
+          rw (part t k kt) at (mul-le-mul-right (2 ^ k)
+          (nearest-root-least units-nearest (2 ^ (t - k)) (rw (part-square t k kt) h)))
       go (no f) =
           let tk : t < k = lt-of-not-le f in
           let s : 2 ^ (k + k) ≤ n = size-reaches n (k + k) (omega arith) in
-          let one : 1 * 1 * (2 ^ k * 2 ^ k) ≤ n =
-          le-trans (le-of-eq (one-mul (2 ^ k * 2 ^ k) ∙ sym (pow-add 2 k k))) s in
+          let one : 1 * 1 * (2 ^ k * 2 ^ k) ≤ n = rw (one-mul (2 ^ k * 2 ^ k), ← pow-add 2 k k) s in
           le-trans (pow-mono (le-of-lt tk))
-          (le-trans (le-of-eq (sym (one-mul (2 ^ k))))
-          (mul-le-mul-right (2 ^ k) (nearest-root-least units-nearest 1 one)))
+          (rw one-mul at (mul-le-mul-right (2 ^ k) (nearest-root-least units-nearest 1 one)))
 
   in-range : (t : ℕ) → n ≤ 2 ^ t * 2 ^ t → t ≤ 276 → p * 2 ^ k < 2 ^ 277
   in-range t h s = lt-of-le-of-lt (up-to t h) (pow-lt {i = t} {j = 277} (omega arith))
@@ -171,11 +159,9 @@ module _ (a j : ℕ) (least : 0 < a) (most : a < 2 ^ 24) (zeros : 46 ≤ j) wher
 
   above : 2 ^ 46 * d ≤ n
   above =
-      let l : 2 ^ j ≤ n =
-      le-trans (le-of-eq (sym (one-mul (2 ^ j)))) (mul-le-mul-right (2 ^ j) least) in
+      let l : 2 ^ j ≤ n = rw one-mul at (mul-le-mul-right (2 ^ j) least) in
       let s : 46 < size n = size-above n 46 (le-trans (pow-mono zeros) l) in
-      le-trans (le-of-eq (sym (even-power 46 (k n))))
-      (size-reaches n (46 + (k n + k n)) (omega arith))
+      rw (even-power 46 (k n)) at (size-reaches n (46 + (k n + k n)) (omega arith))
 
   p-least : 2 ^ 23 ≤ p n
   p-least = nearest-root-least (units-nearest n) (2 ^ 23) above
@@ -187,7 +173,7 @@ module _ (a j : ℕ) (least : 0 < a) (most : a < 2 ^ 24) (zeros : 46 ≤ j) wher
       carry g = no-carry n (a * 2 ^ (j - w)) d multiple (below n) large
         where
           large : (2 ^ 25 - 1) * (2 ^ 25 - 1) * d ≤ 4 * n
-          large = le-trans (le-of-eq (sym (square-of (k n) (2 ^ 25 - 1))))
+          large = rw (← square-of (k n) (2 ^ 25 - 1))
               (le-trans (square-mono (k n) (omega arith)) (units-nearest n .low))
 
           w : ℕ
@@ -196,15 +182,14 @@ module _ (a j : ℕ) (least : 0 < a) (most : a < 2 ^ 24) (zeros : 46 ≤ j) wher
           fewer : suc j ≤ w → ⊥
           fewer h =
               let t : n < 2 ^ 47 * d =
-              lt-of-lt-of-le (shl-lt 24 j most)
-              (le-trans (pow-mono (omega arith)) (le-of-eq (even-power 47 (k n)))) in
+              rw (← even-power 47 (k n))
+              (lt-of-lt-of-le (shl-lt 24 j most) (pow-mono (omega arith))) in
               omega (arith, large)
 
           multiple : n ≡ a * 2 ^ (j - w) * (2 ^ 24 * d)
           multiple =
-              ap (λ (x : ℕ). a * x) (sym (part j w (le-of-suc-le-suc (lt-of-not-le fewer))))
-              ∙ sym (mul-assoc a (2 ^ (j - w)) (2 ^ w))
-              ∙ ap (λ (x : ℕ). a * 2 ^ (j - w) * x) (even-power 24 (k n))
+              let enough = le-of-suc-le-suc (lt-of-not-le fewer) in
+              rw (← even-power 24 (k n), mul-assoc a (2 ^ (j - w)), part j w enough)
 
   pub units-rooted : (t : ℕ) → n ≤ 2 ^ t * 2 ^ t → t ≤ 276 → Rooted n (rootOfUnits n)
   unfolding rootOfUnits

@@ -1,9 +1,9 @@
 -- Laws of the small rules on one float: a test by the values of its floats, whole numbers as
 -- floats, the absolute value, the clamp and the guarded quotient. Laws of the byte and of the
 -- whole part are in ByteLaws.
-use mathlib.Core.Path.{_≡_, refl, sym, ap, subst}
+use mathlib.Core.Path.{_≡_, refl, ap}
 use mathlib.Core.Logic.{_↔_}
-use mathlib.Core.Bool.{Bool, true, false, not}
+use mathlib.Core.Bool.{true, false, not}
 use Prim.Native.Nat.{ℕ, _+_, _-_, _*_, _^_, _≤_, _<_}
 use native.Mathlib.Nat.{
   le-trans,
@@ -33,13 +33,13 @@ module _ (x y : Float) (p n c q m d : ℕ) (C : 0 < c) (D : 0 < d) (i : Is x p n
     (j : Is y q m d) where
   less : lt x y ≡ true → Lt p n c q m d
   less e = lt-of-not-le (λ (g : Le q m d p n c).
-      not-le-of-lt (of-lt x y (i .0) (j .0) (subst T (sym e) tt))
+      not-le-of-lt (of-lt x y (i .0) (j .0) (rw e tt))
       (of-le y x (j .0) (i .0) (le-of-is y x q m d p n c D C j i g)))
 
   not-less : lt x y ≡ false → Le q m d p n c
   not-less e =
       is-of-le y x q m d p n c j i
-      (le-of-nlt x y (i .0) (j .0) (subst (λ (b : Bool). T (not b)) (sym e) tt))
+      (le-of-nlt x y (i .0) (j .0) (rw e tt))
 
   pub lt-true : (lt x y ≡ true) ↔ Lt p n c q m d
   lt-true = (
@@ -85,10 +85,7 @@ unfolding ofBits ofInt
 pub excess : (a c p n d : ℕ) → 0 < d → a * c + n * d ≡ p * d → (n ≤ p) × (a * c ≡ (p - n) * d)
 excess a c p n d D e =
     let l : n ≤ p = le-of-mul-le-mul-right {k = d} (omega arith) D in
-    (l, go (p - n) (add-sub-of-le l))
-  where
-    go : (r : ℕ) → n + r ≡ p → a * c ≡ r * d
-    go r g = omega (arith, ap (λ (z : ℕ). z * d) g)
+    (l, omega (arith, ap (λ (z : ℕ). z * d) (add-sub-of-le l)))
 
 apart : (a c p n d : ℕ) → 0 < d → a * c + n * d ≡ p * d
     → a * c + 0 * d ≡ (p - n + (n - p)) * d + 0 * c
@@ -120,8 +117,8 @@ pub clamped-cases : (P : Float → Type 0) (x : Float)
 unfolding clamped
 clamped-cases P x low high else =
     by-test (lt x 𝟎)
-    (λ e. rw e (low (subst T (sym e) tt)))
-    (λ e. by-test (lt 𝟐𝟓𝟓 x) (λ g. rw (e, g) (high (subst T (sym g) tt)))
+    (λ e. rw e (low (rw e tt)))
+    (λ e. by-test (lt 𝟐𝟓𝟓 x) (λ g. rw (e, g) (high (rw g tt)))
     (λ g. rw (e, g) (else e g)))
 
 pub clamped-keeps : (x : Float) → T (le 𝟎 x) → T (le x 𝟐𝟓𝟓) → clamped x ≡ x

@@ -1,8 +1,8 @@
 -- `single::abs` meets its contract: a float above zero is its own size, and zero less any other is
 -- exact, since the format holds it.
-use mathlib.Core.Path.{_≡_, refl, sym, subst}
+use mathlib.Core.Path.{_≡_, refl, sym}
 use mathlib.Core.Bool.{true, false, true≢false}
-use Prim.Native.Nat.{ℕ, _+_, _-_, _*_, _≤_}
+use Prim.Native.Nat.{_+_, _-_, _*_}
 use native.Mathlib.Omega.{arith}
 use lib.Dec.{T}
 use lib.Ieee.{Float, nan, inf, fin, binary32, up, down, fits, lt, neg, sub, ofBits}
@@ -33,21 +33,16 @@ zero-less (fin true m e) t h =
     rounds-to binary32 (fin false m e) (0 * down e + m * up e * 1) (1 * down e) tt fit (omega (arith, down-pos e))
     (omega arith)
 zero-less (fin false m e) t h =
-    let none = nothing (m * up e) (down e) (ltb-false (0 * down e) (m * up e * 1) h) in
+    let none : m * up e ≡ 0 = omega (arith, ltb-false (0 * down e) (m * up e * 1) h) in
+    let less : 0 * down e - m * up e * 1 ≡ 0 = omega arith in
     rw h (rounds-to binary32 (fin false m e) (0 * down e - m * up e * 1) (1 * down e) tt t (omega (arith, down-pos e))
-    none)
-  where
-    nothing : (a d : ℕ) → a * 1 ≤ 0 * d → (0 * d - a * 1) * d ≡ a * (1 * d)
-    nothing a d l =
-        let z : a ≡ 0 = omega arith in
-        let y : 0 * d - a * 1 ≡ 0 = omega arith in
-        rw (y, z) (omega arith)
+    (rw (less, none) (omega arith)))
 
 returns : tie.Need-returns
 returns c = above (c .before .args .x) (c .if1 .taken)
 
 returns-2 : tie.Need-returns-2
-returns-2 c = zero-less (c .before .args .x) (subst T (sym (c .before .good .0 .1)) tt) (c .if1 .left)
+returns-2 c = zero-less (c .before .args .x) (rw (c .before .good .0 .1) tt) (c .if1 .left)
 
 pub abs-spec : {M : Type 1} → statement M
 abs-spec = tie.close (tie.spec returns returns-2)

@@ -1,7 +1,7 @@
 -- `guess` meets its contract, which is its range: every product is bounded by the most
 -- that its factors can be.
 use Prim.Native.Nat.{ℕ, _+_, _-_, _*_, _/_, _^_, _≤_}
-use native.Mathlib.Nat.{le-trans, le-of-lt, sub-le, mul-le-mul}
+use native.Mathlib.Nat.{le-trans, le-of-lt, sub-le, mul-le-mul, div-le-of-le-mul, add-le-add, le-refl}
 use native.Mathlib.Omega.{arith}
 use lib.Dec.{lit≤}
 use mir.Facts.{fits-below}
@@ -30,10 +30,7 @@ product-most : (c : tie.After-inverse-root) → Product c ≤ 2 ^ 24 * 46341 * (
 product-most c = mul-le-mul (first-most c) (le-of-lt (c .inverse-root .ensures))
 
 s-most : (c : tie.After-inverse-root) → S c ≤ 35589888
-s-most c = go (Product c) (product-most c)
-  where
-    go : (x : ℕ) → x ≤ 2 ^ 24 * 46341 * (3 * 2 ^ 22) → x / 274877906944 ≤ 35589888
-    go x h = omega arith
+s-most c = div-le-of-le-mul 274877906944 (product-most c)
 
 scaled-most : (c : tie.After-inverse-root) → Scaled c ≤ 49152 * 32768
 scaled-most c =
@@ -43,45 +40,37 @@ scaled-most c =
 step-most : (c : tie.After-inverse-root) → Step c ≤ 2 ^ 48 * 49152
 step-most c =
     mul-le-mul (le-trans (sub-le (c .before .args .m) (S c * S c)) (le-of-lt (c .before .pre .3)))
-    (go (Scaled c) (scaled-most c))
-  where
-    go : (x : ℕ) → x ≤ 49152 * 32768 → x / 32768 ≤ 49152
-    go x h = omega arith
-
-sum-most : (s w : ℕ) → s ≤ 35589888 → w ≤ 2 ^ 48 * 49152 → s + (w + 274877906944) / 549755813888 ≤ 2 ^ 26
-sum-most s w a b = omega arith
+    (div-le-of-le-mul 32768 {n = 49152} (scaled-most c))
 
 mul-s-2 : tie.Need-mul-s-2
-mul-s-2 c = fits-below {n = 2 ^ 24 * 46341} tt (first-most c)
+mul-s-2 c = fits-below tt (first-most c)
 
 mul-s-3 : tie.Need-mul-s-3
-mul-s-3 c = fits-below {n = 2 ^ 24 * 46341 * (3 * 2 ^ 22)} tt (product-most c)
+mul-s-3 c = fits-below tt (product-most c)
 
 mul-if1 : tie.Need-mul-if1
-mul-if1 c = fits-below {n = 35589888 * 35589888} tt (mul-le-mul (s-most c) (s-most c))
+mul-if1 c = fits-below tt (mul-le-mul (s-most c) (s-most c))
 
 returns : tie.Need-returns
 returns c = le-trans (s-most (c .before)) (lit≤ tt)
 
 mul-inverse-2 : tie.Need-mul-inverse-2
-mul-inverse-2 c = fits-below {n = 49152 * 32768} tt (scaled-most (c .before))
+mul-inverse-2 c = fits-below tt (scaled-most (c .before))
 
 mul-result-2 : tie.Need-mul-result-2
-mul-result-2 c = fits-below {n = 2 ^ 48 * 49152} tt (step-most (c .before))
+mul-result-2 c = fits-below tt (step-most (c .before))
 
 add-result : tie.Need-add-result
-add-result c = fits-below {n = 2 ^ 48 * 49152 + 274877906944} tt (go (Step (c .before)) (step-most (c .before)))
-  where
-    go : (w : ℕ) → w ≤ 2 ^ 48 * 49152 → w + 274877906944 ≤ 2 ^ 48 * 49152 + 274877906944
-    go w h = omega arith
+add-result c = fits-below tt (add-le-add (step-most (c .before)) (le-refl 274877906944))
 
-add-result-2 : tie.Need-add-result-2
-add-result-2 c =
-    fits-below {n = 2 ^ 26} tt
-    (sum-most (S (c .before)) (Step (c .before)) (s-most (c .before)) (step-most (c .before)))
+sum-most : (s w : ℕ) → s ≤ 35589888 → w ≤ 2 ^ 48 * 49152 → s + (w + 274877906944) / 549755813888 ≤ 2 ^ 26
+sum-most s w a b = omega arith
 
 returns-2 : tie.Need-returns-2
-returns-2 c = sum-most (S (c .before)) (Step (c .before)) (s-most (c .before)) (step-most (c .before))
+returns-2 c = sum-most _ _ (s-most (c .before)) (step-most (c .before))
+
+add-result-2 : tie.Need-add-result-2
+add-result-2 c = fits-below tt (returns-2 c)
 
 pub guess-spec : {M : Type 1} → statement M
 guess-spec =

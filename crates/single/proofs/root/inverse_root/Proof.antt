@@ -12,7 +12,7 @@ square-below : (z : ℕ) → z < 2 ^ 23 → z * z / 8388608 < 2 ^ 23
 square-below z h = let most : z ≤ 8388607 = omega arith in omega (arith, mul-le-mul most most)
 
 mul-square : tie.Need-mul-square
-mul-square c = fits-below {n = 2 ^ 23 * 2 ^ 23} tt (mul-le-mul (le-of-lt (c .pre)) (le-of-lt (c .pre)))
+mul-square c = fits-below tt (mul-le-mul (le-of-lt (c .pre)) (le-of-lt (c .pre)))
 
 rising-requires : tie.Need-rising-requires
 rising-requires c κs = (omega arith, omega arith, square-below _ (search needs))

@@ -16,17 +16,11 @@ abbrev μ-loop : tie.MeasureT-loop
 still-below : (m r : ℕ) → m < 2 ^ 48 → r * r + r < m → r < 2 ^ 24
 still-below m r h t = lt-of-not-le (λ (g : 2 ^ 24 ≤ r). let s : 2 ^ 48 ≤ r * r = mul-le-mul g g in omega arith)
 
-loop-holds : tie.Need-loop-holds Inv-loop μ-loop
-loop-holds c = omega arith
-
 mul-loop : tie.Need-mul-loop Inv-loop μ-loop
-mul-loop c = fits-below {n = 2 ^ 26 * 2 ^ 26} tt (mul-le-mul (c .loop .inv) (c .loop .inv))
+mul-loop c = fits-below tt (mul-le-mul (c .loop .inv) (c .loop .inv))
 
 add-loop : tie.Need-add-loop Inv-loop μ-loop
 add-loop c = omega (arith, mul-le-mul (c .loop .inv) (c .loop .inv))
-
-add-r : tie.Need-add-r Inv-loop μ-loop
-add-r c = omega arith
 
 loop-less : tie.Need-loop-less Inv-loop μ-loop
 loop-less c = omega (arith, still-below _ _ (c .before .before .pre .0) (c .loop-test .taken))
@@ -34,10 +28,7 @@ loop-less c = omega (arith, still-below _ _ (c .before .before .pre .0) (c .loop
 loop-again : tie.Need-loop-again Inv-loop μ-loop
 loop-again c = omega (arith, still-below _ _ (c .before .before .pre .0) (c .loop-test .taken))
 
-returns : tie.Need-returns Inv-loop μ-loop
-returns c = omega arith
-
 pub raised-spec : {M : Type 1} → statement M
 raised-spec =
     tie.close
-    (tie.spec Inv-loop μ-loop loop-holds mul-loop add-loop add-r loop-less loop-again returns)
+    (tie.spec Inv-loop μ-loop (omega arith) mul-loop add-loop (omega arith) loop-less loop-again (omega arith))
