@@ -2,8 +2,8 @@
 use mathlib.Core.Path.{_≡_, refl}
 use mathlib.Core.Logic.{inl, inr}
 use Prim.Native.Nat.{ℕ, _*_, _≤_}
+use native.Mathlib.Nat.{mul-le-mul}
 use native.Mathlib.Omega.{arith}
-use Rattle.rows.specs.Places.{mul-bound}
 use Rattle.rows.specs.Rows.{InPlace, Tight, tightAlpha}
 use Rattle.formats.specs.declared.PixelFormat.{PixelFormat}
 use Rattle.formats.specs.declared.PixelFormat.the-variants.{
@@ -23,37 +23,26 @@ use Rattle.formats.specs.declared.PixelFormat.the-variants.{
 use Rattle.formats.specs.Formats.{bytesAPixel, alphaOf}
 use Rattle.formats.specs.Checks.{Supported}
 
-few-bytes : (f : PixelFormat) → bytesAPixel f ≤ 4
-few-bytes Gray8 = omega arith
-few-bytes Ya8 = omega arith
-few-bytes Rgb24 = omega arith
-few-bytes Rgba = omega arith
-few-bytes Cmyk = omega arith
-few-bytes CmykInverted = omega arith
-few-bytes Yuv420P = omega arith
-few-bytes Yuv422P = omega arith
-few-bytes Yuv444P = omega arith
-few-bytes YuvJ420P = omega arith
-few-bytes YuvJ422P = omega arith
-few-bytes YuvJ444P = omega arith
+few-in-place : (f : PixelFormat) → (bytesAPixel f ≤ 4) × InPlace (bytesAPixel f) (alphaOf f)
+few-in-place Gray8 = (omega arith, inl (omega arith))
+few-in-place Ya8 = (omega arith, inr (inl (refl, refl)))
+few-in-place Rgb24 = (omega arith, inl (omega arith))
+few-in-place Rgba = (omega arith, inr (inr (refl, refl)))
+few-in-place Cmyk = (omega arith, inl (omega arith))
+few-in-place CmykInverted = (omega arith, inl (omega arith))
+few-in-place Yuv420P = (omega arith, inl (omega arith))
+few-in-place Yuv422P = (omega arith, inl (omega arith))
+few-in-place Yuv444P = (omega arith, inl (omega arith))
+few-in-place YuvJ420P = (omega arith, inl (omega arith))
+few-in-place YuvJ422P = (omega arith, inl (omega arith))
+few-in-place YuvJ444P = (omega arith, inl (omega arith))
 
 -- no row is so long that a number overflows
 pub row-small : (f : PixelFormat) (w : ℕ) → w ≤ 4096 → w * bytesAPixel f ≤ 4096 * 4
-row-small f w wide = mul-bound w (bytesAPixel f) 4096 4 wide (few-bytes f)
+row-small f w wide = mul-le-mul wide (few-in-place f .0)
 
 pub in-place : (f : PixelFormat) → InPlace (bytesAPixel f) (alphaOf f)
-in-place Gray8 = inl (omega arith, omega arith)
-in-place Ya8 = inr (inl (refl, refl))
-in-place Rgb24 = inl (omega arith, omega arith)
-in-place Rgba = inr (inr (refl, refl))
-in-place Cmyk = inl (omega arith, omega arith)
-in-place CmykInverted = inl (omega arith, omega arith)
-in-place Yuv420P = inl (omega arith, omega arith)
-in-place Yuv422P = inl (omega arith, omega arith)
-in-place Yuv444P = inl (omega arith, omega arith)
-in-place YuvJ420P = inl (omega arith, omega arith)
-in-place YuvJ422P = inl (omega arith, omega arith)
-in-place YuvJ444P = inl (omega arith, omega arith)
+in-place f = few-in-place f .1
 
 pub tight : (f : PixelFormat) → Supported f
     → Tight (bytesAPixel f) × (tightAlpha (bytesAPixel f) ≡ alphaOf f)

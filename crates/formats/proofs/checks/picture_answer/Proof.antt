@@ -1,10 +1,10 @@
 -- `checks::picture_answer`: 8, 9, 10, then the plane's answer and the outputs'.
 use mathlib.Core.Path.{sym, _∙_}
 use Prim.Native.Nat.{ℕ, _*_, _≤_}
+use native.Mathlib.Nat.{mul-le-mul}
 use native.Mathlib.Omega.{arith}
 use borrow.Author.Needs.{needs}
 use borrow.Author.Tests.{lt-ltb, le-ltb, eq-eqb, ne-eqb}
-use Rattle.rows.specs.Places.{mul-bound}
 use Rattle.answers.specs.Checks.{first-then}
 use Rattle.formats.specs.Formats.{bytesAPixel}
 use Rattle.formats.specs.Checks.{planeChecks, outputChecks, pictureAnswer}
@@ -57,12 +57,7 @@ plane-answer-requires c κs = small c .high
 
 mul-output-answer : tie.Need-mul-output-answer
 mul-output-answer c =
-    let s = small (c .before) in
-    omega (
-      arith,
-      mul-bound (c .before .before .before .before .before .before .before .args .h) _ 4096 (4096 * 4) (s .high)
-          (s .row),
-    )
+    let s = small (c .before) in omega (arith, mul-le-mul (s .high) (s .row))
 
 returns-4 : tie.Need-returns-4
 unfolding pictureAnswer
