@@ -1,6 +1,6 @@
--- The ends of the set call: refused, done, and done with chroma.
+-- The ends of the set call: refused and done.
 use mathlib.Core.Path.{_≡_}
-use mathlib.Core.Bool.{true, false}
+use mathlib.Core.Bool.{Bool, true, false, cond}
 use mathlib.Core.List.{List}
 use Prim.Native.Nat.{ℕ}
 use Rattle.answers.specs.declared.Answer.{Answer}
@@ -41,35 +41,22 @@ module _ (r : Run) (in-types : InTypes r) {a : Answer} (is : a ≡ answer r) whe
       }
 
   module _ (e : isDone a ≡ true) {row : ℕ} (row-is : row ≡ rowBytes r) {out : List ℕ} (out-is : out ≡ tonedRows r) where
-    pub done : hasChroma r ≡ false
-        → SetCall r (handed row 0 0) (record { first = out; cb = r .lent .outputs .cb; cr = r .lent .outputs .cr })
+    -- with chroma and without
+    pub done : (some : Bool) → hasChroma r ≡ some → {cb cr : List ℕ}
+        → cb ≡ cond some (copied (r .lent .cb) (r .lent .outputs .cb)) (r .lent .outputs .cb)
+        → cr ≡ cond some (copied (r .lent .cr) (r .lent .outputs .cr)) (r .lent .outputs .cr)
+        → SetCall r (handed row (cond some (r .lent .cb .step) 0) (cond some (r .lent .cr .step) 0))
+        (record { first = out; cb = cb; cr = cr })
     unfolding first chroma
-    done none =
+    done some yuv cb-is cr-is =
         let taken : accepted r ≡ true = rw is at e in
         record {
           answer = is;
           step = rw taken row-is;
-          cb-step = rw (taken, none);
-          cr-step = rw (taken, none);
+          cb-step = rw (taken, yuv);
+          cr-step = rw (taken, yuv);
           first = rw taken out-is;
-          cb = rw (taken, none);
-          cr = rw (taken, none);
-          in-types = in-types;
-        }
-
-    pub done-chroma : hasChroma r ≡ true → {cb cr : List ℕ}
-        → cb ≡ copied (r .lent .cb) (r .lent .outputs .cb) → cr ≡ copied (r .lent .cr) (r .lent .outputs .cr)
-        → SetCall r (handed row (r .lent .cb .step) (r .lent .cr .step)) (record { first = out; cb = cb; cr = cr })
-    unfolding first chroma
-    done-chroma some cb-is cr-is =
-        let taken : accepted r ≡ true = rw is at e in
-        record {
-          answer = is;
-          step = rw taken row-is;
-          cb-step = rw (taken, some);
-          cr-step = rw (taken, some);
-          first = rw taken out-is;
-          cb = rw (taken, some) cb-is;
-          cr = rw (taken, some) cr-is;
+          cb = rw (taken, yuv) cb-is;
+          cr = rw (taken, yuv) cr-is;
           in-types = in-types;
         }

@@ -15,7 +15,6 @@ use Rattle.points.proofs.Curve as CurveType
 use Rattle.tables.specs.Kinds.{carriedOf}
 use Rattle.tables.proofs.Owned.{tension-owned}
 use Rattle.sets.specs.declared.Channel.{Channel}
-use Rattle.sets.specs.declared.Curves.{Curves}
 use Rattle.sets.specs.Sets.{viewOf, channelOf}
 use Rattle.sets.specs.Lists.{OfColour, EveryList}
 use Rattle.sets.proofs.Channel as ChannelType
@@ -33,22 +32,19 @@ list-told c vs own = search (own, all-take, bytes-told)
 colour-told : (c : Channel) (vs : List Val) → IsOwned ChannelType.the-field c vs → OfColour (All Bytes) (channelOf c)
 colour-told c vs own = by-test (c .present) (λ t. rw t (list-told (c .curve) _ (own .1 .1 .1 .0))) (λ t. rw t tt)
 
-set-points-told : (s : Curves) (vs : List Val) → IsOwned SetType.the-field s vs → EveryList (All Bytes) (viewOf s)
-set-points-told s vs own = record {
-  master = list-told (s .master) _ (own .1 .1 .0);
-  red = colour-told (s .red) _ (own .1 .1 .1 .0);
-  green = colour-told (s .green) _ (own .1 .1 .1 .1 .0);
-  blue = colour-told (s .blue) _ (own .1 .1 .1 .1 .1 .0);
-}
-
-set-tension-told : (s : Curves) (vs : List Val) → IsOwned SetType.the-field s vs
-    → carriedOf (s .interpolation) .tension < 256
-set-tension-told s vs own = tension-owned (s .interpolation) _ (own .1 .1 .1 .1 .1 .1 .0)
-
 pub points-told : (j : Job) (vs : List Val) → IsOwned JobType.the-field j vs
     → EveryList (All Bytes) (viewOf (j .set))
-points-told j vs own = set-points-told (j .set) _ (own .1 .1 .0)
+points-told j vs own =
+    let set = own .1 .1 .0 in
+    record {
+      master = list-told (j .set .master) _ (set .1 .1 .0);
+      red = colour-told (j .set .red) _ (set .1 .1 .1 .0);
+      green = colour-told (j .set .green) _ (set .1 .1 .1 .1 .0);
+      blue = colour-told (j .set .blue) _ (set .1 .1 .1 .1 .1 .0);
+    }
 
 pub tension-told : (j : Job) (vs : List Val) → IsOwned JobType.the-field j vs
     → carriedOf (j .set .interpolation) .tension < 256
-tension-told j vs own = set-tension-told (j .set) _ (own .1 .1 .0)
+tension-told j vs own =
+    let set = own .1 .1 .0 in
+    tension-owned (j .set .interpolation) _ (set .1 .1 .1 .1 .1 .1 .0)

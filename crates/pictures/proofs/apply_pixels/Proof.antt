@@ -1,6 +1,6 @@
 -- `apply_pixels`: an accepted run is toned and its chroma copied; a refused one touches nothing.
-use mathlib.Core.Path.{_≡_, sym, _∙_}
-use mathlib.Core.Bool.{true}
+use mathlib.Core.Path.{_≡_, refl, sym, _∙_}
+use mathlib.Core.Bool.{true, false}
 use native.Mathlib.Omega.{arith}
 use borrow.Author.Tests.{eq-eqb, ne-eqb, not-true, not-false}
 use Rattle.answers.specs.Numbers.{isDone, done-is}
@@ -90,9 +90,10 @@ returns-2 c =
     let yuv = cb .before .before in
     let row = yuv .before .before in
     let k = row .before .before .before .before .before in
-    Ends.done-chroma _ (in-types (k .before .before)) (answered (k .before .before)) (is-done k)
+    Ends.done _ (in-types (k .before .before)) (answered (k .before .before)) (is-done k)
     (rw (row .bytes-a-pixel .ensures))
     (row .before .before .before .tone-first .ensures)
+    true
     (is-yuv yuv)
     (cb .copy-bytes .ensures)
     (cr .copy-bytes2 .ensures)
@@ -104,7 +105,10 @@ returns-3 c =
     Ends.done _ (in-types (k .before .before)) (answered (k .before .before)) (is-done k)
     (rw (row .bytes-a-pixel .ensures))
     (row .before .before .before .tone-first .ensures)
+    false
     (ne-eqb _ 3 (λ e. c .if2 .left (c .before .planes-read .ensures ∙ e)))
+    refl
+    refl
 
 pub apply-pixels-spec : {M : Type 1} → statement M
 apply-pixels-spec =
