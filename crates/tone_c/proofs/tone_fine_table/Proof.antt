@@ -10,8 +10,9 @@ use Rattle.answers.specs.declared.Answer.the-variants.{Done}
 use Rattle.answers.specs.Numbers.{numberOf, told-refused, told-done}
 use Rattle.answers.specs.Checks.{firstRefusal, first-stops, first-goes-on}
 use Rattle.tables.specs.Tables.{lengthCheck}
-use Rattle.tone_c.specs.Boundary.{givenChecks}
-use Rattle.tone_c.proofs.Passed.{given-points}
+use Rattle.points.specs.CheckLaws.{few-points}
+use Rattle.records.specs.Kinds.{kindCheck}
+use Rattle.tone_c.specs.Boundary.{countOf, givenChecks}
 use Rattle.tone_c.proofs.tone_fine_table.Statement.{statement}
 use Rattle.tone_c.proofs.tone_fine_table.Tie as tie
 
@@ -35,7 +36,7 @@ returns c =
 curve-of-requires : tie.Need-curve-of-requires
 curve-of-requires c κs =
     let A = c .before .before .before .before .before .args in
-    given-points (A .points .now) (A .kind) (accepted c)
+    few-points (countOf (A .points .now)) (kindCheck (A .kind) ∷ []) (accepted c)
 
 -- 14, or the table
 returns-2 : tie.Need-returns-2

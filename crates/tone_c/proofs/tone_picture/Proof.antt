@@ -3,13 +3,13 @@
 use native.Mathlib.Omega.{arith}
 use Prim.Native.Nat.{ℕ}
 use mathlib.Core.Path.{_≡_, refl, sym, ap, _∙_}
-use mathlib.Core.Bool.{false, false≢true}
+use mathlib.Core.Bool.{false}
 use mathlib.Core.List.{List, [], _∷_, _++_}
+use borrow.Author.Tests.{eqb-false, ne-eqb}
 use Rattle.answers.specs.declared.Answer.{Answer}
 use Rattle.answers.specs.declared.Answer.the-variants.{Done}
-use Rattle.answers.specs.Numbers.{numberOf, isDone, done-is, told-refused, told-done, number-unique}
+use Rattle.answers.specs.Numbers.{numberOf, isDone, told-refused, told-done, number-unique}
 use Rattle.answers.specs.Checks.{Check, firstRefusal, first-then, first-stops, first-goes-on}
-use Rattle.lists.specs.Test.{by-test}
 use Rattle.sets.specs.Sets.{curveChecks, setChecks, setAnswer}
 use Rattle.records.specs.declared.RecordRead.{RecordRead}
 use Rattle.records.specs.Checks.{recordChecks}
@@ -31,10 +31,6 @@ of-picture : (r : Run) → setAnswer (r .job .set) ≡ Done → answer r ≡ fir
 unfolding answer setAnswer
 of-picture r passed = sym (first-goes-on (setChecks curveChecks (r .job .set)) _ passed refl)
 
--- a number that is not 0 is a refusal's
-not-done : (a : Answer) {r : ℕ} → r ≡ numberOf a → (r ≡ 0 → ⊥) → isDone a ≡ false
-not-done a e other = by-test (isDone a) (λ t. absurd (other (e ∙ ap numberOf (done-is a t)))) (λ t. t)
-
 -- the ends of the call
 module _ (asked : PictureAsked) {r : ℕ} where
   -- a is the record's refusal or the format's
@@ -43,7 +39,7 @@ module _ (asked : PictureAsked) {r : ℕ} where
   refused {a} is bad e = record {
     number = e ∙ ap numberOf (first-stops (front (asked .stored) (asked .format)) _ is bad);
     unchanged = λ other. refl;
-    run = λ zero. absurd (false≢true (sym bad ∙ ap isDone (number-unique a Done (sym e ∙ zero))));
+    run = λ zero. absurd (eqb-false _ 0 bad (sym e ∙ zero));
   }
 
   -- neither is refused: the set call answers, on the set that the reader handed back
@@ -59,7 +55,7 @@ module _ (asked : PictureAsked) {r : ℕ} where
             ∙ ap numberOf
             (first-goes-on (front (asked .stored) (asked .format)) (checksOfPicture run) passed
             (call .answer ∙ of-picture run (read .legal)));
-        unchanged = λ other. refused-outputs call (not-done (t .answer) e other);
+        unchanged = λ other. refused-outputs call (ne-eqb _ 0 (λ zero. other (e ∙ zero)));
         run = λ zero. record {
           handed = handed;
           toned = t;
@@ -79,11 +75,6 @@ answered c =
     (c .before .before .read-record .ensures .answer ∙ read-answer (A .«record» .now))
     (c .before .format-answer .ensures) (c .first-of .ensures)
 
-accepted : (c : tie.Else1)
-    → let A = c .before .before .before .before .before .before .before .before .before .before .before .before .args in
-    firstRefusal (front (A .«record» .now) (A .format)) ≡ Done
-accepted c = sym (answered (c .before .before)) ∙ told-done _ (c .before .is-done .ensures) (c .if1 .left)
-
 returns : tie.Need-returns
 returns c =
     let k = c .before .before in
@@ -97,7 +88,8 @@ returns-2 c =
     let p = t .before .before .before .before in
     let k = p .before .before in
     let read = k .before .before .before .before .read-record .ensures in
-    called _ (accepted k) read (rw (p .format-of .ensures) at (t .apply-pixels .ensures)) (c .number2 .ensures)
+    let passed = sym (answered (k .before .before)) ∙ told-done _ (k .before .is-done .ensures) (k .if1 .left) in
+    called _ passed read (rw (p .format-of .ensures) at (t .apply-pixels .ensures)) (c .number2 .ensures)
 
 pub tone-picture-spec : {M : Type 1} → statement M
 tone-picture-spec =

@@ -1,19 +1,15 @@
 -- `tone_plane`: an unknown format first, with the plane as it was; the rest is the one-table call.
 use native.Mathlib.Omega.{arith}
-use mathlib.Core.Path.{_≡_, sym, ap, _∙_}
+use mathlib.Core.Path.{sym, ap, _∙_}
 use mathlib.Core.List.{[], _∷_}
 use lib.ListN.{length}
-use Rattle.answers.specs.declared.Answer.the-variants.{Done}
 use Rattle.answers.specs.Numbers.{numberOf, told-refused, told-done}
-use Rattle.answers.specs.Checks.{firstRefusal, first-stops, first-goes-on}
+use Rattle.answers.specs.Checks.{first-stops, first-goes-on}
 use Rattle.formats.specs.Formats.{formatOf}
 use Rattle.formats.specs.Checks.{lutChecks, lutAnswer}
 use Rattle.tone_c.specs.Boundary.{formatCheck}
 use Rattle.tone_c.proofs.tone_plane.Statement.{statement}
 use Rattle.tone_c.proofs.tone_plane.Tie as tie
-
-accepted : (c : tie.Else1) → firstRefusal (formatCheck (c .before .before .before .before .args .format) ∷ []) ≡ Done
-accepted c = sym (c .before .before .format-answer .ensures) ∙ told-done _ (c .before .is-done .ensures) (c .if1 .left)
 
 returns : tie.Need-returns
 returns c =
@@ -35,13 +31,16 @@ unfolding lutAnswer
 returns-2 c =
     let t = c .before .before .before in
     let p = t .before .before .before in
-    let A = p .before .before .before .before .before .args in
+    let k = p .before in
+    let A = k .before .before .before .before .args in
     let checks = lutChecks (formatOf (A .format)) (A .width) (A .height) (A .step) (length (A .plane .now)) in
+    let passed =
+    sym (k .before .before .format-answer .ensures) ∙ told-done _ (k .before .is-done .ensures) (k .if1 .left) in
     let call = rw (p .format-of .ensures) at (t .apply-tone-lut .ensures) in
     record {
       number =
           c .number2 .ensures
-          ∙ ap numberOf (first-goes-on (formatCheck (A .format) ∷ []) checks (accepted (p .before)) (call .answer));
+          ∙ ap numberOf (first-goes-on (formatCheck (A .format) ∷ []) checks passed (call .answer));
       plane = rw (c .number2 .ensures) (call .plane);
     }
 

@@ -2,14 +2,14 @@
 -- rest is the writer, whose set the record's reader has checked.
 use native.Mathlib.Omega.{arith}
 use Prim.Native.Nat.{ℕ}
-use mathlib.Core.Path.{_≡_, refl, sym, ap, _∙_}
-use mathlib.Core.Bool.{Bool, true, false, cond}
+use mathlib.Core.Path.{_≡_, sym, ap, _∙_}
+use mathlib.Core.Bool.{cond}
 use mathlib.Core.List.{List, [], _∷_, _++_}
 use lib.Dec.{ltb}
 use lib.ListN.{length, drop}
-use Rattle.answers.specs.declared.Answer.the-variants.{Done, OutputTooSmall}
 use Rattle.answers.specs.Numbers.{numberOf, isDone, told-refused, told-done}
 use Rattle.answers.specs.Checks.{firstRefusal, roomCheck, first-stops, first-goes-on}
+use Rattle.lists.specs.Test.{by-test}
 use Rattle.sets.specs.Sets.{View}
 use Rattle.records.specs.declared.RecordRead.{RecordRead}
 use Rattle.records.specs.Views.{ReadRecordCall}
@@ -27,11 +27,6 @@ record Left (bytes old : List ℕ) (w : Write) : Type 0 where
   length-is : w .length ≡ cond (isDone (w .answer)) (length bytes) 0
   buffer-is : w .buffer ≡ cond (isDone (w .answer)) (bytes ++ drop (length bytes) old) old
 
-left-by : (bytes old : List ℕ) (short : Bool) → ltb (length old) (length bytes) ≡ short
-    → Left bytes old (outcome (cond short OutputTooSmall Done) bytes old)
-left-by bytes old true e = record { answer-is = rw e; length-is = refl; buffer-is = refl }
-left-by bytes old false e = record { answer-is = rw e; length-is = refl; buffer-is = refl }
-
 -- the writer on the set that the reader handed back, said of the record
 left : (stored old : List ℕ) {handed : RecordRead} → ReadRecordCall stored handed
     → Left (copyOf stored) old (writeRecord (handed .set) old)
@@ -41,13 +36,9 @@ left stored old {handed} read =
       ap (λ (set : View). outcome (firstRefusal (roomCheck (length (encode set)) (length old) ∷ [])) (encode set) old)
           (read .set),
     )
-    (left-by (copyOf stored) old (ltb (length old) (length (copyOf stored))) refl)
-
-accepted : (c : tie.Else1)
-    → firstRefusal (recordChecks (c .before .before .before .before .before .args .«record» .now)) ≡ Done
-accepted c =
-    sym (c .before .before .read-record .ensures .answer ∙ read-answer _)
-    ∙ told-done _ (c .before .is-done .ensures) (c .if1 .left)
+    (by-test (ltb (length old) (length (copyOf stored)))
+    (λ short. record { answer-is = rw short; length-is = rw short; buffer-is = rw short })
+    (λ fits. record { answer-is = rw fits; length-is = rw fits; buffer-is = rw fits }))
 
 copied : (c : tie.After-write-record)
     → let A = c .before .before .before .before .before .before .before .before .args in
@@ -78,10 +69,14 @@ copied-number : (c : tie.After-write-record)
     → let A = c .before .before .before .before .before .before .before .before .args in
     c .write-record .result .answer ≡ firstRefusal (toneRecordCopyChecks (A .«record» .now) (length (A .out .now)))
 copied-number c =
-    let A = c .before .before .before .before .before .before .before .before .args in
+    let k = c .before .before .before in
+    let A = k .before .before .before .before .before .args in
+    let passed =
+    sym (k .before .before .read-record .ensures .answer ∙ read-answer _)
+    ∙ told-done _ (k .before .is-done .ensures) (k .if1 .left) in
     first-goes-on (recordChecks (A .«record» .now))
     (roomCheck (length (copyOf (A .«record» .now))) (length (A .out .now)) ∷ [])
-    (accepted (c .before .before .before)) (copied c .answer-is)
+    passed (copied c .answer-is)
 
 returns-2 : tie.Need-returns-2
 returns-2 c =

@@ -5,7 +5,6 @@ use mathlib.Core.Path.{_≡_, sym, ap, _∙_}
 use mathlib.Core.List.{[], _∷_}
 use borrow.Author.Needs.{needs}
 use lib.ListN.{length}
-use Rattle.answers.specs.declared.Answer.the-variants.{Done}
 use Rattle.answers.specs.Numbers.{numberOf, told-refused, told-done}
 use Rattle.answers.specs.Checks.{firstRefusal, roomCheck, first-then, done-append, has-room}
 use Rattle.tables.specs.Tables.{byteTable}
@@ -27,15 +26,6 @@ answered c =
     (c .before .before .read-record .ensures .answer ∙ read-answer (A .«record» .now)) (c .before .room-for .ensures)
     (c .first-of .ensures)
 
--- past the refusal
-accepted : (c : tie.Else1)
-    → let A = c .before .before .before .before .before .before .before .args in
-    firstRefusal (roomCheck 256 (length (A .table .now)) ∷ []) ≡ Done
-accepted c =
-    let A = c .before .before .before .before .before .before .before .args in
-    done-append (recordChecks (A .«record» .now)) _
-    (sym (answered (c .before .before)) ∙ told-done _ (c .before .is-done .ensures) (c .if1 .left)) .1
-
 returns : tie.Need-returns
 returns c =
     let k = c .before .before in
@@ -50,7 +40,12 @@ returns c =
 copy-bytes-requires : tie.Need-copy-bytes-requires
 copy-bytes-requires c κs =
     let long : length (c .before .before .byte-table .result) ≡ 256 = search needs in
-    rw long (has-room 256 _ (accepted (c .before .before .before .before)))
+    let k = c .before .before .before .before in
+    let done = sym (answered (k .before .before)) ∙ told-done _ (k .before .is-done .ensures) (k .if1 .left) in
+    let A = k .before .before .before .before .before .before .before .args in
+    rw long
+    (has-room 256 _
+    (done-append (recordChecks (A .«record» .now)) (roomCheck 256 (length (A .table .now)) ∷ []) done .1))
 
 returns-2 : tie.Need-returns-2
 returns-2 c =

@@ -9,8 +9,9 @@ use Rattle.answers.specs.declared.Answer.the-variants.{Done}
 use Rattle.answers.specs.Numbers.{numberOf, told-refused, told-done}
 use Rattle.answers.specs.Checks.{firstRefusal, roomCheck, first-then, done-append, has-room}
 use Rattle.tables.specs.TableLaws.{table-of-few}
-use Rattle.tone_c.specs.Boundary.{givenChecks, toneTableChecks}
-use Rattle.tone_c.proofs.Passed.{given-points}
+use Rattle.points.specs.CheckLaws.{few-points}
+use Rattle.records.specs.Kinds.{kindCheck}
+use Rattle.tone_c.specs.Boundary.{countOf, givenChecks, toneTableChecks}
 use Rattle.tone_c.proofs.tone_table.Statement.{statement}
 use Rattle.tone_c.proofs.tone_table.Tie as tie
 
@@ -46,7 +47,7 @@ returns c =
 curve-of-requires : tie.Need-curve-of-requires
 curve-of-requires c κs =
     let A = c .before .before .before .before .before .before .before .args in
-    given-points (A .points .now) (A .kind) (accepted c .0)
+    few-points (countOf (A .points .now)) (kindCheck (A .kind) ∷ []) (accepted c .0)
 
 copy-bytes-requires : tie.Need-copy-bytes-requires
 copy-bytes-requires c κs =
