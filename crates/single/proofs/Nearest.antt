@@ -18,7 +18,7 @@ use Rattle.floats.specs.Small.{dyadic-add}
 use Rattle.floats.specs.Whole.{nearest-whole}
 use Rattle.single.specs.Constants.{𝟎, ½, 𝟐²³, ½-is}
 use Rattle.single.specs.Rules.{float, held, wholeBy, byteOf, floorOf}
-use Rattle.floats.specs.Order.{le-numbers, le-of-lt, le-of-not-lt}
+use Rattle.floats.specs.Order.{finite-between, le-numbers, le-of-lt, le-of-not-lt}
 use Rattle.single.specs.RuleLaws.{lt-true, lt-false, float-is, float-le, 𝟎-float}
 use Rattle.single.specs.ByteLaws.{Rule, whole-float, whole-low, whole-high, byte-nearest, floor-quotient}
 
@@ -101,15 +101,13 @@ split n s (fin false m e) u f h =
       high = t .high;
     }
 
-between : (x y : Float) → T (finite y) → T (lt 𝟎 x) → T (lt x y) → T (unsigned x) × T (finite x)
+above-zero : (x : Float) → T (lt 𝟎 x) → T (unsigned x)
 unfolding lt ofBits
-between nan y f e g = absurd e
-between (inf true) y f e g = absurd e
-between (inf false) nan f e g = absurd f
-between (inf false) (inf t) f e g = absurd f
-between (inf false) (fin t n d) f e g = absurd g
-between (fin true m k) y f e g = absurd e
-between (fin false m k) y f e g = (tt, tt)
+above-zero nan e = absurd e
+above-zero (inf true) e = absurd e
+above-zero (inf false) e = tt
+above-zero (fin true m k) e = absurd e
+above-zero (fin false m k) e = tt
 
 module _ (n : ℕ) (s : n ≤ 2 ^ 22) where
   exact : n ≤ 2 ^ 24
@@ -121,8 +119,11 @@ module _ (n : ℕ) (s : n ≤ 2 ^ 22) where
       split n s (float k) (round-unsigned binary32 k 1) (float-is k (le-trans h exact) .0) (float-le k n h exact)
 
   split-between : (x : Float) → T (lt 𝟎 x) → T (lt x (float n)) → Split n x
-  split-between x e g = let (u, f) = between x (float n) (float-is n exact .0) e g in
-      split n s x u f (le-of-lt x (float n) g)
+  unfolding ofBits
+  split-between x e g =
+      let below = le-of-lt x (float n) g in
+      let number = finite-between 𝟎 x (float n) tt (float-is n exact .0) (le-of-lt 𝟎 x e) below in
+      split n s x (above-zero x e) number below
 
   pub held-split : (x : Float) → Split n (held (float n) x)
   held-split x =
