@@ -28,4 +28,4 @@ begin-spec =
     (omega arith)
     draw-requires
     (omega arith) (λ c. search needs)
-    (λ c. start _ _ _ _ _ _ refl (c .before .before .before .before .pre .0 .0)))
+    (λ c. start refl (c .before .before .before .before .pre .0 .0)))

@@ -1,38 +1,39 @@
 -- `rest`: the loop stores sample v, of the segment sought from the cursor on.
-use Prim.Native.Nat.{_-_, _≤_}
+use Prim.Native.Nat.{_-_}
 use native.Mathlib.Omega.{arith}
-use borrow.Author.Needs.{needs}
 use lib.ListN.{length}
-use Rattle.sampling.proofs.Walk.{Done, done-start, done-next, done-all, one-sample}
+use Rattle.lists.specs.Stored.{Stored, stored-none, stored-next}
+use Rattle.sampling.specs.Pieces.{heightAt, sampled}
+use Rattle.sampling.proofs.Walk.{all-done}
 use Rattle.sampling.proofs.rest.Statement.{statement}
 use Rattle.sampling.proofs.rest.Tie as tie
 
 abbrev Inv-loop : tie.InvT-loop
-Inv-loop form xs ys ms n step samples₀ first v₀ samples v = (v₀ ≤ v) × Done form xs ys ms n (length samples₀) v samples
+Inv-loop form xs ys ms n step samples₀ first v₀ samples v =
+    Stored (sampled (heightAt form xs ys ms n) (length samples₀)) v₀ v samples₀ samples
 
 abbrev μ-loop : tie.MeasureT-loop
 μ-loop form xs ys ms n step samples₀ first v₀ samples v = length samples₀ - v
 
-loop-holds : tie.Need-loop-holds Inv-loop μ-loop
-loop-holds c = (search needs, done-start _ _ _ _ _ _ (c .before .pre .1))
-
 loop-again : tie.Need-loop-again Inv-loop μ-loop
+unfolding sampled heightAt
 loop-again c =
-    let h = c .before in
-    let g = h .before in
-    let a = g .before in
-    let q = a .before in
-    let b = q .before .before in
-    let start = b .before .before in (
-      search needs,
-      done-next _ _ _ _ _ _ (b .loop .inv .1) (omega arith)
-          (one-sample _ _ _ _ _ _ (start .pre .1) (omega arith) (omega arith) (start .pre .0 .2) (q .position .ensures)
-          (a .advance .ensures .0)
-          (g .piece-at .ensures) (h .height .ensures) (c .clamp .ensures)),
-    )
-
-returns : tie.Need-returns Inv-loop μ-loop
-returns c = done-all _ _ _ _ _ _ (c .before .loop .inv .1) (omega arith)
+    let height = c .before in
+    let piece = height .before in
+    let advance = piece .before in
+    let position = advance .before in
+    let b = position .before .before in
+    let pre = b .before .before .pre in
+    stored-next (b .loop .inv)
+    (rw (
+      c .clamp .ensures,
+      height .height .ensures,
+      piece .piece-at .ensures,
+      advance .advance .ensures .0,
+      position .position .ensures,
+      pre .0 .2,
+      ← pre .1 .ahead (b .loop .v) (omega arith) (omega arith),
+    ))
 
 pub rest-spec : {M : Type 1} → statement M
 rest-spec =
@@ -40,9 +41,9 @@ rest-spec =
     (tie.spec
     Inv-loop
     μ-loop
-    loop-holds
+    (λ c. stored-none)
     (omega arith) (omega arith) (omega arith) (omega arith) (omega arith) (omega arith) (omega arith) (omega arith)
     (omega arith)
     loop-again
     (omega arith)
-    returns)
+    (λ c. all-done (c .before .before .before .pre .1) (c .before .loop .inv) (omega arith)))

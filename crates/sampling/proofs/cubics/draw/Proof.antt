@@ -7,10 +7,8 @@ use Rattle.sampling.proofs.Walk.{start}
 use Rattle.sampling.proofs.Drawing.{
   left,
   first-cursor,
-  on-rows,
   wide-piece,
   next-cursor,
-  block-room,
   cubic-sample,
   ByParts,
   by-parts-next,
@@ -43,14 +41,13 @@ draw-spec =
     μ-loop
     (λ c κs. wide-piece (first-cursor (c .before .pre)))
     (λ c. let given = c .before .before .pre in
-    record { cursor = first-cursor given; state = start _ _ _ _ _ _ refl (given .two); parts = c .parts .ensures })
+    record { cursor = first-cursor given; state = start refl (given .two); parts = c .parts .ensures })
     (omega arith)
-    (λ c κs. on-rows (c .before .before .loop .inv .cursor))
+    (λ c κs. (omega arith, omega arith))
     (λ c κs. wide-piece
     (next-cursor (c .before .before .before .loop .inv .cursor) (omega arith) (c .next .ensures) .0))
-    (λ c κs. on-rows (c .before .before .before .before .loop .inv .cursor) .1)
-    (λ c κs. let inv = c .before .before .before .before .before .before .loop .inv in
-    block-room (inv .cursor) (inv .state) (omega arith))
+    (omega arith)
+    (λ c κs. (omega arith, omega arith))
     (λ c.
     let next = c .before .before .before .before .before .before in
     next-cursor (next .before .before .before .loop .inv .cursor) (omega arith) (next .next .ensures) .1)

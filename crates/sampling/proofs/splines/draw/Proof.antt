@@ -1,15 +1,12 @@
 -- `splines::draw`: a turn draws the block at the cursor, by the coefficients of its piece.
 use mathlib.Core.Path.{refl}
-use Prim.Native.Nat.{_<_}
 use native.Mathlib.Omega.{arith}
 use lib.ListN.{length}
 use Rattle.sampling.proofs.Walk.{start}
 use Rattle.sampling.proofs.Drawing.{
   left,
-  on-rows,
   first-cursor,
   next-cursor,
-  block-room,
   ByCoefficients,
   by-coefficients-next,
 }
@@ -29,14 +26,10 @@ loop-holds c =
     let rows = c .coefficients .ensures in
     record {
       cursor = first-cursor given;
-      state = start _ _ _ _ _ _ refl (given .two);
+      state = start refl (given .two);
       firsts = rows .0;
       thirds = rows .1;
     }
-
--- the cursor is on the rows
-here : (c : tie.At-loop Inv-loop μ-loop) → c .loop .p .i < 65
-here c = on-rows (c .loop .inv .cursor) .1
 
 loop-again : tie.Need-loop-again Inv-loop μ-loop
 loop-again c =
@@ -51,19 +44,18 @@ draw-spec =
     (tie.spec
     Inv-loop
     μ-loop
-    (λ c κs. let given = c .before .before .before .pre in (given .two, given .most))
+    (λ c κs. (omega arith, omega arith))
     loop-holds
     (omega arith)
-    (λ c κs. omega (arith, here (c .before .before)))
     (omega arith)
-    (λ c. omega (arith, here (c .before .before .before)))
     (omega arith)
-    (λ c. omega (arith, here (c .before .before .before)))
     (omega arith)
-    (λ c. omega (arith, here (c .before .before .before .before)))
-    (λ c κs. let inv = c .before .before .before .before .before .loop .inv in
-    block-room (inv .cursor) (inv .state) (omega arith))
-    (λ c κs. on-rows (c .before .before .before .before .before .before .before .before .loop .inv .cursor))
+    (omega arith)
+    (omega arith)
+    (omega arith)
+    (omega arith)
+    (λ c κs. (omega arith, omega arith))
+    (λ c κs. (omega arith, omega arith))
     (λ c. next-cursor (c .before .before .before .before .before .before .before .before .before .loop .inv .cursor)
     (omega arith) (c .next .ensures) .1)
     loop-again

@@ -2,9 +2,8 @@
 use Prim.Native.Nat.{_+_, _-_, _≤_}
 use native.Mathlib.Omega.{arith}
 use borrow.Author.Needs.{needs}
-use Rattle.lists.specs.Stored.{Stored, stored-none, stored-end}
+use Rattle.lists.specs.Stored.{Stored, stored-none, stored-next, stored-end}
 use Rattle.sampling.specs.Walk.{splineSample}
-use Rattle.sampling.proofs.Drawing.{block-next}
 use Rattle.sampling.proofs.splines.four.Statement.{statement}
 use Rattle.sampling.proofs.splines.four.Tie as tie
 
@@ -21,6 +20,6 @@ four-spec =
     (tie.spec Inv-loop μ-loop
     (λ c. (search needs, stored-end stored-none (omega arith)))
     (omega arith) (omega arith) (omega arith) (omega arith) (omega arith) (omega arith) (omega arith)
-    (λ c. (search needs, block-next _ _ _ (c .before .before .loop .inv .1) (c .sample .ensures)))
+    (λ c. (search needs, stored-end (stored-next (c .before .before .loop .inv .1) (c .sample .ensures)) (omega arith)))
     (omega arith)
     (λ c. stored-end (c .before .loop .inv .1) (omega arith)))
