@@ -136,19 +136,15 @@ module _ {form : Form} {xs ys ms : List Float} {n S : ℕ} where
           stored-inside block w nan (omega arith) (omega arith) (omega arith) ∙ same w (omega arith) low high
     ]
 
-    pub after-block : {q : Cursor} {ends : List ℕ} {s : Float} {m : List Float} → Ends xs n ends s S → p .v + 4 ≤ S
-        → q ≡ nextCursor ends p → Stored (pieceSample form (pieceAt xs ys ms (p .i)) s) (p .v) (p .v + 4) l m
-        → State form xs ys ms n S q m
+    pub after-block : {q : Cursor} {s : Float} {m : List Float} → Next xs n S p q → s ≡ step S
+        → Stored (pieceSample form (pieceAt xs ys ms (p .i)) s) (p .v) (p .v + 4) l m → State form xs ys ms n S q m
     unfolding pieceSample sampled heightAt
-    after-block given far q-is block =
-        let on = next (state .room) given far q-is in
-        record {
-          long = block .same-length ∙ state .long;
-          room = on .room;
-          done = done-to block (on .far)
-              (λ w low high lt. rw (given .step-is, state .ahead w low lt, on .inside w low high));
-          ahead = λ w low high. state .ahead w (omega arith) high ∙ on .ahead w low high;
-        }
+    after-block on step-is block = record {
+      long = block .same-length ∙ state .long;
+      room = on .room;
+      done = done-to block (on .far) (λ w low high lt. rw (step-is, state .ahead w low lt, on .inside w low high));
+      ahead = λ w low high. state .ahead w (omega arith) high ∙ on .ahead w low high;
+    }
 
     -- after stores up to the end
     pub all-done : {v : ℕ} {m : List Float} → Stored (sampled (heightAt form xs ys ms n) S) (p .v) v l m → S ≤ v → m ≡ tabulate S (sampled (heightAt form xs ys ms n) S)

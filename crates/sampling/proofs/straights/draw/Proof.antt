@@ -1,37 +1,39 @@
 -- `straights::draw`: a turn draws the block at the cursor, by the parts found the turn before.
-use mathlib.Core.Path.{refl}
+use mathlib.Core.Path.{_≡_, refl}
+use Prim.Native.Nat.{_≤_}
 use native.Mathlib.Omega.{arith}
 use lib.ListN.{length}
 use Rattle.sampling.specs.declared.Form.the-variants.{Straight}
-use Rattle.sampling.proofs.Walk.{start}
-use Rattle.sampling.proofs.Drawing.{
-  left,
-  first-cursor,
-  wide-piece,
-  next-cursor,
-  straight-sample,
-  ByParts,
-  by-parts-next,
-}
+use Rattle.sampling.specs.Pieces.{pieceAt, pieceHeight}
+use Rattle.sampling.specs.Walk.{partsOf, straightSample, State}
+use Rattle.sampling.proofs.Walk.{next, start, after-block}
+use Rattle.sampling.proofs.Drawing.{left, by-parts}
 use Rattle.sampling.proofs.straights.draw.Statement.{statement}
 use Rattle.sampling.proofs.straights.draw.Tie as tie
 
 abbrev Inv-loop : tie.InvT-loop
 Inv-loop xs ys ms n ends step samples₀ count p₀ t₀ samples p t =
-    ByParts Straight xs ys ms n ends step (length samples₀) p t samples
+    (p .v ≤ 4096) × State Straight xs ys ms n (length samples₀) p samples
+    × (t ≡ partsOf (pieceAt xs ys ms (p .i)) step (p .v))
 
 abbrev μ-loop : tie.MeasureT-loop
 μ-loop xs ys ms n ends step samples₀ count p₀ t₀ samples p t = left n p
 
 loop-again : tie.Need-loop-again Inv-loop μ-loop
+unfolding pieceHeight
 loop-again c =
     let drawn = c .before .before in
     let piece = drawn .before .before in
     let parts = piece .before in
-    let next = parts .before in
-    by-parts-next (next .before .before .before .loop .inv) straight-sample (omega arith) (next .next .ensures)
-    (parts .parts2 .ensures)
-    (piece .piece-at .ensures) (drawn .four .ensures)
+    let next-one = parts .before in
+    let b = next-one .before .before .before in
+    let given = b .before .before .before .pre in
+    let on = next (b .loop .inv .1 .room) given (omega arith) (next-one .next .ensures) in (
+      omega arith,
+      after-block (b .loop .inv .1) on (given .step-is)
+          (by-parts _ straightSample _ _ (λ x. refl) (rw (piece .piece-at .ensures, b .loop .inv .2) at (drawn .four .ensures))),
+      parts .parts2 .ensures,
+    )
 
 pub draw-spec : {M : Type 1} → statement M
 draw-spec =
@@ -39,18 +41,20 @@ draw-spec =
     (tie.spec
     Inv-loop
     μ-loop
-    (λ c κs. wide-piece (first-cursor (c .before .pre)))
-    (λ c. let given = c .before .before .pre in
-    record { cursor = first-cursor given; state = start refl (given .two); parts = c .parts .ensures })
+    (λ c κs. (c .before .pre .right .wide 0 (omega arith), omega arith, omega arith))
+    (λ c. (omega arith, start refl (omega arith), c .parts .ensures))
     (omega arith)
     (λ c κs. (omega arith, omega arith))
-    (λ c κs. wide-piece
-    (next-cursor (c .before .before .before .loop .inv .cursor) (omega arith) (c .next .ensures) .0))
+    (λ c κs. let b = c .before .before .before in
+    let given = b .before .before .before .pre in
+    let on = next (b .loop .inv .1 .room) given (omega arith) (c .next .ensures) in
+    (given .right .wide _ (on .room), omega arith, omega arith))
     (omega arith)
     (λ c κs. (omega arith, omega arith))
     (λ c.
-    let next = c .before .before .before .before .before .before in
-    next-cursor (next .before .before .before .loop .inv .cursor) (omega arith) (next .next .ensures) .1)
+    let next-one = c .before .before .before .before .before .before in
+    let b = next-one .before .before .before in
+    omega (arith, next (b .loop .inv .1 .room) (b .before .before .before .pre) (omega arith) (next-one .next .ensures)))
     loop-again
-    (λ c. c .before .before .loop .inv .state .long)
-    (λ c. c .before .before .loop .inv .state))
+    (λ c. c .before .before .loop .inv .1 .long)
+    (λ c. c .before .before .loop .inv .1))
