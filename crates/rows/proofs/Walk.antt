@@ -1,29 +1,27 @@
 -- Turns of the loops: a pixel after others, a row of a plane, a row into tight rows, a block into
 -- its row; and which pixels a test has found.
 use mathlib.Core.Path.{_≡_, refl, sym, ap, _∙_}
+use mathlib.Core.Bool.{false}
 use mathlib.Core.List.{List, _++_, append-nil}
 use mathlib.Core.Logic.{⊎-elim}
 use Prim.Native.Nat.{ℕ, zero, suc, _+_, _-_, _*_, _%_, _≤_, _<_}
-use native.Mathlib.Nat.{add-mul, mul-add-mod-self-right}
 use native.Mathlib.Omega.{arith}
 use lib.ListN.{length, getD, drop}
 use lib.Seq.{drop-length}
-use Rattle.lists.specs.Each.{each, is-each, each-same}
+use Rattle.lists.specs.Each.{each, each-same}
 use Rattle.lists.specs.Tabulate.{filled}
 use Rattle.lists.specs.Replaced.{
   Replaced,
-  replacing,
-  replaced-none,
   replaced-then,
   replaced-as,
   replaced-kept,
   replaced-end,
   replaced-each,
 }
-use Rattle.lists.specs.Stored.{Stored, stored-none, stored-then, stored-end, stored-inside, stored-front}
+use Rattle.lists.specs.Stored.{Stored, stored-none, stored-then, stored-front}
 use Rattle.lists.specs.Part.{part, back, length-part, getD-part, stored-part-each, replaced-part}
 use Rattle.rows.specs.Bytes.{same, three, through, toned, rowByte, plainByte, pixelByte}
-use Rattle.rows.specs.Rows.{planeByte, tightByte, InPlace, Tight}
+use Rattle.rows.specs.Rows.{inRow, planeByte, InPlace, Tight}
 use Rattle.rows.specs.Places.{mul-next, mul-bound, from-start}
 use Rattle.rows.specs.Laws.{
   toned-through,
@@ -33,9 +31,6 @@ use Rattle.rows.specs.Laws.{
   plane-row,
   plane-padding,
   beside-row,
-  below-rows,
-  no-columns,
-  tight-row,
 }
 
 -- channel j of the pixel that starts at i
@@ -97,25 +92,22 @@ one-table p kept table l =
     (λ c lt. rw (three-same table (c % p)))
 
 -- a copy as long as its original, of which each byte was then replaced
-copied : (l m : List ℕ) → length m ≡ length l → l ++ drop (length l) m ≡ l
-copied l m e = rw (← e, drop-length m) (append-nil l)
-
 pub copied-each : {copy m : List ℕ} (f : ℕ → ℕ → ℕ) (src dst : List ℕ) → length dst ≡ length src
     → copy ≡ src ++ drop (length src) dst → m ≡ each f copy → m ≡ each f src
-copied-each f src dst e is replaced = replaced ∙ ap (each f) (is ∙ copied src dst e)
+copied-each f src dst e is replaced = replaced ∙ rw (is, ← e, drop-length dst, append-nil src)
 
 -- the pixels that a test has found
 pub some-bytes : {p kept : ℕ} → InPlace p kept → 1 ≤ p
-some-bytes o = ⊎-elim (λ q. q .0) (λ q. ⊎-elim (λ t. omega arith) (λ t. omega arith) q) o
+some-bytes = ⊎-elim (λ q. q .0) (⊎-elim (λ q. omega arith) (λ q. omega arith))
 
 pub last-of-two : {p kept : ℕ} → InPlace p kept → kept < p → p ≡ 2 → kept ≡ 1
-last-of-two o lt e = ⊎-elim (λ q. absurd (omega arith)) (λ q. ⊎-elim (λ t. t .1) (λ t. absurd (omega arith)) q) o
+last-of-two o lt e = ⊎-elim (λ q. absurd (omega arith)) (⊎-elim (λ q. q .1) (λ q. absurd (omega arith))) o
 
 pub last-of-four : {p kept : ℕ} → InPlace p kept → kept < p → (p ≡ 2 → ⊥) → (p ≡ 4) × (kept ≡ 3)
-last-of-four o lt n = ⊎-elim (λ q. absurd (omega arith)) (λ q. ⊎-elim (λ t. absurd (n (t .0))) (λ t. t) q) o
+last-of-four o lt n = ⊎-elim (λ q. absurd (omega arith)) (⊎-elim (λ q. absurd (n (q .0))) (λ q. q)) o
 
 pub four : {p : ℕ} → Tight p → (p ≡ 1 → ⊥) → (p ≡ 3 → ⊥) → p ≡ 4
-four o one three = ⊎-elim (λ e. absurd (one e)) (λ q. ⊎-elim (λ e. absurd (three e)) (λ e. e) q) o
+four o one three = ⊎-elim (λ e. absurd (one e)) (⊎-elim (λ e. absurd (three e)) (λ e. e)) o
 
 -- a row of a plane after others
 module _ (row h step : ℕ) (g : ℕ → ℕ → ℕ) where
@@ -132,60 +124,24 @@ module _ (row h step : ℕ) (g : ℕ → ℕ → ℕ) where
       (beside-row row h step y (k - y * step) (omega arith) (omega arith)))))
       (sym (mul-next y step))
 
-  pub plane-done : {l m : List ℕ} → 0 < step → Replaced 0 (planeByte row h step g) 0 (h * step) l m
-      → m ≡ each (planeByte row h step g) l
-  plane-done {l} some r =
-      let whole : Replaced 0 (planeByte row h step g) 0 (h * step + length l) l _ =
-      replaced-kept r (omega arith)
-      (λ k low high b. plane-padding row h step g k b (below-rows row h step k some low)) in
+  -- the bytes from n on are padding
+  pub plane-done : {n : ℕ} {l m : List ℕ} → Replaced 0 (planeByte row h step g) 0 n l m
+      → ((k : ℕ) → n ≤ k → inRow row h step k ≡ false) → m ≡ each (planeByte row h step g) l
+  plane-done {n} {l} r out =
+      let whole : Replaced 0 (planeByte row h step g) 0 (n + length l) l _ =
+      replaced-kept r (omega arith) (λ k low high b. plane-padding row h step g k b (out k low)) in
       replaced-each whole (omega arith)
 
-  pub plane-narrow : (l : List ℕ) → row ≡ 0 → l ≡ each (planeByte row h step g) l
-  plane-narrow l none =
-      let whole : Replaced 0 (planeByte row h step g) 0 (length l) l l =
-      replaced-kept replaced-none (omega arith)
-      (λ k low high b. plane-padding row h step g k b (no-columns row h step k none)) in
-      replaced-each whole (omega arith)
-
--- a row into tight rows after others
-pub tight-next : {l m n : List ℕ} (row step : ℕ) (g : ℕ → ℕ → ℕ) (plane : List ℕ) (y : ℕ)
-    → y * step + row ≤ length plane → y * row + row ≤ length m → Stored (tightByte row step g plane) 0 (y * row) l m
-    → n ≡ each g (part (y * step) (y * step + row) plane)
-    → Stored (tightByte row step g plane) 0 ((y + 1) * row) l (back (y * row) (y * row + row) m n)
-tight-next {m = m} row step g plane y from to r is =
-    let size = length-part (y * step) (y * step + row) plane from in
-    let one =
-    stored-part-each (y * row) (y * row + row) m (part (y * step) (y * step + row) plane) 0
-    (tightByte row step g plane) g
-    (omega arith) to (omega arith) is
-    (λ c lt.
-    ap (g c) (getD-part (y * step) (y * step + row) plane c 0 (omega arith))
-    ∙ sym (tight-row row step g plane y c (omega arith))) in
-    stored-end (stored-then r one) (sym (mul-next y row))
-
--- n pixels into their row after x others
-pub block-next : {l m k : List ℕ} (p kept : ℕ) (tables : ℕ → List ℕ) (src : List ℕ) (x n : ℕ)
-    → x * p + n * p ≤ length src → x * p + n * p ≤ length m
-    → Stored (replacing 0 (rowByte p kept tables) src) 0 (x * p) l m
-    → k ≡ each (rowByte p kept tables) (part (x * p) (x * p + n * p) src)
-    → Stored (replacing 0 (rowByte p kept tables) src) 0 ((x + n) * p) l (back (x * p) (x * p + n * p) m k)
-unfolding replacing rowByte
-block-next {m = m} p kept tables src x n from to r is =
-    let size = length-part (x * p) (x * p + n * p) src from in
-    let g : ℕ → ℕ → ℕ = rowByte p kept tables in
-    let one = stored-part-each (x * p) (x * p + n * p) m (part (x * p) (x * p + n * p) src) 0 (replacing 0 g src) g
-    (omega arith) to (omega arith) is
-    (λ c lt.
-    ap (g c) (getD-part (x * p) (x * p + n * p) src c 0 lt)
-    ∙ rw (mul-add-mod-self-right x p c)) in
-    stored-end (stored-then r one) (sym (add-mul x n p))
-
-pub block-done : {l m : List ℕ} {n : ℕ} (g : ℕ → ℕ → ℕ) (src : List ℕ) → Stored (replacing 0 g src) 0 n l m
-    → length src ≤ n
-    → length l ≡ length src → m ≡ each g src
-unfolding replacing
-block-done g src r all e =
-    is-each 0 g src (r .same-length ∙ e) (λ k lt. stored-inside r k 0 (omega arith) (omega arith) (omega arith))
+-- a part of src, through g, behind what is stored
+pub part-next : {l m n : List ℕ} (f : ℕ → ℕ) (g : ℕ → ℕ → ℕ) (src : List ℕ) (from to size : ℕ)
+    → from + size ≤ length src → to + size ≤ length m → Stored f 0 to l m
+    → n ≡ each g (part from (from + size) src) → ((c : ℕ) → c < size → g c (getD src (from + c) 0) ≡ f (to + c))
+    → Stored f 0 (to + size) l (back to (to + size) m n)
+part-next {m = m} f g src from to size source target r is rule =
+    let count = length-part from (from + size) src source in
+    stored-then r
+    (stored-part-each to (to + size) m (part from (from + size) src) 0 f g (omega arith) target (omega arith) is
+    (λ c lt. ap (g c) (getD-part from (from + size) src c 0 (omega arith)) ∙ rule c (omega arith)))
 
 -- the rows of a plane that is not empty are at least a byte apart
 pub step-some : {w p step : ℕ} → (w ≡ 0 → ⊥) → 1 ≤ p → w * p ≤ step → 0 < step

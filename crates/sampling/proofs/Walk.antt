@@ -147,6 +147,7 @@ module _ {form : Form} {xs ys ms : List Float} {n S : ℕ} where
     }
 
     -- after stores up to the end
-    pub all-done : {v : ℕ} {m : List Float} → Stored (sampled (heightAt form xs ys ms n) S) (p .v) v l m → S ≤ v → m ≡ tabulate S (sampled (heightAt form xs ys ms n) S)
+    pub all-done : {v : ℕ} {m : List Float} → Stored (sampled (heightAt form xs ys ms n) S) (p .v) v l m
+        → S ≤ v → m ≡ tabulate S (sampled (heightAt form xs ys ms n) S)
     all-done r end =
         is-tabulate nan (r .same-length ∙ state .long) (λ w high. done-to r end (λ w low high lt. refl) w high high)

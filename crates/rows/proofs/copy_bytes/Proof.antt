@@ -14,15 +14,9 @@ Inv-loop src dst₀ n i₀ dst i = (i ≤ length src) × Stored (elementOf 0 src
 abbrev μ-loop : tie.MeasureT-loop
 μ-loop src dst₀ n i₀ dst i = length src - i
 
-loop-holds : tie.Need-loop-holds Inv-loop μ-loop
-loop-holds c = (omega arith, stored-none)
-
 loop-again : tie.Need-loop-again Inv-loop μ-loop
 unfolding elementOf
 loop-again c = (omega arith, stored-next (c .before .before .loop .inv .1) refl)
-
-returns : tie.Need-returns Inv-loop μ-loop
-returns c = stored-copy 0 _ (c .before .loop .inv .1) (omega arith) (omega arith)
 
 pub copy-bytes-spec : {M : Type 1} → statement M
 copy-bytes-spec =
@@ -30,8 +24,8 @@ copy-bytes-spec =
     (tie.spec
     Inv-loop
     μ-loop
-    loop-holds
+    (λ c. (omega arith, stored-none))
     (omega arith) (omega arith) (omega arith) (omega arith)
     loop-again
     (omega arith)
-    returns)
+    (λ c. stored-copy 0 _ (c .before .loop .inv .1) (omega arith) (omega arith)))

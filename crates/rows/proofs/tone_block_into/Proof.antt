@@ -2,7 +2,6 @@
 use native.Mathlib.Omega.{arith}
 use mathlib.Core.Path.{_∙_}
 use native.Mathlib.Nat.{mod-one}
-use Rattle.rows.specs.Bytes.{three, rowByte, plainByte}
 use Rattle.rows.specs.Rows.{tightAlpha}
 use Rattle.rows.proofs.Walk.{plain-row, copied-each, four}
 use Rattle.rows.proofs.tone_block_into.Statement.{statement}
@@ -13,13 +12,9 @@ unfolding tightAlpha
 returns c =
     let k = c .before .before in
     let test = k .before .before in
-    let copy = test .before .before .before in
-    let given = copy .before .before .before .before .args in
-    let tables = three (given .red .now) (given .green .now) (given .blue .now) in
     rw (test .if1 .taken)
-    (copied-each (plainByte (given .red .now)) (given .src .now) (given .dst .now) (omega arith)
-    (copy .copy-bytes .ensures) (k .tone-bytes .ensures)
-    ∙ plain-row 1 1 tables (given .red .now) (given .src .now) (omega arith) (omega arith) (λ x. rw (mod-one x)))
+    (copied-each _ _ _ (omega arith) (test .before .before .before .copy-bytes .ensures) (k .tone-bytes .ensures)
+    ∙ plain-row 1 1 _ _ _ (omega arith) (omega arith) (λ x. rw (mod-one x)))
 
 tone-colours-requires : tie.Need-tone-colours-requires
 tone-colours-requires c κs =
@@ -38,11 +33,8 @@ unfolding tightAlpha
 returns-2 c =
     let k = c .before .before in
     let test = k .before .before in
-    let copy = test .before .before .before .before in
-    let given = copy .before .before .before .before .args in
-    let tables = three (given .red .now) (given .green .now) (given .blue .now) in
     rw (test .if2 .taken)
-    (copied-each (rowByte 3 3 tables) (given .src .now) (given .dst .now) (omega arith) (copy .copy-bytes .ensures)
+    (copied-each _ _ _ (omega arith) (test .before .before .before .before .copy-bytes .ensures)
     (k .tone-colours .ensures))
 
 returns-3 : tie.Need-returns-3
@@ -51,12 +43,8 @@ returns-3 c =
     let k = c .before .before in
     let test = k .before .before in
     let copy = test .before .before .before .before in
-    let start = copy .before .before .before .before in
-    let given = start .args in
-    let tables = three (given .red .now) (given .green .now) (given .blue .now) in
-    rw (four (start .pre .0) (test .before .if1 .left) (test .if2 .left))
-    (copied-each (rowByte 4 3 tables) (given .src .now) (given .dst .now) (omega arith) (copy .copy-bytes .ensures)
-    (k .tone-colours-alpha .ensures))
+    rw (four (copy .before .before .before .before .pre .0) (test .before .if1 .left) (test .if2 .left))
+    (copied-each _ _ _ (omega arith) (copy .copy-bytes .ensures) (k .tone-colours-alpha .ensures))
 
 pub tone-block-into-spec : {M : Type 1} → statement M
 tone-block-into-spec =

@@ -14,9 +14,6 @@ Inv-loop s₀ table n i₀ s i = (i ≤ n) × (n ≡ length s₀) × Replaced 0 
 abbrev μ-loop : tie.MeasureT-loop
 μ-loop s₀ table n i₀ s i = n - i
 
-loop-holds : tie.Need-loop-holds Inv-loop μ-loop
-loop-holds c = (omega arith, omega arith, replaced-none)
-
 loop-again : tie.Need-loop-again Inv-loop μ-loop
 loop-again c =
     let k = c .before .before in
@@ -36,7 +33,7 @@ tone-bytes-spec =
     Inv-loop
     μ-loop
     (omega arith) (omega arith)
-    loop-holds
+    (λ c. (omega arith, omega arith, replaced-none))
     (omega arith) (omega arith) (omega arith)
     loop-again
     (omega arith)

@@ -14,21 +14,13 @@ Inv-loop s₀ w red green blue x₀ s x = (x ≤ w) × Replaced 0 (rowByte 3 3 (
 abbrev μ-loop : tie.MeasureT-loop
 μ-loop s₀ w red green blue x₀ s x = w - x
 
-loop-holds : tie.Need-loop-holds Inv-loop μ-loop
-loop-holds c = (omega arith, replaced-none)
-
 loop-again : tie.Need-loop-again Inv-loop μ-loop
 loop-again c =
     let k = c .before .before in
-    let start = k .before .before .before in
-    let given = start .before .before .args in
-    let x = start .loop .x in
-    let tables = three (given .red .now) (given .green .now) (given .blue .now) in
-    let r = colours-next 3 tables x (omega arith) (omega arith) refl (start .loop .inv .1) (k .tone-pixel .ensures) in
+    let r =
+    colours-next 3 _ _ (omega arith) (omega arith) refl (k .before .before .before .loop .inv .1)
+    (k .tone-pixel .ensures) in
     (omega arith, replaced-end r (omega arith))
-
-returns : tie.Need-returns Inv-loop μ-loop
-returns c = replaced-each (c .before .loop .inv .1) (omega arith)
 
 pub tone-colours-spec : {M : Type 1} → statement M
 tone-colours-spec =
@@ -36,8 +28,8 @@ tone-colours-spec =
     (tie.spec
     Inv-loop
     μ-loop
-    loop-holds
+    (λ c. (omega arith, replaced-none))
     (omega arith) (omega arith) (omega arith) (omega arith)
     loop-again
     (omega arith)
-    returns)
+    (λ c. replaced-each (c .before .loop .inv .1) (omega arith)))

@@ -4,7 +4,6 @@ use native.Mathlib.Omega.{arith}
 use mathlib.Core.Path.{refl}
 use Prim.Native.Nat.{_-_}
 use Rattle.lists.specs.Replaced.{replaced-end, replaced-each}
-use Rattle.rows.specs.Bytes.{three}
 use Rattle.rows.proofs.Walk.{colours-next}
 use Rattle.rows.proofs.tone_colours_alpha.Statement.{statement}
 use Rattle.rows.proofs.tone_colours_alpha.Tie as tie
@@ -13,18 +12,12 @@ returns : tie.Need-returns
 returns c =
     let last = c .before .before in
     let pairs = last .before .before .before .before .before in
-    let given = pairs .before .before .before .args in
-    let x = given .w - 1 in
-    let tables = three (given .red .now) (given .green .now) (given .blue .now) in
     replaced-each
-    (colours-next 4 tables x (omega arith) (omega arith) refl (replaced-end (pairs .tone-pairs .ensures) (omega arith))
-    (last .tone-pixel .ensures))
+    (colours-next 4 _ (pairs .before .before .before .args .w - 1) (omega arith) (omega arith) refl
+    (replaced-end (pairs .tone-pairs .ensures) (omega arith)) (last .tone-pixel .ensures))
     (omega arith)
-
-returns-2 : tie.Need-returns-2
-returns-2 c = replaced-each (c .before .before .before .tone-pairs .ensures) (omega arith)
 
 pub tone-colours-alpha-spec : {M : Type 1} → statement M
 tone-colours-alpha-spec =
     tie.close
-    (tie.spec (omega arith) (omega arith) (omega arith) (omega arith) (omega arith) returns (omega arith) returns-2)
+    (tie.spec (omega arith) (omega arith) (omega arith) (omega arith) (omega arith) returns (omega arith) (λ c. replaced-each (c .before .before .before .tone-pairs .ensures) (omega arith)))

@@ -14,19 +14,20 @@ Inv-loop s₀ table i₀ left₀ s i left = (i + left ≡ length s₀) × (i % 8
 abbrev μ-loop : tie.MeasureT-loop
 μ-loop s₀ table i₀ left₀ s i left = left
 
-loop-holds : tie.Need-loop-holds Inv-loop μ-loop
-loop-holds c = (omega arith, refl, replaced-none)
-
 loop-again : tie.Need-loop-again Inv-loop μ-loop
 loop-again c =
     let k = c .before .before in
     let inv = k .before .before .before .loop .inv in
     (omega arith, omega arith, replaced-then (inv .2) (k .tone-eight .ensures))
 
-returns : tie.Need-returns Inv-loop μ-loop
-returns c = replaced-end (c .before .loop .inv .2) (omega arith)
-
 pub tone-eights-spec : {M : Type 1} → statement M
 tone-eights-spec =
     tie.close
-    (tie.spec Inv-loop μ-loop loop-holds (omega arith) (omega arith) (omega arith) loop-again (omega arith) returns)
+    (tie.spec
+    Inv-loop
+    μ-loop
+    (λ c. (omega arith, refl, replaced-none))
+    (omega arith) (omega arith) (omega arith)
+    loop-again
+    (omega arith)
+    (λ c. replaced-end (c .before .loop .inv .2) (omega arith)))

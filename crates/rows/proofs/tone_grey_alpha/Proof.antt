@@ -14,22 +14,14 @@ Inv-loop s₀ w table x₀ s x = (x ≤ w) × Replaced 0 (rowByte 2 1 (same tabl
 abbrev μ-loop : tie.MeasureT-loop
 μ-loop s₀ w table x₀ s x = w - x
 
-loop-holds : tie.Need-loop-holds Inv-loop μ-loop
-loop-holds c = (omega arith, replaced-none)
-
 loop-again : tie.Need-loop-again Inv-loop μ-loop
 unfolding plainByte
 loop-again c =
     let k = c .before .before in
-    let start = k .before .before .before in
     let r =
-    pixel-next 2 1 (same (start .before .before .args .table .now)) (start .loop .x) refl (start .loop .inv .1)
-    (k .tone-one .ensures)
+    pixel-next 2 1 _ _ refl (k .before .before .before .loop .inv .1) (k .tone-one .ensures)
     (omega arith) (omega arith) (λ j low high. omega arith) (λ j lt b. refl) in
     (omega arith, replaced-end r (omega arith))
-
-returns : tie.Need-returns Inv-loop μ-loop
-returns c = replaced-each (c .before .loop .inv .1) (omega arith)
 
 pub tone-grey-alpha-spec : {M : Type 1} → statement M
 tone-grey-alpha-spec =
@@ -37,8 +29,8 @@ tone-grey-alpha-spec =
     (tie.spec
     Inv-loop
     μ-loop
-    loop-holds
+    (λ c. (omega arith, replaced-none))
     (omega arith) (omega arith) (omega arith) (omega arith)
     loop-again
     (omega arith)
-    returns)
+    (λ c. replaced-each (c .before .loop .inv .1) (omega arith)))

@@ -15,26 +15,18 @@ Inv-loop s₀ w red green blue i₀ left₀ s i left =
 abbrev μ-loop : tie.MeasureT-loop
 μ-loop s₀ w red green blue i₀ left₀ s i left = left
 
-loop-holds : tie.Need-loop-holds Inv-loop μ-loop
-loop-holds c = (omega arith, omega arith, omega arith, replaced-none)
-
 loop-again : tie.Need-loop-again Inv-loop μ-loop
 loop-again c =
     let second = c .before .before in
     let first = second .before .before .before .before in
     let start = first .before .before .before in
-    let given = start .before .before .args in
-    let x = given .w - start .loop .left in
-    let tables = three (given .red .now) (given .green .now) (given .blue .now) in
+    let x = start .before .before .args .w - start .loop .left in
     let one =
-    colours-next 4 tables x (omega arith) (omega arith) (start .loop .inv .1) (start .loop .inv .3)
+    colours-next 4 _ x (omega arith) (omega arith) (start .loop .inv .1) (start .loop .inv .3)
     (first .tone-pixel .ensures) in
     let two =
-    colours-next 4 tables (x + 1) (omega arith) (omega arith) (omega arith) one (second .tone-pixel2 .ensures) in
+    colours-next 4 _ (x + 1) (omega arith) (omega arith) (omega arith) one (second .tone-pixel2 .ensures) in
     (omega arith, omega arith, omega arith, replaced-end two (omega arith))
-
-returns : tie.Need-returns Inv-loop μ-loop
-returns c = replaced-end (c .before .loop .inv .3) (omega arith)
 
 pub tone-pairs-spec : {M : Type 1} → statement M
 tone-pairs-spec =
@@ -42,8 +34,8 @@ tone-pairs-spec =
     (tie.spec
     Inv-loop
     μ-loop
-    loop-holds
+    (λ c. (omega arith, omega arith, omega arith, replaced-none))
     (omega arith) (omega arith) (omega arith) (omega arith) (omega arith)
     loop-again
     (omega arith)
-    returns)
+    (λ c. replaced-end (c .before .loop .inv .3) (omega arith)))

@@ -12,14 +12,13 @@ returns c =
     let blue = c .before .before in
     let green = blue .before .before .before .before in
     let red = green .before .before .before .before in
-    let start = red .before .before .before .args in
-    let i = start .i in
-    let tables = three (start .red .now) (start .green .now) (start .blue .now) in
+    let given = red .before .before .before .args in
+    let tables = three (given .red .now) (given .green .now) (given .blue .now) in
     let two =
-    replaced-then (pixel-byte i 0 tables (omega arith) (red .tone-one .ensures))
-    (pixel-byte i 1 tables refl (green .tone-one2 .ensures)) in
+    replaced-then (pixel-byte _ 0 tables (omega arith) (red .tone-one .ensures))
+    (pixel-byte _ 1 tables refl (green .tone-one2 .ensures)) in
     replaced-end
-    (replaced-then (replaced-end two (omega arith)) (pixel-byte i 2 tables refl (blue .tone-one3 .ensures)))
+    (replaced-then (replaced-end two (omega arith)) (pixel-byte _ 2 tables refl (blue .tone-one3 .ensures)))
     (omega arith)
 
 pub tone-pixel-spec : {M : Type 1} → statement M

@@ -1,7 +1,6 @@
 -- `rows::tone_row` meets its contract: the tests find which pixels these are.
 use native.Mathlib.Omega.{arith}
 use mathlib.Core.Path.{refl, _∙_}
-use Rattle.rows.specs.Bytes.{same}
 use Rattle.rows.proofs.Walk.{plain-row, some-bytes, last-of-two, last-of-four, one-table}
 use Rattle.rows.proofs.tone_row.Statement.{statement}
 use Rattle.rows.proofs.tone_row.Tie as tie
@@ -9,14 +8,9 @@ use Rattle.rows.proofs.tone_row.Tie as tie
 returns : tie.Need-returns
 returns c =
     let k = c .before .before in
-    let start = k .before .before .before .before in
-    let table = start .args .table .now in
+    let test = k .before .before in
     k .tone-bytes .ensures
-    ∙ plain-row (start .args .p) (start .args .kept) (same table) table (start .args .s .now)
-    (some-bytes (start .pre .0)) (k .before .before .if1 .taken) (λ c. refl)
-
-tone-grey-alpha-requires : tie.Need-tone-grey-alpha-requires
-tone-grey-alpha-requires c κs = rw (c .before .if2 .taken) at (c .before .before .before .before .pre .1)
+    ∙ plain-row _ _ _ _ _ (some-bytes (test .before .before .pre .0)) (test .if1 .taken) (λ c. refl)
 
 tone-colours-alpha-requires : tie.Need-tone-colours-alpha-requires
 tone-colours-alpha-requires c κs =
@@ -36,7 +30,7 @@ returns-3 c =
     let start = k .before .before .before .before .before in
     let last = last-of-four (start .pre .0) (k .before .before .before .if1 .left) (k .before .before .if2 .left) in
     rw (last .0, last .1)
-    (k .tone-colours-alpha .ensures ∙ one-table 4 3 (start .args .table .now) (start .args .s .now))
+    (k .tone-colours-alpha .ensures ∙ one-table _ _ _ _)
 
 pub tone-row-spec : {M : Type 1} → statement M
 tone-row-spec =
@@ -44,7 +38,7 @@ tone-row-spec =
     (tie.spec
     (omega arith) (omega arith)
     returns
-    tone-grey-alpha-requires
+    (λ c κs. rw (c .before .if2 .taken) at (c .before .before .before .before .pre .1))
     tone-colours-alpha-requires
     (omega arith)
     returns-2

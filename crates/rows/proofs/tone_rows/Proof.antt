@@ -7,8 +7,8 @@ use Rattle.lists.specs.Replaced.{Replaced, replaced-none, replaced-end}
 use Rattle.rows.specs.Bytes.{same, rowByte}
 use Rattle.rows.specs.Rows.{planeByte}
 use Rattle.rows.specs.Places.{mul-last}
-use Rattle.rows.specs.Laws.{rows-inside}
-use Rattle.rows.proofs.Walk.{plane-next, plane-done, plane-narrow, step-some, some-bytes}
+use Rattle.rows.specs.Laws.{rows-inside, below-rows, no-columns}
+use Rattle.rows.proofs.Walk.{plane-next, plane-done, step-some, some-bytes}
 use Rattle.rows.proofs.tone_rows.Statement.{statement}
 use Rattle.rows.proofs.tone_rows.Tie as tie
 
@@ -22,13 +22,7 @@ abbrev μ-loop : tie.MeasureT-loop
 
 returns : tie.Need-returns Inv-loop μ-loop
 returns c =
-    let given = c .before .before .args in
-    plane-narrow (given .w * given .p) (given .h) (given .step)
-    (rowByte (given .p) (given .kept) (same (given .table .now))) (given .plane .now)
-    (rw (c .if1 .taken) (zero-mul _))
-
-loop-holds : tie.Need-loop-holds Inv-loop μ-loop
-loop-holds c = (omega arith, omega arith, replaced-end replaced-none (omega arith))
+    plane-done _ _ _ _ replaced-none (λ k low. no-columns _ _ _ k (rw (c .if1 .taken) (zero-mul _)))
 
 -- the row lies in the plane, so its bounds fit too
 part-tone-row-end : tie.Need-part-tone-row-end Inv-loop μ-loop
@@ -62,12 +56,10 @@ loop-again c =
 returns-2 : tie.Need-returns-2 Inv-loop μ-loop
 returns-2 c =
     let start = c .before .before .before .before in
-    let given = start .args in
     let some = step-some (c .before .before .if1 .left) (some-bytes (start .pre .0)) (start .pre .1 .stepped) in
-    let rule = rowByte (given .p) (given .kept) (same (given .table .now)) in
-    plane-done (given .w * given .p) (given .h) (given .step) rule some
-    (replaced-end (c .before .loop .inv .2)
-    (mul-last (c .before .loop .y) (given .h) (given .step) (omega arith) (omega arith)))
+    plane-done _ _ _ _
+    (replaced-end (c .before .loop .inv .2) (mul-last (c .before .loop .y) (start .args .h) _ (omega arith) (omega arith)))
+    (λ k low. below-rows _ _ _ k some low)
 
 pub tone-rows-spec : {M : Type 1} → statement M
 tone-rows-spec =
@@ -77,7 +69,7 @@ tone-rows-spec =
     μ-loop
     returns
     (omega arith)
-    loop-holds
+    (λ c. (omega arith, omega arith, replaced-end replaced-none (omega arith)))
     mul-at
     add-end
     (omega arith) (omega arith)

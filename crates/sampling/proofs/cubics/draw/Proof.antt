@@ -31,7 +31,8 @@ loop-again c =
     let on = next (b .loop .inv .1 .room) given (omega arith) (next-one .next .ensures) in (
       omega arith,
       after-block (b .loop .inv .1) on (given .step-is)
-          (by-parts _ cubicSample _ _ (λ x. refl) (rw (piece .piece-at .ensures, b .loop .inv .2) at (drawn .four .ensures))),
+          (by-parts _ cubicSample _ _ (λ x. refl)
+          (rw (piece .piece-at .ensures, b .loop .inv .2) at (drawn .four .ensures))),
       parts .parts2 .ensures,
     )
 
@@ -54,7 +55,10 @@ draw-spec =
     (λ c.
     let next-one = c .before .before .before .before .before .before in
     let b = next-one .before .before .before in
-    omega (arith, next (b .loop .inv .1 .room) (b .before .before .before .pre) (omega arith) (next-one .next .ensures)))
+    omega (
+      arith,
+      next (b .loop .inv .1 .room) (b .before .before .before .pre) (omega arith) (next-one .next .ensures),
+    ))
     loop-again
     (λ c. c .before .before .loop .inv .1 .long)
     (λ c. c .before .before .loop .inv .1))
