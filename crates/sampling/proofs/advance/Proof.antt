@@ -24,9 +24,6 @@ loop-again c =
     let b = c .before .before .before in
     (search needs, sym (seek-on _ _ _ _ (c .if1 .taken) (search needs)) ∙ b .loop .inv .1)
 
-returns-2 : tie.Need-returns-2 Inv-loop μ-loop
-returns-2 c = (sym (seek-last _ _ _ _ (search needs)) ∙ c .before .loop .inv .1, search needs)
-
 pub advance-spec : {M : Type 1} → statement M
 advance-spec =
     tie.close
@@ -37,4 +34,4 @@ advance-spec =
     (omega arith) (omega arith) (omega arith) (omega arith) (omega arith) (omega arith)
     loop-again
     returns
-    returns-2)
+    (λ c. (sym (seek-last _ _ _ _ (search needs)) ∙ c .before .loop .inv .1, search needs)))

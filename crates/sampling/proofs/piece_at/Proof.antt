@@ -3,12 +3,9 @@ use native.Mathlib.Omega.{arith}
 use Rattle.sampling.proofs.piece_at.Statement.{statement}
 use Rattle.sampling.proofs.piece_at.Tie as tie
 
-returns : tie.Need-returns
-returns c = let k = c .before .before in rw (k .before .knot-at .ensures, k .knot-at2 .ensures)
-
 pub piece-at-spec : {M : Type 1} → statement M
 piece-at-spec =
     tie.close
     (tie.spec
     (omega arith) (omega arith) (omega arith) (omega arith) (omega arith) (omega arith) (omega arith) (omega arith)
-    returns)
+    (λ c. let k = c .before .before in rw (k .before .knot-at .ensures, k .knot-at2 .ensures)))

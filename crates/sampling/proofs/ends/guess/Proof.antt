@@ -52,9 +52,6 @@ Inv-loop xs n step ends₀ right₀ i₀ ends right i =
 abbrev μ-loop : tie.MeasureT-loop
 μ-loop xs n step ends₀ right₀ i₀ ends right i = n - i
 
-loop-holds : tie.Need-loop-holds Inv-loop μ-loop
-loop-holds c = (search needs, stored-none, right-start _ _ (c .too-thin .ensures))
-
 loop-again : tie.Need-loop-again Inv-loop μ-loop
 unfolding endAt
 loop-again c =
@@ -81,7 +78,7 @@ guess-spec =
     Inv-loop
     μ-loop
     (omega arith) (omega arith) (omega arith)
-    loop-holds
+    (λ c. (search needs, stored-none, right-start _ _ (c .too-thin .ensures)))
     (omega arith) (omega arith) (omega arith) (omega arith) (omega arith)
     (λ c. omega (arith, index-most _ (c .index .ensures)))
     (λ c. omega (arith, index-most _ (c .index .ensures)))

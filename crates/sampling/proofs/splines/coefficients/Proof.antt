@@ -25,9 +25,6 @@ loop-again c =
       stored-next (inv .2) (rw (piece .piece-at .ensures) at (c .third-coefficient .ensures)),
     )
 
-returns : tie.Need-returns Inv-loop μ-loop
-returns c = let inv = c .before .loop .inv in (stored-end (inv .1) (omega arith), stored-end (inv .2) (omega arith))
-
 pub coefficients-spec : {M : Type 1} → statement M
 coefficients-spec =
     tie.close
@@ -38,4 +35,4 @@ coefficients-spec =
     (omega arith) (omega arith) (omega arith) (omega arith) (omega arith) (omega arith) (omega arith) (omega arith)
     (omega arith) (omega arith)
     loop-again
-    returns)
+    (λ c. let inv = c .before .loop .inv in (stored-end (inv .1) (omega arith), stored-end (inv .2) (omega arith))))

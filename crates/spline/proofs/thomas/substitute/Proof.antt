@@ -16,9 +16,6 @@ Inv-loop aboves rights m start row₀ next₀ k₀ row next k =
 abbrev μ-loop : tie.MeasureT-loop
 μ-loop aboves rights m start row₀ next₀ k₀ row next k = k
 
-loop-holds : tie.Need-loop-holds Inv-loop μ-loop
-loop-holds c = (omega arith, stored-none, substituted-past _ _)
-
 loop-again : tie.Need-loop-again Inv-loop μ-loop
 unfolding sweptIn startingAt
 loop-again c =
@@ -30,17 +27,14 @@ loop-again c =
     let e = substituted-at (sweptIn (s .aboves .now) (s .rights .now)) (s .m) (k - 1) k (omega arith) (inv .0) in
     (omega arith, stored-before (inv .1) (rw (inv .2, place) (sym e)) (omega arith), rw (inv .2) (sym e))
 
-returns : tie.Need-returns Inv-loop μ-loop
-returns c = stored-start (c .before .loop .inv .1) (omega arith)
-
 pub substitute-spec : {M : Type 1} → statement M
 substitute-spec =
     tie.close
     (tie.spec
     Inv-loop
     μ-loop
-    loop-holds
+    (λ c. (omega arith, stored-none, substituted-past _ _))
     (omega arith) (omega arith) (omega arith) (omega arith) (omega arith) (omega arith) (omega arith) (omega arith)
     (omega arith)
     loop-again
-    returns)
+    (λ c. stored-start (c .before .loop .inv .1) (omega arith)))
