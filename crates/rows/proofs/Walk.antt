@@ -1,15 +1,15 @@
--- Turns of the loops: a pixel after others, a row of a plane, a row into tight rows, a block into
--- its row; and which pixels a test has found.
+-- Turns of the loops: a pixel after others, a row of a plane, a part stored behind others; and
+-- which pixels a test has found.
 use mathlib.Core.Path.{_≡_, refl, sym, ap, _∙_}
 use mathlib.Core.Bool.{false}
 use mathlib.Core.List.{List, _++_, append-nil}
 use mathlib.Core.Logic.{⊎-elim}
 use Prim.Native.Nat.{ℕ, zero, suc, _+_, _-_, _*_, _%_, _≤_, _<_}
+use native.Mathlib.Nat.{mod-lt}
 use native.Mathlib.Omega.{arith}
 use lib.ListN.{length, getD, drop}
 use lib.Seq.{drop-length}
 use Rattle.lists.specs.Each.{each, each-same}
-use Rattle.lists.specs.Tabulate.{filled}
 use Rattle.lists.specs.Replaced.{
   Replaced,
   replaced-then,
@@ -18,16 +18,15 @@ use Rattle.lists.specs.Replaced.{
   replaced-end,
   replaced-each,
 }
-use Rattle.lists.specs.Stored.{Stored, stored-none, stored-then, stored-front}
+use Rattle.lists.specs.Stored.{Stored, stored-then}
 use Rattle.lists.specs.Part.{part, back, length-part, getD-part, stored-part-each, replaced-part}
 use Rattle.rows.specs.Bytes.{same, three, through, toned, rowByte, plainByte, pixelByte}
 use Rattle.rows.specs.Rows.{inRow, planeByte, InPlace, Tight}
-use Rattle.rows.specs.Places.{mul-next, mul-bound, from-start}
+use Rattle.rows.specs.Places.{mul-next}
 use Rattle.rows.specs.Laws.{
   toned-through,
   toned-kept,
   row-channel,
-  row-plain,
   plane-row,
   plane-padding,
   beside-row,
@@ -55,13 +54,18 @@ pub pixel-next : {q i : ℕ} {f : ℕ → ℕ → ℕ} {l m k : List ℕ} (p kep
 pixel-next {q} {i} {f} p kept tables x at r s few before last is =
     let channel : (j b : ℕ) → j < p → rowByte p kept tables (i + j) b ≡ toned kept tables j b =
     λ j b lt. rw at (row-channel p kept tables x j b lt) in
-    let colours = replaced-as s (λ w low high b.
-    from-start (λ (n : ℕ). f n b ≡ rowByte p kept tables n b) i w low
-    (is (w - i) (omega arith) b
-    ∙ sym (channel (w - i) b (omega arith) ∙ toned-through kept (w - i) tables b (λ e. omega arith)))) in
-    replaced-kept (replaced-then r colours) (omega arith) (λ w low high b.
-    from-start (λ (n : ℕ). rowByte p kept tables n b ≡ b) i w (omega arith)
-    (channel (w - i) b (omega arith) ∙ toned-kept kept (w - i) tables b (last (w - i) (omega arith) (omega arith))))
+    let place : (w : ℕ) → i ≤ w → w ≡ i + (w - i) = λ w low. omega arith in
+    let colours = replaced-as {g = rowByte p kept tables} s (λ w low high b. rw (
+      place w low,
+      is (w - i) (omega arith) b,
+      channel (w - i) b (omega arith),
+      toned-through kept (w - i) tables b (λ e. omega arith),
+    )) in
+    replaced-kept (replaced-then r colours) (omega arith) (λ w low high b. rw (
+      place w (omega arith),
+      channel (w - i) b (omega arith),
+      toned-kept kept (w - i) tables b (last (w - i) (omega arith) (omega arith)),
+    ))
 
 -- where `tone_pixel` did it: the pixel's three colours, and alpha if it has a fourth channel
 pub colours-next : {i : ℕ} {l m k : List ℕ} (p : ℕ) (tables : ℕ → List ℕ) (x : ℕ) → 3 ≤ p → p ≤ 4 → i ≡ x * p
@@ -74,9 +78,12 @@ colours-next {i} p tables x most few at r s =
 pub plain-row : (p kept : ℕ) (tables : ℕ → List ℕ) (table l : List ℕ) → 1 ≤ p → p ≤ kept
     → ((c : ℕ) → tables (c % p) ≡ table)
     → each (plainByte table) l ≡ each (rowByte p kept tables) l
+unfolding rowByte plainByte
 plain-row p kept tables table l some none e =
     each-same 0 (plainByte table) (rowByte p kept tables) l
-    (λ c lt. row-plain p kept tables table c (getD l c 0) some none (e c))
+    (λ c lt.
+    let channel = mod-lt c some in
+    rw (← e c, toned-through kept (c % p) tables (getD l c 0) (λ q. omega arith)))
 
 -- one table for all three colours
 three-same : (table : List ℕ) (channel : ℕ) → three table table table channel ≡ table
@@ -119,9 +126,8 @@ module _ (row h step : ℕ) (g : ℕ → ℕ → ℕ) where
       (λ c lt b. sym (plane-row row h step g y c b stepped below (omega arith))) in
       replaced-end
       (replaced-kept (replaced-then r one) (omega arith) (λ k low high b.
-      from-start (λ (i : ℕ). planeByte row h step g i b ≡ b) (y * step) k (omega arith)
-      (plane-padding row h step g (y * step + (k - y * step)) b
-      (beside-row row h step y (k - y * step) (omega arith) (omega arith)))))
+      let place : k ≡ y * step + (k - y * step) = omega arith in
+      rw place (plane-padding row h step g _ b (beside-row row h step y (k - y * step) (omega arith) (omega arith)))))
       (sym (mul-next y step))
 
   -- the bytes from n on are padding
@@ -142,11 +148,3 @@ part-next {m = m} f g src from to size source target r is rule =
     stored-then r
     (stored-part-each to (to + size) m (part from (from + size) src) 0 f g (omega arith) target (omega arith) is
     (λ c lt. ap (g c) (getD-part from (from + size) src c 0 (omega arith)) ∙ rule c (omega arith)))
-
--- the rows of a plane that is not empty are at least a byte apart
-pub step-some : {w p step : ℕ} → (w ≡ 0 → ⊥) → 1 ≤ p → w * p ≤ step → 0 < step
-step-some {w} {p} wide some le = let one : 1 * 1 ≤ w * p = mul-bound 1 1 w p (omega arith) some in omega arith
-
--- no bytes are written
-pub filled-none : (n : ℕ) (f : ℕ → ℕ) (l : List ℕ) → n ≡ 0 → l ≡ filled n f l
-filled-none n f l e = stored-front stored-none (sym e) (omega arith)

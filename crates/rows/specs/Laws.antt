@@ -6,13 +6,13 @@ use mathlib.Core.Bool.{false, and-false}
 use mathlib.Core.List.{List}
 use Prim.Native.Nat.{ℕ, _+_, _-_, _*_, _/_, _%_, _≤_, _<_}
 use native.Mathlib.Decide.{decLt}
-use native.Mathlib.Nat.{le-div-iff-mul-le, mul-le-mul-right, mod-lt}
+use native.Mathlib.Nat.{le-div-iff-mul-le, mul-le-mul-right}
 use native.Mathlib.Omega.{arith}
 use borrow.Author.Tests.{lt-ltb, le-ltb, eq-eqb, ne-eqb}
 use lib.ListN.{length, getD, List·getD-eq-default}
 use Rattle.lists.specs.Each.{each, getD-each, length-each}
 use Rattle.lists.specs.Tabulate.{filled, getD-filled}
-use Rattle.rows.specs.Bytes.{through, toned, rowByte, plainByte}
+use Rattle.rows.specs.Bytes.{through, toned, rowByte}
 use Rattle.rows.specs.Rows.{inRow, planeByte, tightByte, needed, Rows}
 use Rattle.rows.specs.Places.{place-row, place-in, mul-room}
 
@@ -32,15 +32,6 @@ pub row-channel : (p kept : ℕ) (tables : ℕ → List ℕ) (x j b : ℕ) → j
     → rowByte p kept tables (x * p + j) b ≡ toned kept tables j b
 unfolding rowByte
 row-channel p kept tables x j b h = rw (place-in x p j h)
-
--- a row of one table of which nothing is kept
-pub row-plain : (p kept : ℕ) (tables : ℕ → List ℕ) (table : List ℕ) (c b : ℕ) → 1 ≤ p → p ≤ kept
-    → tables (c % p) ≡ table
-    → plainByte table c b ≡ rowByte p kept tables c b
-unfolding rowByte plainByte
-row-plain p kept tables table c b some none e =
-    let channel : c % p < p = mod-lt c some in
-    rw (← e) (sym (toned-through kept (c % p) tables b (λ q. omega arith)))
 
 -- the rows of a checked plane lie in it
 pub rows-inside : {w h row step len : ℕ} (y : ℕ) → Rows w h row step len → (w ≡ 0 → ⊥) → y < h
@@ -99,11 +90,9 @@ module _ (w h step p kept : ℕ) (tables : ℕ → List ℕ) where
   plane-pixel plane y x j rows below left channel =
       let inside = rows-inside y rows (λ e. omega arith) below in
       let room = mul-room x w p left in
-      getD-each (planeByte (w * p) h step (rowByte p kept tables)) plane (y * step + (x * p + j)) 0
-      (omega arith)
-      ∙ plane-row (w * p) h step (rowByte p kept tables) y (x * p + j)
-      (getD plane (y * step + (x * p + j)) 0) (rows .stepped) below (omega arith)
-      ∙ row-channel p kept tables x j (getD plane (y * step + (x * p + j)) 0) channel
+      getD-each _ plane _ 0 (omega arith)
+      ∙ plane-row (w * p) h step _ y (x * p + j) _ (rows .stepped) below (omega arith)
+      ∙ row-channel p kept tables x j _ channel
 
   pub tight-pixel : (plane dst : List ℕ) (y x j : ℕ) → y < h → x < w → j < p
       → getD (filled (h * (w * p)) (tightByte (w * p) step (rowByte p kept tables) plane) dst)
@@ -112,19 +101,16 @@ module _ (w h step p kept : ℕ) (tables : ℕ → List ℕ) where
   tight-pixel plane dst y x j below left channel =
       let room = mul-room x w p left in
       let rows = mul-room y h (w * p) below in
-      getD-filled (h * (w * p)) (tightByte (w * p) step (rowByte p kept tables) plane) dst
-      (y * (w * p) + (x * p + j)) 0 (omega arith)
-      ∙ tight-row (w * p) step (rowByte p kept tables) plane y (x * p + j) (omega arith)
-      ∙ row-channel p kept tables x j (getD plane (y * step + (x * p + j)) 0) channel
+      getD-filled (h * (w * p)) _ dst _ 0 (omega arith)
+      ∙ tight-row (w * p) step _ plane y (x * p + j) (omega arith)
+      ∙ row-channel p kept tables x j _ channel
 
 -- padding is as it was; so are bytes after tight rows, by `getD-filled-rest`
 pub padding-stays : (row h step : ℕ) (g : ℕ → ℕ → ℕ) (plane : List ℕ) (k : ℕ)
     → inRow row h step k ≡ false
     → getD (each (planeByte row h step g) plane) k 0 ≡ getD plane k 0
 padding-stays row h step g plane k out = elim (decLt k (length plane)) [
-  | yes lt ↦
-      getD-each (planeByte row h step g) plane k 0 lt
-      ∙ plane-padding row h step g k (getD plane k 0) out
+  | yes lt ↦ getD-each _ plane k 0 lt ∙ plane-padding row h step g k _ out
   | no past ↦
       List·getD-eq-default (each (planeByte row h step g) plane) 0
       (omega (arith, length-each (planeByte row h step g) plane))

@@ -1,7 +1,7 @@
 -- Where a byte lies: index y × step + c is byte c of row y, and c = x × p + j is channel j of pixel
 -- x. Laws of whole numbers.
-use mathlib.Core.Path.{_≡_, ap, _∙_, subst}
-use Prim.Native.Nat.{ℕ, _+_, _-_, _*_, _/_, _%_, _≤_, _<_}
+use mathlib.Core.Path.{_≡_, ap, _∙_}
+use Prim.Native.Nat.{ℕ, _+_, _*_, _/_, _%_, _≤_, _<_}
 use native.Mathlib.Nat.{
   add-zero,
   add-mul,
@@ -39,7 +39,3 @@ mul-last y h n le ge = ap (λ (k : ℕ). k * n) (le-antisymm le ge)
 
 pub mul-bound : (a b m n : ℕ) → a ≤ m → b ≤ n → a * b ≤ m * n
 mul-bound a b m n h k = le-trans (mul-le-mul-right b h) (mul-le-mul-left m k)
-
--- a fact of a + k for each k is one of every place from a on
-pub from-start : (P : ℕ → Type 0) (a w : ℕ) → a ≤ w → P (a + (w - a)) → P w
-from-start P a w h p = let place : a + (w - a) ≡ w = omega arith in subst P place p

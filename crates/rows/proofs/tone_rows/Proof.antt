@@ -6,9 +6,9 @@ use native.Mathlib.Nat.{zero-mul}
 use Rattle.lists.specs.Replaced.{Replaced, replaced-none, replaced-end}
 use Rattle.rows.specs.Bytes.{same, rowByte}
 use Rattle.rows.specs.Rows.{planeByte}
-use Rattle.rows.specs.Places.{mul-last}
+use Rattle.rows.specs.Places.{mul-last, mul-bound}
 use Rattle.rows.specs.Laws.{rows-inside, below-rows, no-columns}
-use Rattle.rows.proofs.Walk.{plane-next, plane-done, step-some, some-bytes}
+use Rattle.rows.proofs.Walk.{plane-next, plane-done, some-bytes}
 use Rattle.rows.proofs.tone_rows.Statement.{statement}
 use Rattle.rows.proofs.tone_rows.Tie as tie
 
@@ -21,8 +21,7 @@ abbrev μ-loop : tie.MeasureT-loop
 μ-loop plane₀ step w h p kept table row y₀ plane y = h - y
 
 returns : tie.Need-returns Inv-loop μ-loop
-returns c =
-    plane-done _ _ _ _ replaced-none (λ k low. no-columns _ _ _ k (rw (c .if1 .taken) (zero-mul _)))
+returns c = plane-done _ _ _ _ replaced-none (λ k low. no-columns _ _ _ k (rw (c .if1 .taken) (zero-mul _)))
 
 -- the row lies in the plane, so its bounds fit too
 part-tone-row-end : tie.Need-part-tone-row-end Inv-loop μ-loop
@@ -56,10 +55,11 @@ loop-again c =
 returns-2 : tie.Need-returns-2 Inv-loop μ-loop
 returns-2 c =
     let start = c .before .before .before .before in
-    let some = step-some (c .before .before .if1 .left) (some-bytes (start .pre .0)) (start .pre .1 .stepped) in
+    let given = start .args in
+    let some = mul-bound 1 1 (given .w) (given .p) (omega arith) (some-bytes (start .pre .0)) in
     plane-done _ _ _ _
-    (replaced-end (c .before .loop .inv .2) (mul-last (c .before .loop .y) (start .args .h) _ (omega arith) (omega arith)))
-    (λ k low. below-rows _ _ _ k some low)
+    (replaced-end (c .before .loop .inv .2) (mul-last (c .before .loop .y) (given .h) _ (omega arith) (omega arith)))
+    (λ k low. below-rows _ _ _ k (omega arith) low)
 
 pub tone-rows-spec : {M : Type 1} → statement M
 tone-rows-spec =

@@ -9,7 +9,7 @@ use Rattle.rows.specs.Bytes.{three, rowByte}
 use Rattle.rows.specs.Rows.{tightByte, tightAlpha}
 use Rattle.rows.specs.Places.{mul-next, mul-room, mul-last}
 use Rattle.rows.specs.Laws.{rows-inside, tight-row}
-use Rattle.rows.proofs.Walk.{part-next, filled-none}
+use Rattle.rows.proofs.Walk.{part-next}
 use Rattle.rows.proofs.tone_rows_into.Statement.{statement}
 use Rattle.rows.proofs.tone_rows_into.Tie as tie
 
@@ -26,19 +26,19 @@ part-tone-row-into-end : tie.Need-part-tone-row-into-end Inv-loop μ-loop
 part-tone-row-into-end c =
     omega (
       arith,
-      rows-inside (c .before .loop .y) (c .before .before .before .before .before .pre .1)
+      rows-inside _ (c .before .before .before .before .before .pre .1)
           (c .before .before .if1 .left) (c .loop-test .taken),
     )
 
 add-to-end : tie.Need-add-to-end Inv-loop μ-loop
 add-to-end c =
     let given = c .before .before .before .before .before .args in
-    omega (arith, mul-room (c .before .loop .y) (given .h) (given .w * given .p) (c .loop-test .taken))
+    omega (arith, mul-room _ _ (given .w * given .p) (c .loop-test .taken))
 
 part-tone-row-into-end-2 : tie.Need-part-tone-row-into-end-2 Inv-loop μ-loop
 part-tone-row-into-end-2 c =
     let given = c .before .before .before .before .before .before .args in
-    omega (arith, mul-room (c .before .before .loop .y) (given .h) (given .w * given .p) (c .before .loop-test .taken))
+    omega (arith, mul-room _ _ (given .w * given .p) (c .before .loop-test .taken))
 
 loop-again : tie.Need-loop-again Inv-loop μ-loop
 loop-again c =
@@ -65,7 +65,7 @@ tone-rows-into-spec =
     (tie.spec
     Inv-loop
     μ-loop
-    (λ c. filled-none _ _ _ (rw (c .if1 .taken, zero-mul) (mul-zero _)))
+    (λ c. stored-front stored-none (rw (c .if1 .taken, zero-mul, mul-zero)) (omega arith))
     (omega arith)
     (λ c. (omega arith, omega arith, stored-end stored-none (omega arith)))
     (λ c. omega (arith, part-tone-row-into-end c))
