@@ -1,8 +1,9 @@
 -- Rows of floats by their rules, one that starts at the front, and one whose inner knots are stored
 -- first and its ends after that.
-use mathlib.Core.Path.{_≡_, refl, sym, _∙_}
+use mathlib.Core.Path.{_≡_, refl, _∙_}
 use mathlib.Core.List.{List}
 use Prim.Native.Nat.{ℕ, _+_, _-_, _<_, _≤_}
+use native.Mathlib.Nat.{sub-zero}
 use native.Mathlib.Omega.{arith}
 use borrow.Author.Tests.{eq-eqb, ne-eqb}
 use lib.ListN.{length, getD, set}
@@ -15,7 +16,7 @@ use Rattle.spline.specs.Second.{framed}
 pub from-front : {b n : ℕ} (f : ℕ → Float) {l m : List Float} → Stored (startingAt 0 f) 0 b l m → b ≡ n
     → Stored f 0 n l m
 unfolding startingAt
-from-front f r e = stored-end (stored-as r (λ w low high. let place : w - 0 ≡ w = omega arith in rw place)) e
+from-front f r e = stored-end (stored-as r (λ w low high. simp sub-zero)) e
 
 -- the values f of the inner knots of n, stored from place 1 on
 module _ {n : ℕ} (f : ℕ → Float) {l m : List Float} (r : Stored (startingAt 1 f) 1 (1 + (n - 2)) l m) where
@@ -32,8 +33,7 @@ module _ {n : ℕ} (f : ℕ → Float) {l m : List Float} (r : Stored (startingA
   framed-row first last two =
       let inside =
       stored-as {g = framed n first last f} r
-      (λ w low high. sym (rw (ne-eqb w 0 (λ e. omega arith), ne-eqb (w + 1) n (λ e. omega arith)) refl)) in
+      (λ w low high. rw (ne-eqb w 0 (λ e. omega arith), ne-eqb (w + 1) n (λ e. omega arith))) in
       let front = stored-end {a = 0} {c = n - 1} (stored-before inside refl (omega arith)) (omega arith) in
-      let end : framed n first last f (n - 1) ≡ last =
-      rw (ne-eqb (n - 1) 0 (λ e. omega arith), eq-eqb (n - 1 + 1) n (omega arith)) in
-      stored-end (stored-next front (sym end)) (omega arith)
+      stored-end
+      (stored-next front (rw (ne-eqb (n - 1) 0 (λ e. omega arith), eq-eqb (n - 1 + 1) n (omega arith)))) (omega arith)
