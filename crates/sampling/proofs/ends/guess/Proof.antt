@@ -1,8 +1,7 @@
 -- `ends::guess`: the loop stores the rule's element at each place, and all stay
 -- right as long as each is.
 use mathlib.Core.Path.{_≡_, ap}
-use mathlib.Core.Bool.{Bool, true, not, _&&_}
-use mathlib.Core.List.{List}
+use mathlib.Core.Bool.{true}
 use Prim.Native.Nat.{ℕ, _+_, _-_, _≤_}
 use native.Mathlib.Decide.{decLt}
 use native.Mathlib.Omega.{arith}
@@ -11,36 +10,10 @@ use lib.Ieee.{Float}
 use Rattle.lists.specs.Stored.{Stored, stored-none, stored-next, stored-end}
 use Rattle.single.specs.Rules.{floorOf}
 use Rattle.single.specs.ByteLaws.{floor-small}
-use Rattle.points.specs.Knots.{at, tooThin}
-use Rattle.sampling.specs.Walk.{isEnd, endAt, Right}
+use Rattle.sampling.specs.Walk.{endAt, Right}
 use Rattle.sampling.proofs.Walk.{both-true, not-true}
 use Rattle.sampling.proofs.ends.guess.Statement.{statement}
 use Rattle.sampling.proofs.ends.guess.Tie as tie
-
-right-start : (xs : List Float) (s : Float) {t : Bool} → t ≡ tooThin (at xs 0) (at xs 1) → not t ≡ true → Right xs 2 s
-right-start xs s {t} e h = record {
-  wide = λ k low. let zeroth : k ≡ 0 = omega arith in rw (zeroth, ← e) (not-true t h);
-  end = λ k low. absurd (omega arith);
-}
-
-right-next : (xs : List Float) (s : Float) (i : ℕ) {e : ℕ} {r a t : Bool} → (r ≡ true → Right xs (i + 2) s)
-    → e ≡ endAt xs s i
-    → a ≡ isEnd (at xs (i + 1)) s e → t ≡ tooThin (at xs (i + 1)) (at xs (i + 2)) → (r && a && not t) ≡ true
-    → Right xs (i + 1 + 2) s
-right-next xs s i {r = r} {a} {t} before end is-end is-thin h =
-    let last = both-true (r && a) (not t) h in
-    let first = both-true r a (last .0) in
-    let two : i + 1 + 1 ≡ i + 2 = omega arith in
-    record {
-      wide = λ k low. elim (decLt i k) [
-        | yes after ↦ let same : k ≡ i + 1 = omega arith in rw (same, two, ← is-thin) (not-true t (last .1))
-        | no up-to ↦ before (first .0) .wide k (omega arith)
-      ];
-      end = λ k low. elim (decLt k i) [
-        | yes up-to ↦ before (first .0) .end k (omega arith)
-        | no after ↦ let same : k ≡ i = omega arith in rw (same, ← end, ← is-end) (first .1)
-      ];
-    }
 
 index-most : (x : Float) {k : ℕ} → k ≡ floorOf x → k ≤ 4094
 index-most x e = rw e (floor-small x)
@@ -52,16 +25,42 @@ Inv-loop xs n step ends₀ right₀ i₀ ends right i =
 abbrev μ-loop : tie.MeasureT-loop
 μ-loop xs n step ends₀ right₀ i₀ ends right i = n - i
 
+loop-holds : tie.Need-loop-holds Inv-loop μ-loop
+loop-holds c = (
+  search needs,
+  stored-none,
+  λ h. record {
+    wide = λ k low. let zeroth : k ≡ 0 = omega arith in rw (zeroth, ← c .too-thin .ensures) (not-true _ h);
+    end = λ k low. absurd (omega arith);
+  },
+)
+
 loop-again : tie.Need-loop-again Inv-loop μ-loop
 unfolding endAt
 loop-again c =
     let e = c .before .before in
     let x = e .before in
     let b = x .before .before .before in
+    let i = b .loop .i in
     let end = ap (λ (k : ℕ). k + 1) (x .index .ensures) in (
       search needs,
       stored-next (b .loop .inv .1) end,
-      right-next _ _ _ (b .loop .inv .2) end (e .is-end .ensures) (c .too-thin2 .ensures),
+      λ h.
+          let last = both-true _ _ h in
+          let first = both-true _ _ (last .0) in
+          let before = b .loop .inv .2 (first .0) in
+          let two : i + 1 + 1 ≡ i + 2 = omega arith in
+          record {
+            wide = λ k low. elim (decLt i k) [
+              | yes after ↦
+                  let same : k ≡ i + 1 = omega arith in rw (same, two, ← c .too-thin2 .ensures) (not-true _ (last .1))
+              | no up-to ↦ before .wide k (omega arith)
+            ];
+            end = λ k low. elim (decLt k i) [
+              | yes up-to ↦ before .end k (omega arith)
+              | no after ↦ let same : k ≡ i = omega arith in rw (same, ← end, ← e .is-end .ensures) (first .1)
+            ];
+          },
     )
 
 returns : tie.Need-returns Inv-loop μ-loop
@@ -78,7 +77,7 @@ guess-spec =
     Inv-loop
     μ-loop
     (omega arith) (omega arith) (omega arith)
-    (λ c. (search needs, stored-none, right-start _ _ (c .too-thin .ensures)))
+    loop-holds
     (omega arith) (omega arith) (omega arith) (omega arith) (omega arith)
     (λ c. omega (arith, index-most _ (c .index .ensures)))
     (λ c. omega (arith, index-most _ (c .index .ensures)))
