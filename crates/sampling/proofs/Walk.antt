@@ -76,6 +76,7 @@ module _ {xs : List Float} {n S : ℕ} {p : Cursor} (room : p .i + 1 < n) where
     ahead = λ w low high. refl;
   }
 
+  -- the cursor that the definition gives
   pub next : {q : Cursor} {ends : List ℕ} {s : Float} → Ends xs n ends s S → p .v + 4 ≤ S → q ≡ nextCursor ends p
       → Next xs n S p q
   unfolding nextCursor endAt
@@ -88,7 +89,7 @@ module _ {xs : List Float} {n S : ℕ} {p : Cursor} (room : p .i + 1 < n) where
             let held = floor-small (x ⊘ step S) in
             let is-end = both-true (lt x (sampleAt (step S) e)) _ (given .right .end (p .i) inner) in
             let inside : (w : ℕ) → w < e → sought xs n S (p .i) w ≡ p .i =
-            λ w high. seek-stays xs n (p .i) (sampleAt (step S) w)
+            λ w high. seek-stays _ _ _ _
             (inside-earlier S (given .some) (given .held) x w (e - 1) (omega arith) (omega arith)
             (not-true _ (is-end .1)))
             inner in
@@ -101,7 +102,7 @@ module _ {xs : List Float} {n S : ℕ} {p : Cursor} (room : p .i + 1 < n) where
                 far = omega arith;
                 more = omega arith;
                 inside = λ w low high. inside w (omega arith);
-                ahead = λ w low high. seek-on xs n (p .i) (sampleAt (step S) w)
+                ahead = λ w low high. seek-on _ _ _ _
                     (past-later S (given .some) (given .held) x e w (omega arith) (omega arith) (is-end .0)) inner;
               })
             ])
@@ -110,7 +111,7 @@ module _ {xs : List Float} {n S : ℕ} {p : Cursor} (room : p .i + 1 < n) where
               stored-above (given .row) (p .i) 0 (omega arith) ∙ getD-replicate 66 (p .i) 8192 0 (omega arith),
               lt-ltb (p .v + 4) 8192 (omega arith),
             )
-            (four-on (λ w low high. seek-last xs n (p .i) (sampleAt (step S) w) (omega arith)))
+            (four-on (λ w low high. seek-last _ _ _ _ (omega arith)))
       ])
 
 -- ---- the state
