@@ -20,4 +20,8 @@ returns c =
 pub tone-colours-alpha-spec : {M : Type 1} → statement M
 tone-colours-alpha-spec =
     tie.close
-    (tie.spec (omega arith) (omega arith) (omega arith) (omega arith) (omega arith) returns (omega arith) (λ c. replaced-each (c .before .before .before .tone-pairs .ensures) (omega arith)))
+    (tie.spec
+    (omega arith) (omega arith) (omega arith) (omega arith) (omega arith)
+    returns
+    (omega arith)
+    (λ c. replaced-each (c .before .before .before .tone-pairs .ensures) (omega arith)))
