@@ -51,5 +51,6 @@ entry = entryOf
 
 -- what a reader makes of a record
 unfoldable pub read : List ℕ → Read
-unfolding readRecord readFields readList readPoints pairs readKind readNumber readCarried risesFrom kindOf
+unfolding readRecord readFields readList readPoints pairs readKind readNumber readCarried risesFrom
+    kindOf
 read = readRecord

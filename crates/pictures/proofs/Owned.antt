@@ -18,7 +18,6 @@ use Rattle.sets.specs.declared.Channel.{Channel}
 use Rattle.sets.specs.Sets.{viewOf, channelOf}
 use Rattle.sets.specs.Lists.{OfColour, EveryList}
 use Rattle.sets.proofs.Channel as ChannelType
-use Rattle.sets.proofs.Curves as SetType
 use Rattle.pictures.specs.declared.Job.{Job}
 use Rattle.pictures.proofs.Job as JobType
 

@@ -122,11 +122,13 @@ abbrev pub byteBehind : List ℕ
 byteBehind = encode (viewOf longestSet) ++ 0 ∷ []
 
 pub whole-refused : readRecord byteBehind .answer ≡ TrailingBytes
-unfolding readRecord readFields readList readPoints pairs risesFrom readKind readNumber readCarried kindOf
+unfolding readRecord readFields readList readPoints pairs risesFrom readKind readNumber readCarried
+    kindOf
     readSlopes encode bitsUnder pairBytes tabulate
 whole-refused = refl
 
 pub cut-accepted : readRecord (take longest byteBehind) .answer ≡ Done
-unfolding readRecord readFields readList readPoints pairs risesFrom readKind readNumber readCarried kindOf
+unfolding readRecord readFields readList readPoints pairs risesFrom readKind readNumber readCarried
+    kindOf
     readSlopes encode bitsUnder pairBytes tabulate
 cut-accepted = refl

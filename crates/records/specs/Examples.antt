@@ -30,7 +30,8 @@ use Rattle.records.specs.Format.{readFields, readRecord, result}
 -- "a count of 0 being an empty one"
 pub red-empty : readRecord (2 ∷ 0 ∷ [])
     ≡ record { answer = Done; set = withColour Red (some []) emptyView }
-unfolding readRecord readFields readList readPoints pairs readKind readNumber readCarried risesFrom kindOf
+unfolding readRecord readFields readList readPoints pairs readKind readNumber readCarried risesFrom
+    kindOf
 red-empty = refl
 
 pub cardinal : readRecord (0x30 ∷ 7 ∷ 128 ∷ [])

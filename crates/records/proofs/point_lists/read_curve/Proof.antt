@@ -41,7 +41,8 @@ returns-2 c =
     record {
       list =
           rw (c .no-curve2 .ensures .0, refusal, drop-at (a .s .now) (a .at) (omega arith), ← w .ensures .0)
-          (sym (checked-stops _ (countChecks (a .least) (w .result)) (pairChecks (w .result) (drop (a .at + 1) (a .s .now)))
+          (sym (checked-stops _ (countChecks (a .least) (w .result))
+          (pairChecks (w .result) (drop (a .at + 1) (a .s .now)))
           (k .check-stored-count .ensures) refusal));
       legal = c .no-curve2 .ensures .1;
     }
