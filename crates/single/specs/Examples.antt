@@ -1,11 +1,12 @@
 -- The small rules on single floats where a slip would show, computed: halves, the float just below
--- one, both zeros, and NaN.
+-- one, both zeros, and NaN; roots of the smallest and the largest float.
 use mathlib.Core.Path.{_≡_, refl}
-use lib.Ieee.{Float, nan, binary32, lt, add, ofBits}
+use lib.Ieee.{Float, nan, binary32, lt, add, ofBits, toBits}
 use Rattle.floats.specs.Notation.{_⊕_}
 use Rattle.floats.specs.Value.{Is, absolute}
-use Rattle.single.specs.Constants.{𝟎, ½, 𝟏}
+use Rattle.single.specs.Constants.{𝟎, ½, 𝟏, 𝟐}
 use Rattle.single.specs.Rules.{clamped, byteOf}
+use Rattle.single.specs.Root.{rootOf}
 
 abbrev pub −𝟎 : Float
 −𝟎 = ofBits binary32 0x8000_0000
@@ -59,3 +60,17 @@ clamped-minus-zero = refl
 pub absolute-minus-zero : absolute −𝟎 ≡ 𝟎
 unfolding absolute ofBits
 absolute-minus-zero = refl
+
+-- ---- the square root
+pub root-of-four : rootOf (ofBits binary32 0x4080_0000) ≡ 𝟐
+unfolding rootOf ofBits
+root-of-four = refl
+
+-- the smallest positive float, a unit, and the largest
+pub root-of-unit : toBits binary32 (rootOf (ofBits binary32 1)) ≡ 0x1a35_04f3
+unfolding rootOf ofBits toBits
+root-of-unit = refl
+
+pub root-of-largest : toBits binary32 (rootOf (ofBits binary32 0x7f7f_ffff)) ≡ 0x5f7f_ffff
+unfolding rootOf ofBits toBits
+root-of-largest = refl

@@ -1,5 +1,5 @@
 -- What the square root of a float is: the root of a positive float by squares, its sign, special
--- values, and examples by computation, P9 among them.
+-- values, and that its binade is said.
 use mathlib.Core.Path.{_≡_, refl, sym, ap, _∙_, subst}
 use mathlib.Core.Bool.{Bool, true, false, cond}
 use Prim.Native.Nat.{ℕ, zero, suc, _+_, _-_, _*_, _/_, _^_, _≤_, _<_}
@@ -17,11 +17,11 @@ use native.Mathlib.Omega.{arith}
 use lib.IntN.{ℤ, pos, negsuc}
 use lib.Dec.{T, ltb, lit<, lit≤}
 use lib.Pow.{pow-pos, pow-add, pow-mono}
-use lib.Ieee.{Float, nan, inf, fin, binary32, up, down, odd, units, fits, toBits, ofBits}
+use lib.Ieee.{Float, nan, inf, fin, binary32, up, down, odd, units, fits, ofBits}
 use lib.Ieee.Fits.{down-pos}
 use Rattle.floats.specs.Value.{sign}
 use Rattle.floats.specs.Exact.{fits-parts}
-use Rattle.single.specs.Constants.{𝟏, 𝟐}
+use Rattle.single.specs.Constants.{𝟏}
 use Rattle.single.specs.Root.{nearestRoot, rootOfUnits, rootOf}
 use Rattle.single.specs.RootUnits.{dropped, part, Rooted, units-rooted, rooted-unique}
 
@@ -121,20 +121,7 @@ pub root-of-negative : (m : ℕ) (e : ℤ) → rootOf (fin true (suc m) e) ≡ n
 unfolding rootOf
 root-of-negative m e = refl
 
--- ---- by computation
-pub root-of-four : rootOf (ofBits binary32 0x4080_0000) ≡ 𝟐
-unfolding rootOf ofBits
-root-of-four = refl
-
--- the smallest positive float, a unit, and the largest
-pub root-of-unit : toBits binary32 (rootOf (ofBits binary32 1)) ≡ 0x1a35_04f3
-unfolding rootOf ofBits toBits
-root-of-unit = refl
-
-pub root-of-largest : toBits binary32 (rootOf (ofBits binary32 0x7f7f_ffff)) ≡ 0x5f7f_ffff
-unfolding rootOf ofBits toBits
-root-of-largest = refl
-
+-- ---- the binade
 -- the float just below 1 is its own root; 1 is not, though it is half of its own, wider, step
 -- away
 abbrev pub below-one : Float
