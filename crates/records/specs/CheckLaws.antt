@@ -148,8 +148,8 @@ list-read least [] = record { answer = refl; goes-on = refl }
 list-read least (n ∷ s) =
     checked-read (storedListChecks least (n ∷ s)) (reads-on (pairs n s) (drop (n * pointBytes) s))
 
-field-read : (stands : Bool) (least : ℕ) (s : List ℕ)
-    → Reads (fieldChecks stands least s) (afterField stands s) (readField stands least s)
+field-read : (present : Bool) (least : ℕ) (s : List ℕ)
+    → Reads (fieldChecks present least s) (afterField present s) (readField present least s)
 field-read true least s = list-read least s
 field-read false least s = reads-on [] s
 
@@ -186,9 +186,9 @@ agreed-read : (m k : ℕ) (s : List ℕ)
     (drop (carriedLength k) s) (readAgreed m k s)
 agreed-read m k s = checked-read (bitsCheck m k ∷ []) (carried-read k s)
 
-kind-read : (stands : Bool) (m : ℕ) (s : List ℕ)
-    → Reads (kindChecks stands m s) (afterKind stands s)
-    (readNumber default stands s ▷ readAgreed m)
+kind-read : (present : Bool) (m : ℕ) (s : List ℕ)
+    → Reads (kindChecks present m s) (afterKind present s)
+    (readNumber default present s ▷ readAgreed m)
 unfolding readNumber
 kind-read false m s =
     checked-read (RecordTruncated when false ∷ kindCheck (kindNumber default) ∷ [])

@@ -26,17 +26,17 @@ storedListChecks least s =
 
 -- "only the fields whose bit stands"; and what follows the field
 abbrev pub fieldChecks : Bool → ℕ → List ℕ → List Check
-fieldChecks stands least s = cond stands (storedListChecks least s) []
+fieldChecks present least s = cond present (storedListChecks least s) []
 
 abbrev pub afterField : Bool → List ℕ → List ℕ
-afterField stands s = cond stands (drop (getD s 0 0 * pointBytes) (drop 1 s)) s
+afterField present s = cond present (drop (getD s 0 0 * pointBytes) (drop 1 s)) s
 
 -- the kind's number, where its bit is set its byte, and what follows that byte
 abbrev pub kindIs : Bool → List ℕ → ℕ
-kindIs stands s = cond stands (getD s 0 0) (kindNumber default)
+kindIs present s = cond present (getD s 0 0) (kindNumber default)
 
 abbrev pub afterByte : Bool → List ℕ → List ℕ
-afterByte stands s = cond stands (drop 1 s) s
+afterByte present s = cond present (drop 1 s) s
 
 -- a tension is one byte, two slopes are four
 abbrev pub carriedLength : ℕ → ℕ
@@ -44,16 +44,16 @@ carriedLength k = cond (carriesTension k) 1 (cond (carriesSlopes k) 4 0)
 
 -- "a missing kind byte, 5; then 6, and only then 2 for tension or slopes"
 abbrev pub kindChecks : Bool → ℕ → List ℕ → List Check
-kindChecks stands m s =
-    let k = kindIs stands s in
-    RecordTruncated when (stands && isEmpty s)
+kindChecks present m s =
+    let k = kindIs present s in
+    RecordTruncated when (present && isEmpty s)
     ∷ kindCheck k
     ∷ bitsCheck m k
-    ∷ RecordTruncated when ltb (length (afterByte stands s)) (carriedLength k)
+    ∷ RecordTruncated when ltb (length (afterByte present s)) (carriedLength k)
     ∷ []
 
 abbrev pub afterKind : Bool → List ℕ → List ℕ
-afterKind stands s = drop (carriedLength (kindIs stands s)) (afterByte stands s)
+afterKind present s = drop (carriedLength (kindIs present s)) (afterByte present s)
 
 -- "Inside a record 2 to 5 run field by field": master, red, green, blue and kind, after the map m,
 -- each present where its bit is set; `bit 4 m` is the bit of weight 4;

@@ -63,7 +63,7 @@ carriedBytes k =
 
 -- ---- the bit map
 abbrev pub oneIf : Bool → ℕ
-oneIf stands = cond stands 1 0
+oneIf present = cond present 1 0
 
 -- a bit for each mark, the first in bit 0, with the number `above` from the next bit on
 unfoldable pub bitsUnder : ℕ → List Bool → ℕ

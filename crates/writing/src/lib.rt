@@ -162,10 +162,10 @@ fn names_kind(k: CurveInterpolation) -> bool
 }
 
 // The bit of this weight, where it is set.
-fn mark(stands: bool, weight: u8) -> u8
-    ensures { λ r. ⌜ (r ≡ cond stands weight 0) × (r ≤ weight) ⌝ }
+fn mark(present: bool, weight: u8) -> u8
+    ensures { λ r. ⌜ (r ≡ cond present weight 0) × (r ≤ weight) ⌝ }
 {
-    if stands { weight } else { 0 }
+    if present { weight } else { 0 }
 }
 
 // The master as a field: an empty one is left out.

@@ -18,13 +18,13 @@ returns c =
     let b = c .before .before .before .before in
     let a = b .before .before .before .before .before .args in
     let k = a .colour in
-    let stands : b .has-bit .result ≡ bit (colourBit k) (a .map) =
+    let is : b .has-bit .result ≡ bit (colourBit k) (a .map) =
     rw (b .before .colour-bit .ensures .0) at (b .has-bit .ensures) in
     let channel : Channel = record { present = b .has-bit .result; curve = f .result .curve } in
     member-read (b .before .before .before .is-done .ensures) (readField (bit (colourBit k) (a .map)) 0)
     (λ l. withColour k (colourList (bit (colourBit k) (a .map)) l)) (listOf (f .result .curve))
     (b .before .before .if1 .taken)
-    (rw stands at (f .ensures .list)) (c .with-channel .ensures) (colour-replaced k channel (a .self .set) ∙ rw stands)
+    (rw is at (f .ensures .list)) (c .with-channel .ensures) (colour-replaced k channel (a .self .set) ∙ rw is)
     (colour-passed k channel (a .self .set) (channel-passes channel (f .ensures .legal)))
 
 returns-2 : tie.Need-returns-2
