@@ -97,13 +97,13 @@ number-unique a b e = sym (at-number a) ∙ ap (λ n. getD inOrder n Done) e ∙
 pub done-is : (a : Answer) → isDone a ≡ true → a ≡ Done
 done-is a e = number-unique a Done (eqb-true (numberOf a) 0 e)
 
--- code asked whether a is done, was told, and tested that it is not
-module _ (a : Answer) {told : Bool} (is : told ≡ isDone a) where
-  pub told-refused : not told ≡ true → isDone a ≡ false
-  told-refused t = sym is ∙ not-true told t
+-- code asked whether a is done, and tested that it is not
+module _ (a : Answer) {done : Bool} (is : done ≡ isDone a) where
+  pub asked-refused : not done ≡ true → isDone a ≡ false
+  asked-refused t = sym is ∙ not-true done t
 
-  pub told-done : not told ≡ false → a ≡ Done
-  told-done t = done-is a (sym is ∙ not-false told t)
+  pub asked-done : not done ≡ false → a ≡ Done
+  asked-done t = done-is a (sym is ∙ not-false done t)
 
 -- where the first refusal of two is none, neither is a refusal
 module _ (a b : Answer) where

@@ -10,7 +10,7 @@ use Rattle.lists.specs.Test.{by-test}
 use Rattle.points.specs.declared.Curve.{Curve}
 use Rattle.points.specs.Points.{listOf}
 use Rattle.points.specs.Order.{All, Bytes, all-take}
-use Rattle.points.specs.Owned.{bytes-told}
+use Rattle.points.specs.Owned.{owned-bytes}
 use Rattle.points.proofs.Curve as CurveType
 use Rattle.tables.specs.Kinds.{carriedOf}
 use Rattle.tables.proofs.Owned.{tension-owned}
@@ -25,25 +25,25 @@ use Rattle.pictures.proofs.Job as JobType
 abbrev IsOwned : (F : Field) → F .Value → List Val → Type 0
 IsOwned F x vs = shadow (F .row .own (F .into x) vs)
 
-list-told : (c : Curve) (vs : List Val) → IsOwned CurveType.the-field c vs → All Bytes (listOf c)
-list-told c vs own = search (own, all-take, bytes-told)
+owned-list : (c : Curve) (vs : List Val) → IsOwned CurveType.the-field c vs → All Bytes (listOf c)
+owned-list c vs own = search (own, all-take, owned-bytes)
 
-colour-told : (c : Channel) (vs : List Val) → IsOwned ChannelType.the-field c vs → OfColour (All Bytes) (channelOf c)
-colour-told c vs own = by-test (c .present) (λ t. rw t (list-told (c .curve) _ (own .1 .1 .1 .0))) (λ t. rw t tt)
+owned-colour : (c : Channel) (vs : List Val) → IsOwned ChannelType.the-field c vs → OfColour (All Bytes) (channelOf c)
+owned-colour c vs own = by-test (c .present) (λ t. rw t (owned-list (c .curve) _ (own .1 .1 .1 .0))) (λ t. rw t tt)
 
-pub points-told : (j : Job) (vs : List Val) → IsOwned JobType.the-field j vs
+pub owned-points : (j : Job) (vs : List Val) → IsOwned JobType.the-field j vs
     → EveryList (All Bytes) (viewOf (j .set))
-points-told j vs own =
+owned-points j vs own =
     let set = own .1 .1 .0 in
     record {
-      master = list-told (j .set .master) _ (set .1 .1 .0);
-      red = colour-told (j .set .red) _ (set .1 .1 .1 .0);
-      green = colour-told (j .set .green) _ (set .1 .1 .1 .1 .0);
-      blue = colour-told (j .set .blue) _ (set .1 .1 .1 .1 .1 .0);
+      master = owned-list (j .set .master) _ (set .1 .1 .0);
+      red = owned-colour (j .set .red) _ (set .1 .1 .1 .0);
+      green = owned-colour (j .set .green) _ (set .1 .1 .1 .1 .0);
+      blue = owned-colour (j .set .blue) _ (set .1 .1 .1 .1 .1 .0);
     }
 
-pub tension-told : (j : Job) (vs : List Val) → IsOwned JobType.the-field j vs
+pub owned-tension : (j : Job) (vs : List Val) → IsOwned JobType.the-field j vs
     → carriedOf (j .set .interpolation) .tension < 256
-tension-told j vs own =
+owned-tension j vs own =
     let set = own .1 .1 .0 in
     tension-owned (j .set .interpolation) _ (set .1 .1 .1 .1 .1 .1 .0)

@@ -2,8 +2,8 @@
 -- are 64, each of two bytes.
 -- The type says neither, but that the value is owned does, in a form that `search` finds. At a need
 -- c of a function of a parameter `curve`:
---     let long : length (c .args .curve .points) ≡ 64 = search (needs, length-told) in
---     let bytes : All Bytes (listOf (c .args .curve)) = search (needs, all-take, bytes-told) in ..
+--     let long : length (c .args .curve .points) ≡ 64 = search (needs, owned-length) in
+--     let bytes : All Bytes (listOf (c .args .curve)) = search (needs, all-take, owned-bytes) in ..
 use mathlib.Core.Path.{_≡_, sym, _∙_}
 use mathlib.Core.List.{List, [], _∷_, map}
 use Prim.Native.Nat.{ℕ, min}
@@ -26,9 +26,9 @@ use Rattle.points.specs.Order.{All, Bytes}
 abbrev twoBytes : RattleType
 twoBytes = Struct (record { name = []; args = []; fields = rows (u8-field ∷ u8-field ∷ []) })
 
-pub length-told : (X Y : Type 0) (f : X → Y) (l : List X) (n : ℕ) → length (map f l) ≡ n
+pub owned-length : (X Y : Type 0) (f : X → Y) (l : List X) (n : ℕ) → length (map f l) ≡ n
     → length l ≡ n
-length-told X Y f l n e = sym (length-map l f) ∙ e
+owned-length X Y f l n e = sym (length-map l f) ∙ e
 
 -- so the list has as many points as are claimed, and no more than 64
 pub list-length : (c : Curve) → length (c .points) ≡ 64 → length (listOf c) ≡ min (c .count) 64
@@ -43,9 +43,9 @@ limited-list l n long = elim (decLe n 64) [
       rw most (take-all 64 l (omega arith) ∙ sym (take-all n l (omega arith)))
 ]
 
-pub bytes-told : (l : List Point) (us : List Val)
+pub owned-bytes : (l : List Point) (us : List Val)
     → shadow (each (twoBytes .Denot) (twoBytes .own) (map (λ p. (p .x, (p .y, tt))) l) us)
     → All Bytes l
-bytes-told [] us s = tt
-bytes-told (p ∷ l) [] s = absurd s
-bytes-told (p ∷ l) (u ∷ us) s = ((s .0 .1 .1 .0 .1, s .0 .1 .1 .1 .0 .1), bytes-told l us (s .1))
+owned-bytes [] us s = tt
+owned-bytes (p ∷ l) [] s = absurd s
+owned-bytes (p ∷ l) (u ∷ us) s = ((s .0 .1 .1 .0 .1, s .0 .1 .1 .1 .0 .1), owned-bytes l us (s .1))

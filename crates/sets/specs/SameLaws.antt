@@ -76,11 +76,11 @@ checked-same a b e =
 -- each list is stored in 64 places: so it is of every set that code holds, although the type of the
 -- points is that of all lists.
 -- A function's need c tells it of a parameter `set`, with `own = c .good .0 .1 .1` and
--- `length-told` of points:
--- record { master = search (own .0, length-told); red = search (own .1 .0
--- .1 .1 .1 .0, length-told);
--- green = search (own .1 .1 .0 .1 .1 .1 .0, length-told); blue = search (own .1 .1 .1 .0 .1
--- .1 .1 .0, length-told) }
+-- `owned-length` of points:
+-- record { master = search (own .0, owned-length); red = search (own .1 .0
+-- .1 .1 .1 .0, owned-length);
+-- green = search (own .1 .1 .0 .1 .1 .1 .0, owned-length); blue = search (own .1 .1 .1 .0 .1
+-- .1 .1 .0, owned-length) }
 pub record Full (s : Curves) : Type 0 where
   pub master : length (s .master .points) ≡ 64
   pub red : length (s .red .curve .points) ≡ 64

@@ -9,7 +9,7 @@ use Rattle.sets.specs.Sets.{curveChecks, setChecks, setAnswer}
 use Rattle.formats.specs.Checks.{pictureAnswer}
 use Rattle.pictures.specs.Runs.{Run, InTypes, hasChroma, checksOfPicture, answer}
 use Rattle.pictures.specs.RunLaws.{Accepted, accepted-run}
-use Rattle.pictures.proofs.Owned.{points-told, tension-told}
+use Rattle.pictures.proofs.Owned.{owned-points, owned-tension}
 use Rattle.pictures.proofs.Ends as Ends
 use Rattle.pictures.proofs.apply_pixels.Statement.{statement}
 use Rattle.pictures.proofs.apply_pixels.Tie as tie
@@ -42,8 +42,8 @@ in-types c =
     let own = k .before .good .0 in
     record {
       plane = λ i. k .shared-slice-known .given i .fits;
-      points = points-told (run c .job) _ own;
-      tension = tension-told (run c .job) _ own;
+      points = owned-points (run c .job) _ own;
+      tension = owned-tension (run c .job) _ own;
     }
 
 -- past the refusal

@@ -8,7 +8,7 @@ use lib.ListN.{length, take}
 use lib.Seq.{take-all}
 use Rattle.points.specs.declared.Curve.{Curve}
 use Rattle.points.specs.Points.{listOf}
-use Rattle.points.specs.Owned.{length-told}
+use Rattle.points.specs.Owned.{owned-length}
 use Rattle.sets.specs.Same.{SameCurve}
 use Rattle.sameness.specs.Decides.{Decides}
 use Rattle.sameness.proofs.Deciding.{no, decides-as}
@@ -35,8 +35,8 @@ returns-3 c =
     let k = c .before .before in
     let a = k .before .args .a in
     let b = k .before .args .b in
-    let a-long : length (a .points) ≡ 64 = search (needs, length-told) in
-    let b-long : length (b .points) ≡ 64 = search (needs, length-told) in
+    let a-long : length (a .points) ≡ 64 = search (needs, owned-length) in
+    let b-long : length (b .points) ≡ 64 = search (needs, owned-length) in
     by-points a b 64 (k .if1 .left)
     (take-all 64 (a .points) (omega arith) ∙ sym (take-all (a .count) (a .points) (omega arith)))
     (take-all 64 (b .points) (omega arith) ∙ sym (take-all (b .count) (b .points) (omega arith)))

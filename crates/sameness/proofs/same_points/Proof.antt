@@ -10,7 +10,7 @@ use lib.ListN.{length, take}
 use lib.Seq.{take-suc, getD-take}
 use Rattle.points.specs.declared.Point.{Point}
 use Rattle.points.specs.Points.{pt, nth}
-use Rattle.points.specs.Owned.{length-told}
+use Rattle.points.specs.Owned.{owned-length}
 use Rattle.sameness.proofs.Deciding.{yes, no, decides-not}
 use Rattle.sameness.proofs.same_points.Statement.{statement}
 use Rattle.sameness.proofs.same_points.Tie as tie
@@ -40,8 +40,8 @@ loop-again c =
     let k = c .before .before .before .before .before in
     let a = k .before .args .t1 .points in
     let b = k .before .args .t2 .points in
-    let a-long : length a ≡ 64 = search (needs, length-told) in
-    let b-long : length b ≡ 64 = search (needs, length-told) in
+    let a-long : length a ≡ 64 = search (needs, owned-length) in
+    let b-long : length b ≡ 64 = search (needs, owned-length) in
     let here = c .before .same-point .ensures .sound (not-false _ (c .if1 .left)) in
     (omega arith, one-more a b (k .loop .i) (omega arith) (omega arith) (k .loop .inv .1) here)
 

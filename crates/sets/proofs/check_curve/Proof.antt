@@ -3,7 +3,7 @@ use native.Mathlib.Omega.{arith}
 use mathlib.Core.Path.{_≡_, sym, _∙_}
 use mathlib.Core.List.{[], _∷_}
 use Rattle.answers.specs.declared.Answer.the-variants.{Done}
-use Rattle.answers.specs.Numbers.{told-refused, told-done}
+use Rattle.answers.specs.Numbers.{asked-refused, asked-done}
 use Rattle.answers.specs.Checks.{firstRefusal, first-stops, first-goes-on}
 use Rattle.points.specs.Points.{listOf, listChecks}
 use Rattle.sets.specs.Sets.{risingCheck, curveAnswer}
@@ -16,11 +16,11 @@ returns c =
     let k = c .before .before in
     let curve = k .before .args .curve in
     first-stops (listChecks curve) (risingCheck (listOf curve) ∷ []) (k .check-given .ensures)
-    (told-refused (k .check-given .result) (c .before .is-done .ensures) (c .if1 .taken))
+    (asked-refused (k .check-given .result) (c .before .is-done .ensures) (c .if1 .taken))
 
 -- the given list's have passed
 passed : (c : tie.Else1) → firstRefusal (listChecks (c .before .before .before .args .curve)) ≡ Done
-passed c = sym (c .before .before .check-given .ensures) ∙ told-done _ (c .before .is-done .ensures) (c .if1 .left)
+passed c = sym (c .before .before .check-given .ensures) ∙ asked-done _ (c .before .is-done .ensures) (c .if1 .left)
 
 returns-2 : tie.Need-returns-2
 unfolding curveAnswer

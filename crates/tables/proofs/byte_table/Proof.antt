@@ -3,7 +3,7 @@ use native.Mathlib.Omega.{arith}
 use mathlib.Core.Path.{ap, _∙_}
 use lib.Ieee.{nan}
 use Rattle.lists.specs.Tabulate.{getD-tabulate, tabulate-same}
-use Rattle.answers.specs.Numbers.{told-refused, told-done}
+use Rattle.answers.specs.Numbers.{asked-refused, asked-done}
 use Rattle.single.specs.Rules.{byteOf}
 use Rattle.tables.specs.Tables.{byteAt, entryOf}
 use Rattle.tables.proofs.byte_table.Statement.{statement}
@@ -14,7 +14,7 @@ returns c =
     let k = c .before .before in
     rw (
       ← k .check-given .ensures,
-      told-refused (k .check-given .result) (c .before .is-done .ensures) (c .if1 .taken),
+      asked-refused (k .check-given .result) (c .before .is-done .ensures) (c .if1 .taken),
     )
 
 returns-2 : tie.Need-returns-2
@@ -25,7 +25,7 @@ returns-2 c =
     let k = test .before .before in
     rw (
       ← k .check-given .ensures,
-      told-done (k .check-given .result) (test .before .is-done .ensures) (test .if1 .left),
+      asked-done (k .check-given .result) (test .before .is-done .ensures) (test .if1 .left),
     )
     (c .to-bytes .ensures
     ∙ tabulate-same 256 (λ v h. ap byteOf (rw samples (getD-tabulate 256 _ v nan h))))

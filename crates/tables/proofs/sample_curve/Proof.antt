@@ -12,7 +12,7 @@ use Rattle.points.specs.declared.Knots.{Knots}
 use Rattle.points.specs.Points.{listOf, kept, SortedList}
 use Rattle.points.specs.Knots.{knots, KnotsOf}
 use Rattle.points.specs.Order.{All, Bytes, all-take}
-use Rattle.points.specs.Owned.{length-told, list-length, bytes-told}
+use Rattle.points.specs.Owned.{owned-length, list-length, owned-bytes}
 use Rattle.points.specs.Kept.{kept-is-kept, kept-length}
 use Rattle.points.specs.Shape.{knots-shape, knots-length}
 use Rattle.tables.specs.declared.CurveInterpolation.{CurveInterpolation}
@@ -52,7 +52,7 @@ knot-values-requires c κs =
     let given = n .before .before in
     let few =
     count (given .args .curve) (n .sorted .result) (n .sorted .ensures) (k .knots .ensures)
-    (search (needs, all-take, bytes-told)) (search (needs, length-told)) in
+    (search (needs, all-take, owned-bytes)) (search (needs, owned-length)) in
     (few .0, few .1, refl)
 
 fill-requires : tie.Need-fill-requires
@@ -61,7 +61,7 @@ fill-requires c κs =
     let n = k .before in
     let given = n .before .before in (
       count (given .args .curve) (n .sorted .result) (n .sorted .ensures) (k .knots .ensures)
-          (search (needs, all-take, bytes-told)) (search (needs, length-told)),
+          (search (needs, all-take, owned-bytes)) (search (needs, owned-length)),
       given .pre,
     )
 

@@ -7,7 +7,7 @@ use lib.ListN.{length}
 use borrow.Author.Tests.{le-ltb}
 use mir.Facts.{toZ-ofZ}
 use Rattle.answers.specs.declared.Answer.the-variants.{Done}
-use Rattle.answers.specs.Numbers.{numberOf, told-refused, told-done}
+use Rattle.answers.specs.Numbers.{numberOf, asked-refused, asked-done}
 use Rattle.answers.specs.Checks.{firstRefusal, first-stops, first-goes-on}
 use Rattle.tables.specs.Tables.{lengthCheck}
 use Rattle.points.specs.CheckLaws.{few-points}
@@ -18,12 +18,12 @@ use Rattle.tone_c.proofs.tone_fine_table.Tie as tie
 
 accepted : (c : tie.Else1) → let A = c .before .before .before .before .before .args in
     firstRefusal (givenChecks (A .points .now) (A .kind)) ≡ Done
-accepted c = sym (c .before .before .check .ensures) ∙ told-done _ (c .before .is-done .ensures) (c .if1 .left)
+accepted c = sym (c .before .before .check .ensures) ∙ asked-done _ (c .before .is-done .ensures) (c .if1 .left)
 
 returns : tie.Need-returns
 returns c =
     let k = c .before .before in
-    let no = told-refused (k .before .check .result) (k .is-done .ensures) (c .before .if1 .taken) in
+    let no = asked-refused (k .before .check .result) (k .is-done .ensures) (c .before .if1 .taken) in
     let A = k .before .before .before .before .args in
     record {
       number = c .number .ensures

@@ -8,7 +8,7 @@ use mathlib.Core.List.{List, [], _∷_, _++_}
 use borrow.Author.Tests.{eqb-false, ne-eqb}
 use Rattle.answers.specs.declared.Answer.{Answer}
 use Rattle.answers.specs.declared.Answer.the-variants.{Done}
-use Rattle.answers.specs.Numbers.{numberOf, isDone, told-refused, told-done, number-unique}
+use Rattle.answers.specs.Numbers.{numberOf, isDone, asked-refused, asked-done, number-unique}
 use Rattle.answers.specs.Checks.{Check, firstRefusal, first-then, first-stops, first-goes-on}
 use Rattle.sets.specs.Sets.{curveChecks, setChecks, setAnswer}
 use Rattle.records.specs.declared.RecordRead.{RecordRead}
@@ -79,7 +79,7 @@ returns : tie.Need-returns
 returns c =
     let k = c .before .before in
     refused _ (answered (k .before))
-    (told-refused (k .before .first-of .result) (k .is-done .ensures) (c .before .if1 .taken))
+    (asked-refused (k .before .first-of .result) (k .is-done .ensures) (c .before .if1 .taken))
     (c .number .ensures)
 
 returns-2 : tie.Need-returns-2
@@ -88,7 +88,7 @@ returns-2 c =
     let p = t .before .before .before .before in
     let k = p .before .before in
     let read = k .before .before .before .before .read-record .ensures in
-    let passed = sym (answered (k .before .before)) ∙ told-done _ (k .before .is-done .ensures) (k .if1 .left) in
+    let passed = sym (answered (k .before .before)) ∙ asked-done _ (k .before .is-done .ensures) (k .if1 .left) in
     called _ passed read (rw (p .format-of .ensures) at (t .apply-pixels .ensures)) (c .number2 .ensures)
 
 pub tone-picture-spec : {M : Type 1} → statement M

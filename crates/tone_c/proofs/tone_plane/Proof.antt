@@ -3,7 +3,7 @@ use native.Mathlib.Omega.{arith}
 use mathlib.Core.Path.{sym, ap, _∙_}
 use mathlib.Core.List.{[], _∷_}
 use lib.ListN.{length}
-use Rattle.answers.specs.Numbers.{numberOf, told-refused, told-done}
+use Rattle.answers.specs.Numbers.{numberOf, asked-refused, asked-done}
 use Rattle.answers.specs.Checks.{first-stops, first-goes-on}
 use Rattle.formats.specs.Formats.{formatOf}
 use Rattle.formats.specs.Checks.{lutChecks, lutAnswer}
@@ -14,7 +14,7 @@ use Rattle.tone_c.proofs.tone_plane.Tie as tie
 returns : tie.Need-returns
 returns c =
     let k = c .before .before in
-    let no = told-refused (k .before .format-answer .result) (k .is-done .ensures) (c .before .if1 .taken) in
+    let no = asked-refused (k .before .format-answer .result) (k .is-done .ensures) (c .before .if1 .taken) in
     let A = k .before .before .before .args in
     record {
       number =
@@ -35,7 +35,7 @@ returns-2 c =
     let A = k .before .before .before .before .args in
     let checks = lutChecks (formatOf (A .format)) (A .width) (A .height) (A .step) (length (A .plane .now)) in
     let passed =
-    sym (k .before .before .format-answer .ensures) ∙ told-done _ (k .before .is-done .ensures) (k .if1 .left) in
+    sym (k .before .before .format-answer .ensures) ∙ asked-done _ (k .before .is-done .ensures) (k .if1 .left) in
     let call = rw (p .format-of .ensures) at (t .apply-tone-lut .ensures) in
     record {
       number =

@@ -7,7 +7,7 @@ use mathlib.Core.Bool.{cond}
 use mathlib.Core.List.{List, [], _∷_, _++_}
 use lib.Dec.{ltb}
 use lib.ListN.{length, drop}
-use Rattle.answers.specs.Numbers.{numberOf, isDone, told-refused, told-done}
+use Rattle.answers.specs.Numbers.{numberOf, isDone, asked-refused, asked-done}
 use Rattle.answers.specs.Checks.{firstRefusal, roomCheck, first-stops, first-goes-on}
 use Rattle.lists.specs.Test.{by-test}
 use Rattle.sets.specs.Sets.{View}
@@ -54,7 +54,7 @@ copied c =
 returns : tie.Need-returns
 returns c =
     let k = c .before .before in
-    let no = told-refused (k .before .read-record .result .answer) (k .is-done .ensures) (c .before .if1 .taken) in
+    let no = asked-refused (k .before .read-record .result .answer) (k .is-done .ensures) (c .before .if1 .taken) in
     record {
       number = c .number .ensures
           ∙ ap numberOf
@@ -73,7 +73,7 @@ copied-number c =
     let A = k .before .before .before .before .before .args in
     let passed =
     sym (k .before .before .read-record .ensures .answer ∙ read-answer _)
-    ∙ told-done _ (k .before .is-done .ensures) (k .if1 .left) in
+    ∙ asked-done _ (k .before .is-done .ensures) (k .if1 .left) in
     first-goes-on (recordChecks (A .«record» .now))
     (roomCheck (length (copyOf (A .«record» .now))) (length (A .out .now)) ∷ [])
     passed (copied c .answer-is)
@@ -82,7 +82,7 @@ returns-2 : tie.Need-returns-2
 returns-2 c =
     let d = c .before .before in
     let w = d .before .before .before in
-    let no = told-refused (w .write-record .result .answer) (d .is-done2 .ensures) (c .before .if2 .taken) in
+    let no = asked-refused (w .write-record .result .answer) (d .is-done2 .ensures) (c .before .if2 .taken) in
     record {
       number = c .number2 .ensures ∙ ap numberOf (copied-number w);
       out = rw (c .number2 .ensures) (copied w .buffer-is);
@@ -93,7 +93,7 @@ returns-3 : tie.Need-returns-3
 returns-3 c =
     let d = c .before .before in
     let w = d .before .before .before in
-    let yes = told-done (w .write-record .result .answer) (d .is-done2 .ensures) (c .before .if2 .left) in
+    let yes = asked-done (w .write-record .result .answer) (d .is-done2 .ensures) (c .before .if2 .left) in
     record {
       number = c .number3 .ensures ∙ ap numberOf (copied-number w);
       out = rw (c .number3 .ensures) (copied w .buffer-is);

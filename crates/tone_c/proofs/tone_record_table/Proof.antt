@@ -5,7 +5,7 @@ use mathlib.Core.Path.{_≡_, sym, ap, _∙_}
 use mathlib.Core.List.{[], _∷_}
 use borrow.Author.Needs.{needs}
 use lib.ListN.{length}
-use Rattle.answers.specs.Numbers.{numberOf, told-refused, told-done}
+use Rattle.answers.specs.Numbers.{numberOf, asked-refused, asked-done}
 use Rattle.answers.specs.Checks.{firstRefusal, roomCheck, first-then, done-append, has-room}
 use Rattle.tables.specs.Tables.{byteTable}
 use Rattle.tables.specs.TableLaws.{table-of-few}
@@ -33,7 +33,7 @@ returns c =
       number = c .number .ensures ∙ ap numberOf (answered (k .before));
       table = rw (
         c .number .ensures,
-        told-refused (k .before .first-of .result) (k .is-done .ensures) (c .before .if1 .taken),
+        asked-refused (k .before .first-of .result) (k .is-done .ensures) (c .before .if1 .taken),
       );
     }
 
@@ -41,7 +41,7 @@ copy-bytes-requires : tie.Need-copy-bytes-requires
 copy-bytes-requires c κs =
     let long : length (c .before .before .byte-table .result) ≡ 256 = search needs in
     let k = c .before .before .before .before in
-    let done = sym (answered (k .before .before)) ∙ told-done _ (k .before .is-done .ensures) (k .if1 .left) in
+    let done = sym (answered (k .before .before)) ∙ asked-done _ (k .before .is-done .ensures) (k .if1 .left) in
     let A = k .before .before .before .before .before .before .before .args in
     rw long
     (has-room 256 _
@@ -61,7 +61,7 @@ returns-2 c =
       table =
           rw (
             c .number2 .ensures,
-            told-done (k .before .before .first-of .result) (k .before .is-done .ensures) (k .if1 .left),
+            asked-done (k .before .before .first-of .result) (k .before .is-done .ensures) (k .if1 .left),
           )
           (rw (long, b .byte-table .ensures ∙ few ∙ master) at (t .copy-bytes .ensures));
     }

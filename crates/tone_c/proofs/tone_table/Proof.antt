@@ -6,7 +6,7 @@ use borrow.Author.Needs.{needs}
 use lib.ListN.{length}
 use mir.Facts.{toZ-ofZ}
 use Rattle.answers.specs.declared.Answer.the-variants.{Done}
-use Rattle.answers.specs.Numbers.{numberOf, told-refused, told-done}
+use Rattle.answers.specs.Numbers.{numberOf, asked-refused, asked-done}
 use Rattle.answers.specs.Checks.{firstRefusal, roomCheck, first-then, done-append, has-room}
 use Rattle.tables.specs.TableLaws.{table-of-few}
 use Rattle.points.specs.CheckLaws.{few-points}
@@ -31,7 +31,7 @@ accepted : (c : tie.Else1)
 accepted c =
     let A = c .before .before .before .before .before .before .before .args in
     done-append (givenChecks (A .points .now) (A .kind)) (roomCheck 256 (length (A .table .now)) ∷ [])
-    (sym (answered (c .before .before)) ∙ told-done _ (c .before .is-done .ensures) (c .if1 .left))
+    (sym (answered (c .before .before)) ∙ asked-done _ (c .before .is-done .ensures) (c .if1 .left))
 
 returns : tie.Need-returns
 returns c =
@@ -40,7 +40,7 @@ returns c =
       number = c .number .ensures ∙ ap numberOf (answered (k .before));
       table = rw (
         c .number .ensures,
-        told-refused (k .before .first-of .result) (k .is-done .ensures) (c .before .if1 .taken),
+        asked-refused (k .before .first-of .result) (k .is-done .ensures) (c .before .if1 .taken),
       );
     }
 
@@ -69,7 +69,7 @@ returns-2 c =
       table =
           rw (
             c .number2 .ensures,
-            told-done (k .before .before .first-of .result) (k .before .is-done .ensures) (k .if1 .left),
+            asked-done (k .before .before .first-of .result) (k .before .is-done .ensures) (k .if1 .left),
           )
           (rw (
             long,

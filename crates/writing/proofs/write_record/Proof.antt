@@ -4,9 +4,9 @@ use mathlib.Core.Path.{_≡_, sym, _∙_}
 use Prim.Native.Nat.{_≤_}
 use lib.ListN.{length}
 use Rattle.answers.specs.declared.Answer.the-variants.{Done}
-use Rattle.answers.specs.Numbers.{told-refused, told-done}
+use Rattle.answers.specs.Numbers.{asked-refused, asked-done}
 use Rattle.answers.specs.Checks.{has-room}
-use Rattle.points.specs.Owned.{length-told}
+use Rattle.points.specs.Owned.{owned-length}
 use Rattle.sets.specs.Sets.{setAnswer}
 use Rattle.sets.specs.SameLaws.{Full}
 use Rattle.writing.proofs.Laws.{lists-refused, room-refused, wrote-done}
@@ -16,24 +16,24 @@ use Rattle.writing.proofs.write_record.Tie as tie
 returns : tie.Need-returns
 returns c =
     let k = c .before .before in
-    lists-refused (k .check .ensures) (told-refused (k .check .result) (c .before .is-done .ensures) (c .if1 .taken))
+    lists-refused (k .check .ensures) (asked-refused (k .check .result) (c .before .is-done .ensures) (c .if1 .taken))
 
 -- the lists have passed
 passed : (c : tie.Else1) → setAnswer (c .before .before .before .before .args .set) ≡ Done
 passed c =
     sym (c .before .before .check .ensures)
-    ∙ told-done (c .before .before .check .result) (c .before .is-done .ensures) (c .if1 .left)
+    ∙ asked-done (c .before .before .check .result) (c .before .is-done .ensures) (c .if1 .left)
 
 returns-2 : tie.Need-returns-2
 returns-2 c =
     let r = c .before .before in
     room-refused (passed (r .before .before)) (r .before .record-of .ensures .0) (r .room-for .ensures)
-    (told-refused (r .room-for .result) (c .before .is-done2 .ensures) (c .if2 .taken))
+    (asked-refused (r .room-for .result) (c .before .is-done2 .ensures) (c .if2 .taken))
 
 -- there is room
 module _ (c : tie.Else2) where
   accepted : c .before .before .room-for .result ≡ Done
-  accepted = told-done (c .before .before .room-for .result) (c .before .is-done2 .ensures) (c .if2 .left)
+  accepted = asked-done (c .before .before .room-for .result) (c .before .is-done2 .ensures) (c .if2 .left)
 
   fits : let k = c .before .before .before in
       k .record-of .result .length ≤ length (k .before .before .before .before .before .args .buffer .now)
@@ -50,10 +50,10 @@ returns-3 c =
     let a = k .before .before .before .before .args in
     let own = k .before .before .before .before .good .0 .1 .1 in
     let full : Full (a .set) = record {
-      master = search (own .0, length-told);
-      red = search (own .1 .0 .1 .1 .1 .0, length-told);
-      green = search (own .1 .1 .0 .1 .1 .1 .0, length-told);
-      blue = search (own .1 .1 .1 .0 .1 .1 .1 .0, length-told);
+      master = search (own .0, owned-length);
+      red = search (own .1 .0 .1 .1 .1 .0, owned-length);
+      green = search (own .1 .1 .0 .1 .1 .1 .0, owned-length);
+      blue = search (own .1 .1 .1 .0 .1 .1 .1 .0, owned-length);
     } in
     wrote-done (passed k) (r .record-of .ensures .0) (accepted e) (fits e)
     (c .before .before .copy-out .ensures)

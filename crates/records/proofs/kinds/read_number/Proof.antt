@@ -4,7 +4,7 @@ use mathlib.Core.List.{[], _∷_}
 use native.Mathlib.Omega.{arith}
 use lib.ListN.{drop-of-length-le}
 use lib.ListN.{getD}
-use Rattle.answers.specs.Numbers.{told-refused, told-done}
+use Rattle.answers.specs.Numbers.{asked-refused, asked-done}
 use Rattle.records.specs.Kinds.{kindCheck, readNumber}
 use Rattle.records.specs.CheckLaws.{checked-stops, checked-goes-on}
 use Rattle.records.proofs.Lists.{drop-at}
@@ -24,7 +24,7 @@ returns-2 c =
     let k = c .before .before .before in
     let b = k .before .before .before in
     let a = b .before .before .args in
-    let refusal = told-refused (k .check-kind .result) (c .before .before .is-done .ensures) (c .before .if3 .taken) in
+    let refusal = asked-refused (k .check-kind .result) (c .before .before .is-done .ensures) (c .before .if3 .taken) in
     rw (c .no-number2 .ensures, refusal, b .if1 .taken, drop-at (a .s .now) (a .at) (omega arith))
     (sym (checked-stops _ (kindCheck (getD (a .s .now) (a .at) 0) ∷ []) [] (k .check-kind .ensures) refusal))
 
@@ -36,7 +36,7 @@ returns-3 c =
     let a = b .before .before .args in
     rw (b .if1 .taken, drop-at (a .s .now) (a .at) (omega arith))
     (sym (checked-goes-on _ (kindCheck (getD (a .s .now) (a .at) 0) ∷ []) []
-    (sym (k .check-kind .ensures) ∙ told-done _ (c .before .is-done .ensures) (c .if3 .left))))
+    (sym (k .check-kind .ensures) ∙ asked-done _ (c .before .is-done .ensures) (c .if3 .left))))
 
 returns-4 : tie.Need-returns-4
 unfolding readNumber

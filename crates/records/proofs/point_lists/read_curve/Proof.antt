@@ -10,7 +10,7 @@ use lib.ListN.{length, drop, length-drop, drop-of-length-le}
 use lib.Seq.{drop-drop}
 use Rattle.lists.specs.Test.{by-test}
 use Rattle.answers.specs.declared.Answer.the-variants.{Done, PointCount, PointsNotRising}
-use Rattle.answers.specs.Numbers.{told-refused, told-done}
+use Rattle.answers.specs.Numbers.{asked-refused, asked-done}
 use Rattle.answers.specs.Checks.{_when_, firstRefusal}
 use Rattle.points.specs.CheckLaws.{few-points}
 use Rattle.points.specs.Points.{limit, listOf}
@@ -37,7 +37,7 @@ returns-2 c =
     let w = k .before .wide in
     let a = k .before .before .before .before .before .args in
     let refusal =
-    told-refused (k .check-stored-count .result) (c .before .before .is-done .ensures) (c .before .if2 .taken) in
+    asked-refused (k .check-stored-count .result) (c .before .before .is-done .ensures) (c .before .if2 .taken) in
     record {
       list =
           rw (c .no-curve2 .ensures .0, refusal, drop-at (a .s .now) (a .at) (omega arith), ← w .ensures .0)
@@ -53,7 +53,7 @@ passed : (c : tie.Else2) →
     firstRefusal (countChecks (w .before .before .before .before .args .least) (w .wide .result)) ≡ Done
 passed c =
     sym (c .before .before .check-stored-count .ensures)
-    ∙ told-done _ (c .before .is-done .ensures) (c .if2 .left)
+    ∙ asked-done _ (c .before .is-done .ensures) (c .if2 .left)
 
 few : (c : tie.Else2) → c .before .before .before .wide .result ≤ limit
 few c =

@@ -7,7 +7,7 @@ use mathlib.Core.List.{[], _∷_}
 use lib.ListN.{length}
 use lib.Seq.{length-take-le}
 use Rattle.points.specs.Points.{listOf}
-use Rattle.points.specs.Owned.{length-told}
+use Rattle.points.specs.Owned.{owned-length}
 use Rattle.sets.specs.Sets.{channelOf, curveAnswer, channelAnswer}
 use Rattle.sets.specs.Legal.{passed-count}
 use Rattle.writing.specs.Encode.{pairBytes, fieldBytes}
@@ -33,7 +33,7 @@ module _ (c : tie.Then1) where
       m .curve .count ∷ pairBytes (listOf (m .curve)) ≡ fieldBytes (channelOf m)
   bytes =
       let m = c .before .args .channel .curve in
-      let long : length (m .points) ≡ 64 = search (needs, length-told) in
+      let long : length (m .points) ≡ 64 = search (needs, owned-length) in
       rw (c .if1 .taken, length-take-le (m .count) (m .points) (omega (arith, few)))
 
   room : let s = c .before .args in

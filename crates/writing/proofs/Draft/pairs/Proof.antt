@@ -6,7 +6,7 @@ use borrow.Author.Needs.{needs}
 use lib.ListN.{length, take, length-set}
 use lib.Seq.{take-length, length-take-le, getD-take}
 use Rattle.points.specs.Points.{listOf, pt}
-use Rattle.points.specs.Owned.{length-told}
+use Rattle.points.specs.Owned.{owned-length}
 use Rattle.writing.specs.Encode.{pairBytes}
 use Rattle.writing.specs.Contracts.{Appended}
 use Rattle.records.specs.Format.{longest}
@@ -26,7 +26,7 @@ abbrev μ-loop : tie.MeasureT-loop
 -- the list has as many points as its count
 listed : (s : tie.Start Inv-loop μ-loop) → length (listOf (s .args .t2)) ≡ s .args .t2 .count
 listed s =
-    let long : length (s .args .t2 .points) ≡ 64 = search (needs, length-told) in
+    let long : length (s .args .t2 .points) ≡ 64 = search (needs, owned-length) in
     length-take-le (s .args .t2 .count) (s .args .t2 .points) (omega arith)
 
 loop-holds : tie.Need-loop-holds Inv-loop μ-loop
