@@ -1,5 +1,5 @@
 -- What the square root of a float is: the root of a positive float by squares, its sign, special
--- values, and that its binade is said.
+-- values, and a float just below a power of four, where `Rooted` needs the binade.
 use mathlib.Core.Path.{_≡_, refl, sym, ap, _∙_, subst}
 use mathlib.Core.Bool.{Bool, true, false, cond}
 use Prim.Native.Nat.{ℕ, zero, suc, _+_, _-_, _*_, _/_, _^_, _≤_, _<_}
@@ -121,7 +121,7 @@ pub root-of-negative : (m : ℕ) (e : ℤ) → rootOf (fin true (suc m) e) ≡ n
 unfolding rootOf
 root-of-negative m e = refl
 
--- ---- the binade
+-- ---- why `Rooted` has the binade
 -- the float just below 1 is its own root; 1 is not, though it is half of its own, wider, step
 -- away
 abbrev pub below-one : Float
