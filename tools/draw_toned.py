@@ -11,7 +11,8 @@ import zlib
 
 ROOT = pathlib.Path(__file__).resolve().parent.parent
 WIDTH, HEIGHT, GAP = 480, 320, 16
-# A record with master and blue, of the default kind: shadows go up, blue a little less.
+# A record with master and blue. It has no bit 7 and names no kind, so it is of kind 2,
+# MonotoneCubic: shadows go up, blue a little less.
 MASTER = [(0, 0), (24, 64), (64, 150), (160, 220), (255, 255)]
 BLUE = [(0, 6), (24, 58), (64, 136), (160, 206), (255, 246)]
 RECORD = bytes([0x09, len(MASTER), *sum(MASTER, ()), len(BLUE), *sum(BLUE, ())])

@@ -1,10 +1,11 @@
 #!/usr/bin/env python3
-"""A second reading of document 01's "Stored record" and "When a call says no", and the lists of
-records that hold the engine to it.
+"""A second reading of document 01's "Stored record" and "When a call says no", as document 02's U1
+changes them, and the lists of records that hold the engine to it.
 
-The model was written from document 01 alone, without a look at the engine's code: `read` and
-`write` below follow the paper's sentences, which stand beside them. From it come the two files of
-the test program crates/replay_records:
+The model of document 01 was written from that paper alone, without a look at the engine's code, and
+U1 was added to it: `read` and `write` below follow the papers' sentences, which stand beside them,
+and share no code with the engine. From it come the two files of the test program
+crates/replay_records:
 
   stdin   the stored list: for each record its length in two bytes, low byte first, then its bytes
   stdout  what the program must print, a line for each record of the list and one for each map byte
@@ -13,7 +14,8 @@ the test program crates/replay_records:
 A record's line is its number in the list and its text (`text`). A walk's line has the text of the
 record that is the map byte alone, how often each answer 0 to 7 comes among the 256 records of two
 bytes, and a digest of their texts, so that the set and the written record of each are compared too.
-The program reads each written record again and marks it if that is not the same set.
+"Refusal 1 therefore never occurs any more": its count is 0. The program reads each written record
+again and marks it if that is not the same set.
 
   python3 tools/record_model.py            writes both files anew, the same on every machine
   python3 tools/record_model.py --check    says whether they are as the model has them
@@ -24,7 +26,15 @@ from pathlib import Path
 
 LIMIT = 64
 CARDINAL, CLAMPED, KINDS = 7, 8, 10
-DEFAULT = 2
+
+# "MonotoneCubicBox (3) as the default for new sets"; "Elsewhere the default kind is 3, also in the
+# set handed back with a refused record."
+DEFAULT = 3
+
+# The kind of a record without bit 4, by its bit 7: "Records in the racks without bit 4 relied on
+# kind 2 and must still show kind 2. From now on bit 7 says "new default": with it, a missing kind
+# means 3." A stored record keeps what it means, whatever becomes of DEFAULT.
+UNNAMED = {False: 2, True: 3}
 
 
 class Set:
@@ -85,12 +95,8 @@ def signed(low, high):
 def fields(record):
     (bits,) = record.take(1)
     stands = [bits >> i & 1 == 1 for i in range(8)]
-    # "1. Bit 7 of a record's map stands."
-    if stands[7]:
-        raise Refused(1)
-    # "Bit 0 off: empty master; 1 to 3 off: absent colour, a count of 0 being an empty one; 4 off:
-    # default kind."
-    result = Set()
+    # "Bit 0 off: empty master; 1 to 3 off: absent colour, a count of 0 being an empty one"
+    result = Set(kind=UNNAMED[stands[7]])
     if stands[0]:
         result.master = read_list(record, True)
     for i in range(3):
@@ -150,17 +156,17 @@ def record_of(bits_and_fields):
 
 
 def parts(s):
-    """The fields that the writer gives a set: no empty master, no absent colour, and "the kind left
-    out when it is the default".
+    """The fields that the writer gives a set, each with its bit: no empty master, no absent colour,
+    and "The writer sets bit 7 always and leaves the kind out when it is 3." Bit 7 has no field.
     """
     found = [(0, list_field(s.master))] if s.master else []
     found += [
         (1 + i, list_field(colour)) for i, colour in enumerate(s.colours) if colour is not None
     ]
-    found += [(4, [s.kind])] if s.kind != DEFAULT else []
+    found += [(4, [s.kind])] if s.kind != UNNAMED[True] else []
     found += [(5, carried_field(s.kind, s.carried))] if s.kind == CARDINAL else []
     found += [(6, carried_field(s.kind, s.carried))] if s.kind == CLAMPED else []
-    return found
+    return found + [(7, [])]
 
 
 def write(s):
@@ -242,6 +248,46 @@ class Chance:
         ]
 
 
+# Cases worked out by hand: a record, its answer, the set's kind, and the record that the present
+# writer makes of the set. Among them document 01's P10, with a byte more too, and P11, which
+# "becomes an accepted empty set".
+CASES = [
+    ("", 2, 3, None),
+    ("00", 0, 2, "90 02"),
+    ("80", 0, 3, "80"),
+    ("82 00", 0, 3, "82 00"),
+    ("90 02", 0, 2, "90 02"),
+    ("90 03", 0, 3, "80"),
+    ("10 02", 0, 2, "90 02"),
+    ("10 03", 0, 3, "80"),
+    ("A0", 6, 3, None),
+    ("90", 2, 3, None),
+    ("90 0A", 5, 3, None),
+    ("B0 07 FF", 0, 7, "B0 07 FF"),
+    ("F0 07 00", 6, 3, None),
+    ("80 00", 7, 3, None),
+    ("81", 2, 3, None),
+    ("FF 00", 3, 3, None),
+    ("D0 08 00 80 FF 7F", 0, 8, "D0 08 00 80 FF 7F"),
+    ("11 02 00 00 FF FF 00", 0, 0, "91 02 00 00 FF FF 00"),
+    ("11 02 00 00 FF FF 00 00", 7, 3, None),
+    ("91 02 00 00 FF FF 00", 0, 0, "91 02 00 00 FF FF 00"),
+    ("01 01 00 07", 0, 2, "91 01 00 07 02"),
+    ("81 01 00 07", 0, 3, "81 01 00 07"),
+    # the input of `tonetable`
+    ("11 01 00 07 00", 0, 0, "91 01 00 07 00"),
+]
+
+
+def cases():
+    for given, answer, kind, written in CASES:
+        record = list(bytes.fromhex(given))
+        number, s = read(record)
+        assert (number, s.kind) == (answer, kind), given
+        assert answer or write(s) == list(bytes.fromhex(written)), given
+        yield record
+
+
 STRAIGHT = [(0, 0), (255, 255)]
 EDGE_SLOPES = [-32768, -32767, -257, -256, -255, -1, 0, 1, 127, 128, 255, 256, 257, 32767]
 EDGE_TENSIONS = [0, 1, 127, 128, 254, 255]
@@ -276,6 +322,16 @@ def good_sets(chance):
         yield Set(STRAIGHT, kind=CLAMPED, carried=[slope, EDGE_SLOPES[i - 3]])
 
 
+def good_records(s):
+    """A set's record that names its kind; of the kinds that a record may leave out, 2 and 3, the
+    same without it too.
+    """
+    others = [part for part in parts(s) if part[0] != 4]
+    yield record_of(others + [(4, [s.kind])])
+    if s.kind in UNNAMED.values():
+        yield record_of(others)
+
+
 def damaged_lists(chance):
     """A list's bit, and lists that are refused with 3 or 4, or end too soon when the list is the
     last field.
@@ -299,16 +355,13 @@ def damaged_lists(chance):
 
 
 def damaged(chance, good):
-    # the examples P10, with a byte more, and P11; the input of `tonetable`
-    yield [0x11, 2, 0, 0, 255, 255, 0]
-    yield [0x11, 2, 0, 0, 255, 255, 0, 0]
-    yield [0x80]
-    yield [0x11, 1, 0, 7, 0]
-    # an explicit default kind byte is accepted, and left out by the writer
+    # the kinds that a record may leave out: named; with a byte more; the kind byte without bit 4
     for s in good[:: len(good) // 12]:
-        plain = [part for part in parts(s) if part[0] < 4]
-        yield record_of(plain + [(4, [DEFAULT])])
-        yield record_of(plain + [(4, [DEFAULT])]) + [DEFAULT]
+        lists = [part for part in parts(s) if part[0] < 4]
+        for kind in UNNAMED.values():
+            yield record_of(lists + [(4, [kind])])
+            yield record_of(lists + [(4, [kind])]) + [kind]
+            yield record_of(lists) + [kind]
     # 2 at every place: records with all fields, each with tension or slopes or neither
     for kind in (0, CARDINAL, CLAMPED):
         whole = write(
@@ -321,10 +374,9 @@ def damaged(chance, good):
         )
         for n in range(len(whole) + 1):
             yield whole[:n]
-    # 1 before everything else
-    for record in [[], [0], [65], [1, 0, 0], [2, 5, 0, 5, 0]] + [write(s)[1:] for s in good[::12]]:
-        yield [0x80 | chance.below(128)] + record
-        yield [0x80] + record
+    # any map before good fields
+    for s in good[::12]:
+        yield [chance.below(256)] + write(s)[1:]
     # 3 and 4 in each list: as the last field; with good fields before; with a kind byte behind that
     # would be 5
     for bit, field in damaged_lists(chance):
@@ -375,16 +427,28 @@ def damaged(chance, good):
         yield record[:at] + change + record[at + 1 :]
 
 
+def in_both_ways(records):
+    """Each record, and the same with its bit 7 turned: so kinds are named and left out, with bit 7
+    and without it, and each refusal comes beside bit 7 as it comes without it.
+    """
+    for record in records:
+        yield record
+        if record:
+            yield [record[0] ^ 0x80] + record[1:]
+
+
 def stored_list():
     chance = Chance(20240801)
     good = list(good_sets(chance))
-    return [write(s) for s in good] + list(damaged(chance, good))
+    whole = [record for s in good for record in good_records(s)]
+    return list(cases()) + list(in_both_ways(whole + list(damaged(chance, good))))
 
 
 def main():
     records = stored_list()
     answers = [read(record)[0] for record in records]
-    assert len(records) >= 300 and all(answers.count(n) >= 20 for n in range(8)), answers
+    assert len(records) >= 300 and 1 not in answers, answers
+    assert all(answers.count(n) >= 20 for n in range(8) if n != 1), answers
     lines = ["%d: %s" % (i, text(record)) for i, record in enumerate(records)] + list(walk())
     folder = Path(__file__).resolve().parent.parent / "crates" / "replay_records"
     files = {

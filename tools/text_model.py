@@ -1,9 +1,11 @@
 #!/usr/bin/env python3
 """A second reading of document 01's program `tonetable`, and the inputs that hold its texts to it.
 
-The record is read by record_model.py. The table follows document 01's "Points", "Arithmetic" and
-"Kinds and tables", for the two kinds that the inputs use: Linear, and ClampedCubic, without which
-there is no longest record; its system of equations is that of source document 000. From it come
+The record is read by record_model.py, which knows document 02's U1. The table follows document 01's
+"Points", "Arithmetic" and "Kinds and tables", for the kinds that the inputs use: Linear;
+MonotoneCubic and MonotoneCubicBox, which are meant where a record names none; and ClampedCubic,
+without which there is no longest record. h00 to h11 and the splines' equations are those of source
+document 000. From it come
 
   crates/tonetable/stdin, stdout      the longest record with a byte behind it, and its text
   crates/replay_text/stdin, stdout    a list of inputs, each with its length in two bytes in front,
@@ -19,16 +21,16 @@ import sys
 from pathlib import Path
 
 sys.dont_write_bytecode = True
-from record_model import CLAMPED, LIMIT, Chance, Set, read, write
+from record_model import CLAMPED, LIMIT, UNNAMED, Chance, Set, list_field, read, record_of, write
 
-LINEAR = 0
+LINEAR, MONOTONE, BOX = 0, 2, 3
 
 
 # ---- arithmetic -------------------------------------------------------------------------------
 
 
 # "Each operation rounds once to single precision": Python's floats have more than twice the digits,
-# so that rounding its sums, products and quotients once more gives the right float.
+# so that rounding its sums, products, quotients and roots once more gives the right float.
 def single(value):
     return struct.unpack("<f", struct.pack("<f", value))[0]
 
@@ -51,13 +53,17 @@ class Single:
     def __truediv__(self, other):
         return Single(self.value / other.value)
 
+    # "Square root is the correctly rounded one of IEEE 754"
+    def root(self):
+        return Single(math.sqrt(self.value))
+
     # "Clamp to 0..255"; "To a byte: nearest whole number, a half away from zero". The sum is one of
     # Python's floats and exact, so that the float just below 0.5 stays below 1.
     def byte(self):
         return math.floor(min(max(self.value, 0.0), 255.0) + 0.5)
 
 
-ZERO, ONE, TWO, SIX = map(Single, (0, 1, 2, 6))
+ZERO, HALF, ONE, TWO, THREE, SIX = map(Single, (0, 0.5, 1, 2, 3, 6))
 
 
 # ---- tables -----------------------------------------------------------------------------------
@@ -83,11 +89,62 @@ def segments(line):
         yield segment, Single(v)
 
 
+def widths(line):
+    return [b[0] - a[0] for a, b in zip(line, line[1:])]
+
+
+def secants(line):
+    return [(b[1] - a[1]) / (b[0] - a[0]) for a, b in zip(line, line[1:])]
+
+
 # "Linear: y0 + (y1 − y0) × t", "t = (x − x0) / h"
 def linear(line):
     for i, x in segments(line):
         (x0, y0), (x1, y1) = line[i], line[i + 1]
         yield y0 + (y1 - y0) * ((x - x0) / (x1 - x0))
+
+
+# "a negative one sets its tangent 0"; "The Box kind caps each at 3 secants."
+def held(kind, tangent, over, secant):
+    if over.value < 0:
+        return ZERO
+    return THREE * secant if kind == BOX and over.value > 3 else tangent
+
+
+# "A secant below 1e-9 in size sets both tangents 0. Else a, b are tangents over the secant";
+# "if a × a + b × b > 9, both become 3 / root × a (or b) × secant, from the a and b before that
+# zeroing"
+def both_held(kind, left, right, secant):
+    if abs(secant.value) < single(1e-9):
+        return ZERO, ZERO
+    a, b = left / secant, right / secant
+    square = a * a + b * b
+    if kind == MONOTONE and square.value > 9:
+        scale = THREE / square.root()
+        return scale * a * secant, scale * b * secant
+    return held(kind, left, a, secant), held(kind, right, b, secant)
+
+
+# "secants; mean of neighbours, one-sided at the ends; then segment by segment from the left"
+def tangents(kind, line):
+    rise = secants(line)
+    found = [rise[0]] + [HALF * (a + b) for a, b in zip(rise, rise[1:])] + [rise[-1]]
+    for i, secant in enumerate(rise):
+        found[i], found[i + 1] = both_held(kind, found[i], found[i + 1], secant)
+    return found
+
+
+# "the file's h00, h10, h01, h11 with tangents m"
+def hermite(line, m):
+    h = widths(line)
+    for i, x in segments(line):
+        t = (x - line[i][0]) / h[i]
+        h00 = (ONE + TWO * t) * (ONE - t) * (ONE - t)
+        h10 = t * (ONE - t) * (ONE - t)
+        h01 = t * t * (THREE - TWO * t)
+        h11 = t * t * (t - ONE)
+        y0, y1 = line[i][1], line[i + 1][1]
+        yield h00 * y0 + h10 * h[i] * m[i] + h01 * y1 + h11 * h[i] * m[i + 1]
 
 
 # "second derivatives by the Thomas solve, whose pivot below 1e-12 in size uses inverse 0"
@@ -107,8 +164,7 @@ def solve(below, middle, above, right):
 # "ClampedCubic carries two slopes, signed 16-bit, each divided by 256"
 def clamped(line, slopes):
     start, end = (Single(slope) / Single(256) for slope in slopes)
-    h = [b[0] - a[0] for a, b in zip(line, line[1:])]
-    rise = [(b[1] - a[1]) / w for a, b, w in zip(line, line[1:], h)]
+    h, rise = widths(line), secants(line)
     both = [ZERO] + h, h + [ZERO]
     middle = [TWO * h[0]] + [TWO * (a + b) for a, b in zip(h, h[1:])] + [TWO * h[-1]]
     right = [SIX * (b - a) for a, b in zip([start] + rise, rise + [end])]
@@ -125,6 +181,8 @@ def table(s):
     line = knots(s.master)
     if s.kind == LINEAR:
         return [y.byte() for y in linear(line)]
+    if s.kind in (MONOTONE, BOX):
+        return [y.byte() for y in hermite(line, tangents(s.kind, line))]
     assert s.kind == CLAMPED, "no model of kind %d" % s.kind
     return [y.byte() for y in clamped(line, s.carried)]
 
@@ -150,20 +208,42 @@ def longest(chance):
     return write(Set(lists[0], lists[1:], CLAMPED, [-300, 700]))
 
 
+# 16 lines of 07: document 01's own; the same point without a kind, which means 2; and with bit 7,
+# when it means 3.
+FLAT = [0x11, 1, 0, 7, 0], [0x01, 1, 0, 7], [0x81, 1, 0, 7]
+
+# Kinds 2 and 3 part here.
+STEEP = [(0, 0), (50, 50), (70, 210), (255, 255)]
+
+
+def of_both_kinds(points):
+    """A list without a kind, without bit 7 and with it; with the kinds that these mean."""
+    master = (0, list_field(points))
+    for bit_7, kind in ([], UNNAMED[False]), ([(7, [])], UNNAMED[True]):
+        yield record_of([master] + bit_7)
+        yield record_of([master, (4, [kind])] + bit_7)
+
+
 def inputs(chance):
-    # document 01's own: 16 lines of 07; P10, with a byte more; P11
-    yield [0x11, 1, 0, 7, 0]
+    # documents 01's and 02's own: 16 lines of 07; P10, with a byte more; P11, an empty set
+    yield from FLAT
     yield [0x11, 2, 0, 0, 255, 255, 0]
     yield [0x11, 2, 0, 0, 255, 255, 0, 0]
     yield [0x80]
+    yield [0]
     # no input
     yield []
-    # 2 to 6
-    yield [1]
-    yield [1, 65]
-    yield [1, 2, 9, 0, 9, 0]
-    yield [0x10, 10]
-    yield [0x20]
+    # 2 to 7, without bit 7 and beside it
+    for bit_7 in (0, 0x80):
+        yield [bit_7 | 1]
+        yield [bit_7 | 1, 65]
+        yield [bit_7 | 1, 2, 9, 0, 9, 0]
+        yield [bit_7 | 0x10, 10]
+        yield [bit_7 | 0x20]
+        yield [bit_7, 0]
+    # what the racks hold, and what is written from now on
+    for points in (STEEP, chance.points(7), chance.points(64)):
+        yield from of_both_kinds(points)
     # the longest record; cut by a byte; with one byte behind it, with many
     record = longest(chance)
     assert len(record) == 522
@@ -187,7 +267,11 @@ def inputs(chance):
 def files():
     chance = Chance(20250301)
     stored = list(inputs(chance))
-    assert {text(record) for record in stored} >= {"refused %d\n" % n for n in range(1, 8)}
+    texts = {text(record) for record in stored}
+    assert texts >= {"refused %d\n" % n for n in range(2, 8)} and "refused 1\n" not in texts
+    assert {text(record) for record in FLAT} == {16 * (" ".join(["07"] * 16) + "\n")}
+    old, old_named, new, new_named = map(text, of_both_kinds(STEEP))
+    assert old == old_named != new == new_named
     behind = longest(Chance(7)) + [1]
     headed = ["%d, bytes: %d\n%s" % (i, len(r), text(r)) for i, r in enumerate(stored)]
     return {

@@ -1,6 +1,7 @@
 -- The numbers of document 01, "When a call says no", one for each answer; and that different
--- answers have different numbers.
+-- answers have different numbers, none of them 1, which document 02 took away.
 use Prim.Native.Nat.{ℕ}
+use native.Mathlib.Omega.{arith}
 use mathlib.Core.Path.{_≡_, refl, sym, ap, _∙_}
 use mathlib.Core.Bool.{Bool, true, false, cond, not}
 use mathlib.Core.List.{List, [], _∷_}
@@ -10,7 +11,6 @@ use borrow.Author.Tests.{eqb-true, eqb-false, not-true, not-false}
 use Rattle.answers.specs.declared.Answer.{Answer}
 use Rattle.answers.specs.declared.Answer.the-variants.{
   Done,
-  ReservedBit,
   RecordTruncated,
   PointCount,
   PointsNotRising,
@@ -28,8 +28,6 @@ use Rattle.answers.specs.declared.Answer.the-variants.{
 
 abbrev pub numberOf : Answer → ℕ
 numberOf Done = 0
--- Bit 7 of a record's map stands.
-numberOf ReservedBit = 1
 -- A record ends before its map or inside a field whose bit stands.
 numberOf RecordTruncated = 2
 -- A count of points is above 64, or a record's master count is 0.
@@ -66,17 +64,16 @@ firstOf a b = cond (isDone a) b a
 
 -- ---- different answers have different numbers
 
--- the answers in the order of their numbers
+-- the answers in the order of their numbers; Done fills the place of 1, which no answer has
 abbrev inOrder : List Answer
 inOrder =
-    Done ∷ ReservedBit ∷ RecordTruncated ∷ PointCount ∷ PointsNotRising ∷ UnknownKind
+    Done ∷ Done ∷ RecordTruncated ∷ PointCount ∷ PointsNotRising ∷ UnknownKind
     ∷ FieldMismatch ∷ TrailingBytes
     ∷ UnsupportedFormat ∷ PictureTooLarge ∷ MissingPlane ∷ RowStep ∷ PlaneTooShort ∷ OutputTooSmall
     ∷ TableLength ∷ []
 
 at-number : (a : Answer) → getD inOrder (numberOf a) Done ≡ a
 at-number Done = refl
-at-number ReservedBit = refl
 at-number RecordTruncated = refl
 at-number PointCount = refl
 at-number PointsNotRising = refl
@@ -93,6 +90,12 @@ at-number TableLength = refl
 
 pub number-unique : (a b : Answer) → numberOf a ≡ numberOf b → a ≡ b
 number-unique a b e = sym (at-number a) ∙ ap (λ n. getD inOrder n Done) e ∙ at-number b
+
+-- "Refusal 1 therefore never occurs any more"
+pub never-one : (a : Answer) → numberOf a ≡ 1 → ⊥
+never-one a e =
+    let done : a ≡ Done = sym (at-number a) ∙ ap (λ n. getD inOrder n Done) e in
+    omega (arith, e, ap numberOf done)
 
 pub done-is : (a : Answer) → isDone a ≡ true → a ≡ Done
 done-is a e = number-unique a Done (eqb-true (numberOf a) 0 e)

@@ -1,4 +1,5 @@
-// The answer of a call: done, or the first refusal of document 01, "When a call says no".
+// The answer of a call: done, or the first refusal of document 01, "When a call says no". Document
+// 02 took the number 1 away.
 ghost use mathlib.Core.Path.{_≡_};
 ghost use mathlib.Core.List.{[], _∷_};
 ghost use Rattle.answers.specs.Numbers.{numberOf, isDone, firstOf};
@@ -6,7 +7,6 @@ ghost use Rattle.answers.specs.Checks.{firstRefusal, roomCheck};
 
 pub enum Answer {
     Done,
-    ReservedBit,
     RecordTruncated,
     PointCount,
     PointsNotRising,
@@ -35,7 +35,6 @@ impl Answer {
     {
         match self {
             Answer::Done => 0,
-            Answer::ReservedBit => 1,
             Answer::RecordTruncated => 2,
             Answer::PointCount => 3,
             Answer::PointsNotRising => 4,

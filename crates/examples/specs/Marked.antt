@@ -1,6 +1,6 @@
 -- Document 01's "Marked examples to prove (P)", in its order, each with its line above it, from the
 -- definitions that the contracts cite: whole tables where the example speaks of all entries, the
--- paper's numbers where it names a refusal.
+-- paper's numbers where it names a refusal. P11 is as document 02 changed it.
 use Prim.Native.Nat.{ℕ}
 use mathlib.Core.Path.{_≡_, refl}
 use mathlib.Core.List.{List, [], _∷_}
@@ -16,6 +16,7 @@ use Rattle.points.specs.Points.{pt, straightCurve}
 use Rattle.spline.specs.Segments.{slopeOf}
 use Rattle.tables.specs.declared.CurveInterpolation.the-variants.{
   Linear,
+  MonotoneCubicBox,
   NaturalCubic,
   Cardinal,
   ClampedCubic,
@@ -87,10 +88,15 @@ pub P10-longer : (b : ℕ)
 unfolding Computed.read
 P10-longer b = refl
 
--- "P11 map 0x80: 1." Whatever follows it
-pub P11 : (s : List ℕ) → numberOf (readRecord (0x80 ∷ s) .answer) ≡ 1
+-- "P11 map 0x80": it "becomes an accepted empty set", of kind 3 ..
+pub P11 : readRecord (0x80 ∷ []) ≡ record { answer = Done; set = withKind MonotoneCubicBox (masterOnly []) }
 unfolding Computed.read
-P11 s = refl
+P11 = refl
+
+-- .. and with one byte more, 7. Whatever the byte, and whatever follows it
+pub P11-longer : (b : ℕ) (s : List ℕ) → numberOf (readRecord (0x80 ∷ b ∷ s) .answer) ≡ 7
+unfolding Computed.read
+P11-longer b s = refl
 
 -- "P12 one row of 4 bytes, width 4, Gray8, step 3: 11; step 4 passes." In the one-table call ..
 pub P12 : numberOf (lutAnswer Gray8 4 1 3 4) ≡ 11

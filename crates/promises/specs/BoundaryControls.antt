@@ -1,6 +1,6 @@
 -- Controls of the third demand at the C boundary. The bytes that it speaks of are those of the
--- call's own slices. Two calls share a set that two different records hold: one leaves the default
--- kind out, one names it. And what the clauses ask of a call is met by one.
+-- call's own slices. Two calls share a set that two different records hold: one leaves kind 2 out,
+-- one names it. And what the clauses ask of a call is met by one.
 use Prim.Native.Nat.{ℕ, _+_, _*_, _<_}
 use native.Mathlib.Omega.{arith}
 use mathlib.Core.Path.{_≡_, refl, ap}
@@ -120,7 +120,7 @@ module _ (kind : CurveInterpolation) (tension : carriedOf kind .tension < 256) w
   called stored read accepted =
       record { asked = askedBy stored; after = ran .after; contract = toned stored read accepted }
 
--- ---- the default kind left out, and named
+-- ---- kind 2 left out, and named
 pub two-records-one-set :
     (a b : AcceptedCall) × Share a b × (a .asked .stored ≡ b .asked .stored → ⊥)
 unfolding Computed.read setAnswer formatOf needed

@@ -12,7 +12,7 @@ use mathlib.Core.List.{List, [], _∷_}
 use lib.Dec.{eqb, lit<, lit≤}
 use lib.IntN.{ℤ}
 use lib.ListN.{length, getD}
-use Rattle.answers.specs.declared.Answer.the-variants.{ReservedBit, RecordTruncated}
+use Rattle.answers.specs.declared.Answer.the-variants.{RecordTruncated, PointCount}
 use Rattle.answers.specs.Checks.{_when_}
 use Rattle.points.specs.declared.Point.{Point}
 use Rattle.points.specs.Points.{pt}
@@ -43,11 +43,11 @@ pub answers-zero : Answers [] 0 ⊥
 answers-zero = record { first = refl; unchanged = λ refusal. omega arith }
 
 pub no-answers : (Answers [] 3 (Unit {0}) → ⊥)
-    × (Answers (ReservedBit when true ∷ RecordTruncated when true ∷ []) 2 (Unit {0}) → ⊥)
-    × (Answers (ReservedBit when true ∷ []) 1 ⊥ → ⊥)
+    × (Answers (RecordTruncated when true ∷ PointCount when true ∷ []) 3 (Unit {0}) → ⊥)
+    × (Answers (RecordTruncated when true ∷ []) 2 ⊥ → ⊥)
 no-answers = (
   λ a. let z : _≡_ {A = ℕ} 3 0 = a .first in omega (arith, z),
-  λ a. let z : _≡_ {A = ℕ} 2 1 = a .first in omega (arith, z),
+  λ a. let z : _≡_ {A = ℕ} 3 2 = a .first in omega (arith, z),
   λ a. a .unchanged (lit< tt),
 )
 

@@ -3,9 +3,9 @@
 -- here: each call that answers 0 gives what its definition says, the definitions are those of the
 -- published curves, and records survive writing then reading. What a call gives with another
 -- number is the first demand's.
-use Prim.Native.Nat.{ℕ, _≤_, _<_}
+use Prim.Native.Nat.{ℕ, _+_, _≤_, _<_}
 use mathlib.Core.Path.{_≡_}
-use mathlib.Core.Bool.{false}
+use mathlib.Core.Bool.{true}
 use mathlib.Core.List.{List, [], _∷_, _++_}
 use lib.IntN.{ℤ}
 use lib.ListN.{length, take, drop}
@@ -55,10 +55,11 @@ use Rattle.records.specs.declared.RecordRead.{RecordRead}
 use Rattle.records.specs.Format.{readRecord}
 use Rattle.records.specs.Views.{ReadRecordCall}
 use Rattle.writing.specs.declared.Written.{Written}
-use Rattle.writing.specs.Encode.{encode}
+use Rattle.writing.specs.Encode.{oneIf, encode}
 use Rattle.writing.specs.Contracts.{WriteRecordCall}
 use Rattle.record_facts.specs.Found.{AllBytes}
-use Rattle.record_facts.specs.Canonical.{namesDefault}
+use Rattle.record_facts.specs.Canonical as Canonical
+use Rattle.record_facts.specs.Canonical.{leavesTwoOut, hasWriterForm, namedInFull}
 use Rattle.record_facts.specs.RoundTrip as RoundTrip
 use Rattle.record_facts.specs.NotLonger as NotLonger
 use Rattle.record_facts.specs.Runs as Writing
@@ -191,9 +192,9 @@ pub round-trip : (v : View) → Legal v → LegalKind (v .kind)
 round-trip = RoundTrip.round-trip
 
 -- and a set that was read can be written: its record is not longer than the one it was read from,
--- the writer refuses it for want of room alone ..
+-- but for a byte where that one leaves kind 2 out, the writer refuses it for want of room alone ..
 pub not-longer : (s : List ℕ) → readRecord s .answer ≡ Done
-    → length (encode (readRecord s .set)) ≤ length s
+    → length (encode (readRecord s .set)) ≤ length s + oneIf (leavesTwoOut s)
 not-longer = NotLonger.not-longer
 
 pub accepted-not-refused : (s : List ℕ) {old new : List ℕ} {r : RecordRead} {w : Written}
@@ -201,10 +202,11 @@ pub accepted-not-refused : (s : List ℕ) {old new : List ℕ} {r : RecordRead} 
     → w .answer ≡ firstRefusal (roomCheck (length (encode (readRecord s .set))) (length old) ∷ [])
 accepted-not-refused = Writing.accepted-not-refused
 
--- .. and never in a buffer as long as that record
+-- .. and never in a buffer that is so much longer than that record
 pub accepted-fits : (s : List ℕ) {old new : List ℕ} {r : RecordRead} {w : Written}
     → ReadRecordCall s r → r .answer ≡ Done
-    → WriteRecordCall (r .set) old w new → length s ≤ length old → w .answer ≡ Done
+    → WriteRecordCall (r .set) old w new
+    → length s + oneIf (leavesTwoOut s) ≤ length old → w .answer ≡ Done
 accepted-fits = Writing.accepted-fits
 
 -- .. nor any set whose lists pass the check in 522 bytes: they always suffice
@@ -219,9 +221,14 @@ pub same-bytes : {a b : Curves} {old newA newB : List ℕ} {w x : Written} → S
     → (w .answer ≡ x .answer) × (w .length ≡ x .length) × (newA ≡ newB)
 same-bytes = Writing.same-runs
 
--- .. and an accepted record comes back byte for byte, unless it names the default kind
+-- .. an accepted record has the writer's, but for bit 7 and the naming of its kind ..
+pub accepted-in-full : (s : List ℕ) → AllBytes s → readRecord s .answer ≡ Done
+    → namedInFull s ≡ namedInFull (encode (readRecord s .set))
+accepted-in-full = Canonical.accepted-in-full
+
+-- .. and comes back byte for byte if it has bit 7 and does not name kind 3
 pub returned : (s : List ℕ) {old new : List ℕ} {r : RecordRead} {w : Written} → AllBytes s
     → ReadRecordCall s r → r .answer ≡ Done
-    → namesDefault s ≡ false → WriteRecordCall (r .set) old w new → w .answer ≡ Done
+    → hasWriterForm s ≡ true → WriteRecordCall (r .set) old w new → w .answer ≡ Done
     → (w .length ≡ length s) × (take (w .length) new ≡ s)
 returned = Writing.returned

@@ -1,37 +1,41 @@
 -- A set has one record, the writer's: same sets write the same bytes, and every record that a
--- reader accepts is what the writer makes of its set, except one that names the default kind. "The
--- writer leaves the kind out when it is the default": that one has bit 4 and its byte besides.
-use Prim.Native.Nat.{ℕ, suc, _+_, _*_, _<_}
+-- reader accepts is what the writer makes of its set, except in bit 7 and in whether it names its
+-- kind. "The writer sets bit 7 always and leaves the kind out when it is 3": a record may be without
+-- bit 7, name kind 3, or, without bit 7, leave kind 2 out.
+use Prim.Native.Nat.{ℕ, suc, _+_, _*_}
 use native.Mathlib.Omega.{arith}
 use mathlib.Core.Path.{_≡_, refl, sym, ap, _∙_}
 use mathlib.Core.List.{List, [], _∷_, _++_, append-nil}
-use mathlib.Core.Bool.{Bool, true, false, cond, _&&_, true≢false}
+use mathlib.Core.Bool.{Bool, true, false, cond, not, _&&_, true≢false, false≢true}
 use lib.Dec.{eqb}
-use lib.ListN.{length, length-append}
-use borrow.Author.Tests.{eqb-true}
+use lib.ListN.{length, getD, drop, length-append}
+use borrow.Author.Tests.{eqb-true, not-false}
 use Rattle.lists.specs.Test.{by-test}
 use Rattle.answers.specs.declared.Answer.the-variants.{Done}
 use Rattle.answers.specs.Numbers.{isDone}
 use Rattle.answers.specs.Checks.{first-append}
+use Rattle.tables.specs.declared.CurveInterpolation.{CurveInterpolation}
 use Rattle.tables.specs.Kinds.{kindNumber}
 use Rattle.sets.specs.declared.Curves.{Curves}
-use Rattle.sets.specs.Sets.{View, viewOf, default, curveChecks, setChecks, setAnswer}
+use Rattle.sets.specs.Sets.{View, viewOf, curveChecks, setChecks, setAnswer}
 use Rattle.sets.specs.Same.{Same}
 use Rattle.sets.specs.SameLaws.{same-view, checked-same}
 use Rattle.records.specs.Map.{bit}
+use Rattle.records.specs.Kinds.{unnamedKind}
 use Rattle.records.specs.Format.{readRecord}
 use Rattle.writing.specs.Encode.{
   fieldBytes,
   masterField,
   oneIf,
   bitsUnder,
-  there,
   namesKind,
+  mapOf,
   carriedBytes,
   encode,
   writeRecord,
 }
-use Rattle.record_facts.specs.Found.{AllBytes}
+use Rattle.writing.specs.Map.{MapBack, map-back}
+use Rattle.record_facts.specs.Found.{AllBytes, kindByte, unnamed-is}
 use Rattle.record_facts.specs.Spelling.{
   recordNaming,
   plain-carries,
@@ -56,103 +60,189 @@ same-written a b buffer e =
       checked-same a b e,
     )
 
--- ---- what the writer leaves out
--- bit 4 is set, and the kind is the default
-abbrev pub namesDefault : List ℕ → Bool
-namesDefault [] = false
-namesDefault (m ∷ s) =
-    bit 16 m && eqb (kindNumber (readRecord (m ∷ s) .set .kind)) (kindNumber default)
+-- ---- the forms of a record
+-- bit 4 is set, and the kind is 3, which the writer leaves out
+abbrev pub namesThree : List ℕ → Bool
+namesThree [] = false
+namesThree (m ∷ s) = bit 16 m && not (namesKind (readRecord (m ∷ s) .set .kind))
 
--- a record of the default kind with that kind named: bit 4 set, and the kind's byte, which comes
--- last as the default kind carries nothing
-abbrev pub defaultNamed : List ℕ → List ℕ
-defaultNamed [] = []
-defaultNamed (m ∷ s) = (m + 16) ∷ (s ++ kindNumber default ∷ [])
+-- neither bit 4 nor bit 7 is set: the kind is 2, which the writer names
+abbrev pub leavesTwoOut : List ℕ → Bool
+leavesTwoOut [] = false
+leavesTwoOut (m ∷ s) = not (bit 16 m) && not (bit 128 m)
 
--- ---- the two records of a set
-encode-is : (v : View) → encode v ≡ recordNaming (namesKind (v .kind)) v
+-- bit 7 is set, and kind 3 is not named
+abbrev pub hasWriterForm : List ℕ → Bool
+hasWriterForm [] = false
+hasWriterForm (m ∷ s) = bit 128 m && not (namesThree (m ∷ s))
+
+-- the same record with bit 7 and the kind named: where it was left out, its byte comes last, as 2
+-- and 3 carry nothing
+abbrev mapInFull : ℕ → ℕ
+mapInFull m = m + 16 * oneIf (not (bit 16 m)) + 128 * oneIf (not (bit 128 m))
+
+abbrev byteLeftOut : ℕ → List ℕ
+byteLeftOut m = cond (bit 16 m) [] (kindNumber (unnamedKind (bit 128 m)) ∷ [])
+
+abbrev pub namedInFull : List ℕ → List ℕ
+namedInFull [] = []
+namedInFull (m ∷ s) = mapInFull m ∷ (s ++ byteLeftOut m)
+
+-- ---- the writer's record of a set
+encode-is : (v : View) → encode v ≡ recordNaming true (namesKind (v .kind)) v
 unfolding encode recordNaming
 encode-is v = refl
 
--- bit 4 is worth 16
-bit-four : (p q r s : ℕ)
-    → p + 2 * (q + 2 * (r + 2 * (s + 2 * 1))) ≡ p + 2 * (q + 2 * (r + 2 * (s + 2 * 0))) + 16
-bit-four p q r s = omega arith
+-- its map
+abbrev mapFor : View → ℕ
+mapFor v = mapOf (masterField (v .master)) (v .red) (v .green) (v .blue) (v .kind)
 
-default-named : (v : View) → eqb (kindNumber (v .kind)) (kindNumber default) ≡ true
-    → recordNaming true v ≡ defaultNamed (recordNaming false v)
+map-of : (v : View) → getD (encode v) 0 0 ≡ mapFor v
+unfolding encode
+map-of v = refl
+
+back : (v : View) → MapBack (masterField (v .master)) (v .red) (v .green) (v .blue) (v .kind)
+back v = map-back (masterField (v .master)) (v .red) (v .green) (v .blue) (v .kind)
+
+-- "sets bit 7 always and leaves the kind out when it is 3"
+pub writer-sets : (v : View)
+    → (bit 128 (getD (encode v) 0 0) ≡ true) × (bit 16 (getD (encode v) 0 0) ≡ namesKind (v .kind))
+writer-sets v = rw (map-of v) (back v .newer, back v .kind)
+
+-- the kind that it leaves out
+left-out : (k : CurveInterpolation) → namesKind k ≡ false → k ≡ unnamedKind true
+left-out k e =
+    let n = kindNumber (unnamedKind true) in
+    unnamed-is true k (eqb-true (kindNumber k) n (not-false (eqb (kindNumber k) n) e))
+
+-- ---- named in full, a set has one record
+one-of : (b : Bool) → oneIf b + oneIf (not b) ≡ 1
+one-of true = refl
+one-of false = refl
+
+-- its bytes after the map
+abbrev bodyNaming : Bool → View → List ℕ
+bodyNaming named v =
+    fieldBytes (masterField (v .master)) ++ fieldBytes (v .red) ++ fieldBytes (v .green)
+    ++ fieldBytes (v .blue) ++ kindByte named (v .kind) ++ carriedBytes (v .kind)
+
+abbrev map : Bool → Bool → View → ℕ
+map newer named v = getD (recordNaming newer named v) 0 0
+
+full-map : (newer named : Bool) (v : View)
+    → map newer named v + 16 * oneIf (not named) + 128 * oneIf (not newer) ≡ map true true v
 unfolding recordNaming bitsUnder
-default-named v e =
-    let two : kindNumber (v .kind) ≡ 2 = eqb-true (kindNumber (v .kind)) 2 e in
-    let carries : carriedBytes (v .kind) ≡ [] = plain-carries (v .kind) (rw two) (rw two) in
-    let two-lists = fieldBytes (masterField (v .master)) ++ fieldBytes (v .red) in
-    let lists = two-lists ++ fieldBytes (v .green) ++ fieldBytes (v .blue) in
-    rw (
-      carries,
-      two,
-      append-nil lists,
-      append-nil lists,
-      append-nil (lists ++ 2 ∷ []),
-      bit-four (oneIf (there (masterField (v .master)))) (oneIf (there (v .red)))
-          (oneIf (there (v .green))) (oneIf (there (v .blue))),
-    )
+full-map newer named v = omega (arith, one-of newer, one-of named)
 
--- ---- an accepted record is one of the two
+full-body : (newer named : Bool) (v : View) → (named ≡ false → v .kind ≡ unnamedKind newer)
+    → bodyNaming named v ++ cond named [] (kindNumber (unnamedKind newer) ∷ []) ≡ bodyNaming true v
+full-body newer true v h = append-nil (bodyNaming true v)
+full-body newer false v h =
+    let kind = h refl in
+    let lists = fieldBytes (masterField (v .master)) ++ fieldBytes (v .red)
+    ++ fieldBytes (v .green) ++ fieldBytes (v .blue) in
+    let carries : carriedBytes (unnamedKind newer) ≡ [] =
+    by-test newer (λ t. rw t) (λ t. rw t) in
+    rw (kind, carries, append-nil lists, append-nil lists)
+    (sym (append-nil (lists ++ kindNumber (unnamedKind newer) ∷ [])))
+
+in-full : (m : ℕ) (s : List ℕ) (v : View) → m ∷ s ≡ recordNaming (bit 128 m) (bit 16 m) v
+    → (bit 16 m ≡ false → v .kind ≡ unnamedKind (bit 128 m))
+    → namedInFull (m ∷ s) ≡ recordNaming true true v
+unfolding recordNaming
+in-full m s v e unnamed =
+    let front : m ≡ map (bit 128 m) (bit 16 m) v = ap (λ (l : List ℕ). getD l 0 0) e in
+    let rest : s ≡ bodyNaming (bit 16 m) v = ap (λ (l : List ℕ). drop 1 l) e in
+    let first : mapInFull m ≡ map true true v =
+    omega (arith, front, full-map (bit 128 m) (bit 16 m) v) in
+    ap (λ (n : ℕ). n ∷ (s ++ byteLeftOut m)) first
+    ∙ ap (λ (l : List ℕ). map true true v ∷ l)
+    (ap (λ (l : List ℕ). l ++ byteLeftOut m) rest
+    ∙ full-body (bit 128 m) (bit 16 m) v unnamed)
+
+written-in-full : (v : View) → namedInFull (encode v) ≡ recordNaming true true v
+unfolding encode recordNaming
+written-in-full v =
+    let b = back v in
+    in-full (mapFor v) (bodyNaming (namesKind (v .kind)) v) v (rw (b .newer, b .kind))
+    (λ e. rw (b .newer) (left-out (v .kind) (sym (b .kind) ∙ e)))
+
+-- ---- an accepted record
 no-map : readRecord [] .answer ≡ Done → ⊥
 unfolding readRecord
 no-map e = true≢false (ap isDone (sym e))
 
+-- differs from what the writer makes of its set in what `namedInFull` puts in alone
+pub accepted-in-full : (s : List ℕ) → AllBytes s → readRecord s .answer ≡ Done
+    → namedInFull s ≡ namedInFull (encode (readRecord s .set))
+accepted-in-full [] bytes accepted = absurd (no-map accepted)
+accepted-in-full (m ∷ s) bytes accepted =
+    let set = readRecord (m ∷ s) .set in
+    in-full m s set (record-is m s accepted bytes) (unnamed-kind m s accepted)
+    ∙ sym (written-in-full set)
+
+-- in the writer's form a kind is named just where the writer names it
 module _ (m : ℕ) (s : List ℕ) (accepted : readRecord (m ∷ s) .answer ≡ Done) where
   abbrev set : View
   set = readRecord (m ∷ s) .set
 
-  two-records : recordNaming (bit 16 m) set
-      ≡ cond (namesDefault (m ∷ s)) (defaultNamed (encode set)) (encode set)
-  two-records =
-      rw (encode-is set)
-      (by-test (bit 16 m)
-      (λ t.
-      by-test (eqb (kindNumber (set .kind)) (kindNumber default))
-      (λ u. rw (t, u) (default-named set u)) (λ u. rw (t, u)))
-      (λ t. rw (t, unnamed-kind m s accepted t)))
+  as-written : hasWriterForm (m ∷ s) ≡ true
+      → (bit 128 m ≡ true) × (bit 16 m ≡ namesKind (set .kind))
+  as-written e =
+      by-test (bit 128 m)
+      (λ newer. (
+        newer,
+        by-test (bit 16 m)
+            (λ named. by-test (namesKind (set .kind)) (λ u. rw (named, u))
+            (λ u. absurd (false≢true (rw (newer, named, u) at e))))
+            (λ unnamed. rw (unnamed, unnamed-kind m s accepted unnamed, newer)),
+      ))
+      (λ older. absurd (false≢true (rw older at e)))
 
 -- one that has the writer's form is what the writer makes of its set
-pub accepted-is : (s : List ℕ) → AllBytes s → readRecord s .answer ≡ Done → namesDefault s ≡ false
+pub accepted-is : (s : List ℕ) → AllBytes s → readRecord s .answer ≡ Done → hasWriterForm s ≡ true
     → encode (readRecord s .set) ≡ s
 accepted-is [] bytes accepted e = absurd (no-map accepted)
 accepted-is (m ∷ s) bytes accepted e =
-    sym (record-is m s accepted bytes ∙ (rw e at (two-records m s accepted)))
+    let w = as-written m s accepted e in
+    let set = readRecord (m ∷ s) .set in
+    encode-is set
+    ∙ sym (record-is m s accepted bytes
+    ∙ ap (λ (b : Bool). recordNaming b (bit 16 m) set) (w .0)
+    ∙ ap (λ (b : Bool). recordNaming true b set) (w .1))
 
--- one that names the default kind is that record with bit 4 and the kind's byte
-pub accepted-default : (s : List ℕ) → AllBytes s → readRecord s .answer ≡ Done
-    → namesDefault s ≡ true
-    → defaultNamed (encode (readRecord s .set)) ≡ s
-accepted-default [] bytes accepted e = absurd (no-map accepted)
-accepted-default (m ∷ s) bytes accepted e =
-    sym (record-is m s accepted bytes ∙ (rw e at (two-records m s accepted)))
+-- and no other is
+pub writer-form : (s : List ℕ) → readRecord s .answer ≡ Done → encode (readRecord s .set) ≡ s
+    → hasWriterForm s ≡ true
+writer-form [] accepted e = absurd (no-map accepted)
+writer-form (m ∷ s) accepted e =
+    let set = readRecord (m ∷ s) .set in
+    let bits = rw (ap (λ (l : List ℕ). getD l 0 0) e) at (writer-sets set) in
+    rw (bits .0, bits .1) (by-test (namesKind (set .kind)) (λ t. rw t) (λ t. rw t))
 
 -- ---- how long it is
-named-length : (s : List ℕ) → 0 < length s → length (defaultNamed s) ≡ suc (length s)
-named-length [] h = absurd (omega arith)
-named-length (m ∷ s) h = omega (arith, length-append s (kindNumber default ∷ []))
+naming-length : (newer named : Bool) (v : View)
+    → length (recordNaming newer named v) ≡ length (recordNaming true false v) + oneIf named
+unfolding recordNaming
+naming-length newer true v = simp length-append (omega arith)
+naming-length newer false v = simp length-append (omega arith)
 
-default-length : (v : View) → length (defaultNamed (encode v)) ≡ suc (length (encode v))
-unfolding encode
-default-length v = named-length (encode v) (omega arith)
-
--- as long as what the writer makes of its set, or one byte longer
+-- a byte less than what the writer makes of its set where it leaves kind 2 out, a byte more where
+-- it names kind 3, and else as long
 pub accepted-length : (s : List ℕ) → readRecord s .answer ≡ Done
-    → length s ≡ cond (namesDefault s) (suc (length (encode (readRecord s .set))))
-    (length (encode (readRecord s .set)))
+    → length s + oneIf (leavesTwoOut s)
+    ≡ length (encode (readRecord s .set)) + oneIf (namesThree s)
 accepted-length [] accepted = absurd (no-map accepted)
 accepted-length (m ∷ s) accepted =
-    record-length m s accepted ∙ ap length (two-records m s accepted)
-    ∙ by-test (namesDefault (m ∷ s))
-    (λ t. rw t (default-length (readRecord (m ∷ s) .set))) (λ t. rw t)
-
--- and so the writer's form is just that of the records that do not name the default kind
-pub writer-form : (s : List ℕ) → readRecord s .answer ≡ Done → encode (readRecord s .set) ≡ s
-    → namesDefault s ≡ false
-writer-form s accepted e =
-    by-test (namesDefault s)
-    (λ t. absurd (omega (arith, rw t at (accepted-length s accepted), ap length e))) (λ t. t)
+    let set = readRecord (m ∷ s) .set in
+    let long = record-length m s accepted ∙ naming-length (bit 128 m) (bit 16 m) set in
+    let made = ap length (encode-is set) ∙ naming-length true (namesKind (set .kind)) set in
+    by-test (bit 16 m)
+    (λ named. by-test (namesKind (set .kind))
+    (λ u. rw (named, u) (omega (arith, rw named at long, rw u at made)))
+    (λ u. rw (named, u) (omega (arith, rw named at long, rw u at made))))
+    (λ unnamed.
+    let kind = unnamed-kind m s accepted unnamed in
+    by-test (bit 128 m)
+    (λ t. rw (unnamed, t) (omega (arith, rw unnamed at long, rw (kind, t) at made)))
+    (λ t. rw (unnamed, t) (omega (arith, rw unnamed at long, rw (kind, t) at made))))

@@ -1,5 +1,6 @@
--- The facts about records at their edges: which records name the default kind, which numbers are
--- bytes, which sets are legal; a set with the longest record, and one byte less of room or input.
+-- The facts about records at their edges: which records have the writer's form, and in what the
+-- others differ from it; which numbers are bytes, which sets are legal; a set with the longest
+-- record, and one byte less of room or input.
 use Prim.Native.Nat.{ℕ, zero, suc, _-_, _<_}
 use native.Mathlib.Omega.{arith}
 use mathlib.Core.Path.{_≡_, refl}
@@ -24,38 +25,61 @@ use Rattle.writing.specs.Contracts.{Held}
 use Rattle.writing.specs.Encode.{pairBytes, bitsUnder, encode, writeChecks}
 use Rattle.record_facts.specs.Found.{AllBytes}
 use Rattle.record_facts.specs.ReadLegal.{LegalSet}
-use Rattle.record_facts.specs.Canonical.{namesDefault, defaultNamed}
+use Rattle.record_facts.specs.Canonical.{
+  namesThree,
+  leavesTwoOut,
+  hasWriterForm,
+  namedInFull,
+}
 
--- ---- the default kind named
--- "10 02" names it, and the writer makes "00" of its set
-pub default-kind : namesDefault (0x10 ∷ 2 ∷ []) ≡ true
+-- ---- the writer's form
+-- bit 7 is set, and 3 is not named
+pub with-bit-7 : (hasWriterForm (0x80 ∷ []) ≡ true) × (hasWriterForm (0x90 ∷ 2 ∷ []) ≡ true)
+    × (hasWriterForm (0x90 ∷ 4 ∷ []) ≡ true) × (hasWriterForm (0x90 ∷ 3 ∷ []) ≡ false)
 unfolding readRecord readFields readKind readNumber readCarried kindOf
-default-kind = refl
+with-bit-7 = (refl, refl, refl, refl)
 
-pub default-left-out : encode (readRecord (0x10 ∷ 2 ∷ []) .set) ≡ 0x00 ∷ []
-unfolding readRecord readFields readKind readNumber readCarried encode bitsUnder kindOf
-default-left-out = refl
+pub without-bit-7 : (hasWriterForm [] ≡ false) × (hasWriterForm (0x00 ∷ []) ≡ false)
+    × (hasWriterForm (0x7f ∷ []) ≡ false) × (hasWriterForm (0x10 ∷ 2 ∷ []) ≡ false)
+without-bit-7 = (refl, refl, refl, refl)
 
-pub default-put-in : defaultNamed (0x01 ∷ 1 ∷ 0 ∷ 7 ∷ []) ≡ 0x11 ∷ 1 ∷ 0 ∷ 7 ∷ 2 ∷ []
-default-put-in = refl
-
--- no record, no kind named, every list and no kind, the kind next to the default, a tension of 2
-pub no-record : namesDefault [] ≡ false
-no-record = refl
-
-pub no-kind : namesDefault (0x00 ∷ []) ≡ false
-no-kind = refl
-
-pub every-list : namesDefault (0x0f ∷ 1 ∷ 0 ∷ 0 ∷ 0 ∷ 0 ∷ 0 ∷ []) ≡ false
-every-list = refl
-
-pub next-kind : namesDefault (0x10 ∷ 3 ∷ []) ≡ false
+-- 3 is named by "10 03" and by "90 03"; not by the kinds next to it, nor by a tension of 3, nor
+-- where no kind is named
+pub names-three : (namesThree (0x10 ∷ 3 ∷ []) ≡ true) × (namesThree (0x90 ∷ 3 ∷ []) ≡ true)
 unfolding readRecord readFields readKind readNumber readCarried kindOf
-next-kind = refl
+names-three = (refl, refl)
 
-pub tension-two : namesDefault (0x30 ∷ 7 ∷ 2 ∷ []) ≡ false
+pub names-another : (namesThree (0x10 ∷ 2 ∷ []) ≡ false) × (namesThree (0x10 ∷ 4 ∷ []) ≡ false)
+    × (namesThree (0x30 ∷ 7 ∷ 3 ∷ []) ≡ false) × (namesThree (0x80 ∷ []) ≡ false)
+    × (namesThree [] ≡ false)
 unfolding readRecord readFields readKind readNumber readCarried readTension kindOf
-tension-two = refl
+names-another = (refl, refl, refl, refl, refl)
+
+-- 2 is left out where neither bit is set, whatever the others are
+pub leaves-two-out : (leavesTwoOut (0x00 ∷ []) ≡ true) × (leavesTwoOut (0x6f ∷ []) ≡ true)
+leaves-two-out = (refl, refl)
+
+pub leaves-none-out : (leavesTwoOut (0x80 ∷ []) ≡ false) × (leavesTwoOut (0x10 ∷ 2 ∷ []) ≡ false)
+    × (leavesTwoOut (0x90 ∷ 2 ∷ []) ≡ false) × (leavesTwoOut [] ≡ false)
+leaves-none-out = (refl, refl, refl, refl)
+
+-- named in full, the four records of a set of kind 2 or 3 are one
+pub two-in-full : (namedInFull (0x01 ∷ 1 ∷ 0 ∷ 7 ∷ []) ≡ 0x91 ∷ 1 ∷ 0 ∷ 7 ∷ 2 ∷ [])
+    × (namedInFull (0x11 ∷ 1 ∷ 0 ∷ 7 ∷ 2 ∷ []) ≡ 0x91 ∷ 1 ∷ 0 ∷ 7 ∷ 2 ∷ [])
+two-in-full = (refl, refl)
+
+pub three-in-full : (namedInFull (0x81 ∷ 1 ∷ 0 ∷ 7 ∷ []) ≡ 0x91 ∷ 1 ∷ 0 ∷ 7 ∷ 3 ∷ [])
+    × (namedInFull (0x91 ∷ 1 ∷ 0 ∷ 7 ∷ 3 ∷ []) ≡ 0x91 ∷ 1 ∷ 0 ∷ 7 ∷ 3 ∷ [])
+three-in-full = (refl, refl)
+
+-- the writer makes "80" of "90 03", a byte less, and "90 02" of "00", a byte more
+pub three-left-out : encode (readRecord (0x90 ∷ 3 ∷ []) .set) ≡ 0x80 ∷ []
+unfolding readRecord readFields readKind readNumber readCarried encode bitsUnder kindOf
+three-left-out = refl
+
+pub two-named : encode (readRecord (0x00 ∷ []) .set) ≡ 0x90 ∷ 2 ∷ []
+unfolding readRecord readFields readKind readNumber readCarried encode bitsUnder kindOf
+two-named = refl
 
 -- ---- bytes: 255 is one, 256 is none, and as a map it would be read like 0
 at-255 : (i : ℕ) → getD (255 ∷ []) i 0 < 256
@@ -68,7 +92,7 @@ byte-255 = record { byte = at-255 }
 pub not-256 : AllBytes (256 ∷ []) → ⊥
 not-256 b = omega (arith, b .byte 0)
 
-pub map-256 : encode (readRecord (256 ∷ []) .set) ≡ 0 ∷ []
+pub map-256 : encode (readRecord (256 ∷ []) .set) ≡ encode (readRecord (0 ∷ []) .set)
 unfolding readRecord readFields readKind readNumber readCarried encode bitsUnder kindOf
 map-256 = refl
 

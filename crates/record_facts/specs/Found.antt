@@ -22,11 +22,13 @@ use Rattle.tables.specs.declared.CurveInterpolation.{CurveInterpolation}
 use Rattle.tables.specs.declared.Carried.{Carried}
 use Rattle.tables.specs.Kinds.{nothing, aTension, twoSlopes, kindNumber, lastKind}
 use Rattle.tables.specs.Kinds.{carriesTension, carriesSlopes, kindBits, LegalKind}
-use Rattle.tables.specs.KindLaws.{kindWith, number-back, carried-back, kind-legal}
+use Rattle.tables.specs.Kinds.{kindOf}
+use Rattle.tables.specs.KindLaws.{number-known, kindWith, number-back, carried-back, kind-carries}
+use Rattle.tables.specs.KindLaws.{kind-legal}
 use Rattle.sets.specs.declared.Colour.{Colour}
 use Rattle.sets.specs.declared.Colour.the-variants.{Red, Green, Blue}
 use Rattle.sets.specs.Legal.{LegalList, LegalColour, Legal}
-use Rattle.sets.specs.Sets.{View, emptyView, default, colourOf, withMaster, withColour, withKind}
+use Rattle.sets.specs.Sets.{View, emptyView, colourOf, withMaster, withColour, withKind}
 use Rattle.records.specs.Parse.{Parse, good, refused, _▷_}
 use Rattle.records.specs.Map.{bit, carriedBits, colourBit}
 use Rattle.records.specs.PointLists.{
@@ -38,6 +40,7 @@ use Rattle.records.specs.PointLists.{
   readField,
 }
 use Rattle.records.specs.Kinds.{
+  unnamedKind,
   storedSlope,
   readNumber,
   readTension,
@@ -244,13 +247,20 @@ kindByte named k = cond named (kindNumber k ∷ []) []
 
 pub record KindOf (named : Bool) (m : ℕ) (v : CurveInterpolation) (c : List ℕ) : Type 0 where
   pub agreed : carriedBits m ≡ kindBits (kindNumber v)
-  pub unnamed : named ≡ false → kindNumber v ≡ kindNumber default
+  pub unnamed : named ≡ false → v ≡ unnamedKind (bit 128 m)
   pub rest : List ℕ
   pub carried : CarriedOf v rest
   pub bytes : c ≡ kindByte named v ++ rest
 
+-- no other kind has the number of an unnamed one
+pub unnamed-is : (newer : Bool) (v : CurveInterpolation) → kindNumber v ≡ kindNumber (unnamedKind newer)
+    → v ≡ unnamedKind newer
+unfolding kindOf
+unnamed-is false v e = sym (rw e at (kind-carries v))
+unnamed-is true v e = sym (rw e at (kind-carries v))
+
 agreed-spelled : (named : Bool) (m k : ℕ) → ltb lastKind k ≡ false
-    → (named ≡ false → k ≡ kindNumber default)
+    → (named ≡ false → k ≡ kindNumber (unnamedKind (bit 128 m)))
     → (s : List ℕ) → Spelled (KindOf named m) (cond named (k ∷ []) [] ++ s) (readAgreed m k s)
 agreed-spelled named m k known unnamed s =
     let c = cond named (k ∷ []) [] in
@@ -259,7 +269,7 @@ agreed-spelled named m k known unnamed s =
     (λ agrees. behind c refl
     (λ v d h. record {
       agreed = rw (h .0) (eqb-true (carriedBits m) (kindBits k) (not-false _ (agrees .0)));
-      unnamed = λ e. h .0 ∙ unnamed e;
+      unnamed = λ e. unnamed-is (bit 128 m) v (h .0 ∙ unnamed e);
       rest = d;
       carried = h .1;
       bytes = rw (h .0);
@@ -267,9 +277,12 @@ agreed-spelled named m k known unnamed s =
     (carried-spelled k known s))
 
 kind-spelled : (named : Bool) (m : ℕ) (s : List ℕ)
-    → Spelled (KindOf named m) s (readNumber default named s ▷ readAgreed m)
+    → Spelled (KindOf named m) s (readNumber (unnamedKind (bit 128 m)) named s ▷ readAgreed m)
 unfolding readNumber
-kind-spelled false m s = agreed-spelled false m (kindNumber default) refl (λ e. refl) s
+kind-spelled false m s =
+    let unnamed = unnamedKind (bit 128 m) in
+    let known = le-ltb lastKind (kindNumber unnamed) (number-known unnamed) in
+    agreed-spelled false m (kindNumber unnamed) known (λ e. refl) s
 kind-spelled true m [] = none-found RecordTruncated refl
 kind-spelled true m (k ∷ s) =
     by-test (ltb lastKind k) (λ above. rw above (none-found UnknownKind refl))
@@ -343,7 +356,7 @@ module _ (m : ℕ) where
   in-order : (s : List ℕ)
       → Spelled InOrder s
       (masterStep m emptyView s ▷ colourStep Red m ▷ colourStep Green m ▷ colourStep Blue m ▷
-      kindStep default m)
+      kindStep (unnamedKind (bit 128 m)) m)
   unfolding readKind
   in-order s =
       then-spelled withKind (λ x v c d h g. (h, g))
@@ -399,11 +412,9 @@ end-found (found v c (b ∷ t) h w) e = absurd (true≢false (ap isDone (sym e))
 end-found (none-found a h) e = absurd (true≢false (ap isDone (sym e) ∙ h))
 
 pub accepted : (m : ℕ) (s : List ℕ) → readRecord (m ∷ s) .answer ≡ Done
-    → (bit 128 m ≡ false) × Fields m (readRecord (m ∷ s) .set) s
+    → Fields m (readRecord (m ∷ s) .set) s
 unfolding readRecord readFields
-accepted m s e =
-    by-test (bit 128 m) (λ t. absurd (true≢false (ap isDone (sym (rw t at e)))))
-    (λ t. (t, rw t (fields-of m _ s (end-found (in-order m s) (rw t at e)))))
+accepted m s e = fields-of m _ s (end-found (in-order m s) e)
 
 -- what the kind of a record of bytes carries
 pub carried-same : {m : ℕ} {v : View} {s : List ℕ} (f : Fields m v s) → AllBytes s

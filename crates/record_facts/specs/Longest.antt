@@ -15,14 +15,16 @@ use Rattle.answers.specs.declared.Answer.the-variants.{RecordTruncated, PointCo
 use Rattle.answers.specs.Checks.{Check, _when_, refuses}
 use Rattle.points.specs.declared.Point.{Point}
 use Rattle.points.specs.Points.{limit}
+use Rattle.tables.specs.declared.CurveInterpolation.{CurveInterpolation}
 use Rattle.tables.specs.Kinds.{carriesTension, carriesSlopes}
 use Rattle.sets.specs.declared.Colour.{Colour}
 use Rattle.sets.specs.declared.Colour.the-variants.{Red, Green, Blue}
-use Rattle.sets.specs.Sets.{View, emptyView, default}
+use Rattle.sets.specs.Sets.{View, emptyView}
 use Rattle.records.specs.Parse.{Parse, good, refused, _▷_, checked}
 use Rattle.records.specs.Map.{bit, colourBit}
 use Rattle.records.specs.PointLists.{pointOf, pairs, pointChecks, readPoints, readList, readField}
 use Rattle.records.specs.Kinds.{
+  unnamedKind,
   kindCheck,
   readNumber,
   readTension,
@@ -114,12 +116,12 @@ field-takes true least n s m h = list-takes least n s m h
 field-takes false least n s m h = read [] s m (omega arith)
 
 -- ---- the kind
-number-takes : (named : Bool) → Takes 1 (readNumber default named)
+number-takes : (unnamed : CurveInterpolation) (named : Bool) → Takes 1 (readNumber unnamed named)
 unfolding readNumber
-number-takes false n s m h = read _ s m (omega arith)
-number-takes true n s zero h = absurd (omega arith)
-number-takes true n [] (suc m) h = none-read RecordTruncated
-number-takes true n (k ∷ s) (suc m) h =
+number-takes unnamed false n s m h = read _ s m (omega arith)
+number-takes unnamed true n s zero h = absurd (omega arith)
+number-takes unnamed true n [] (suc m) h = none-read RecordTruncated
+number-takes unnamed true n (k ∷ s) (suc m) h =
     checked-fronts (kindCheck k ∷ []) (read k s m (omega arith))
 
 tension-takes : (k : ℕ) → Takes 1 (readTension k)
@@ -158,11 +160,12 @@ colour-takes : (c : Colour) (map : ℕ) (v : View) → Takes 129 (colourStep c m
 colour-takes c map v n s m h =
     then-fronts (field-takes (bit (colourBit c) map) 0 n s m h) (λ l. read _)
 
-kind-takes : (map : ℕ) (v : View) → Takes 5 (kindStep default map v)
+kind-takes : (unnamed : CurveInterpolation) (map : ℕ) (v : View)
+    → Takes 5 (kindStep unnamed map v)
 unfolding readKind
-kind-takes map v n s m h =
+kind-takes unnamed map v n s m h =
     then-fronts
-    (then-fronts (number-takes (bit 16 map) (4 + n) s m (omega arith))
+    (then-fronts (number-takes unnamed (bit 16 map) (4 + n) s m (omega arith))
     (λ k. agreed-takes map k n))
     (λ k. read _)
 
@@ -171,10 +174,10 @@ end-takes v n s zero h = absurd (omega arith)
 end-takes v n [] (suc m) h = read v [] (suc m) (omega arith)
 end-takes v n (b ∷ s) (suc m) h = none-read TrailingBytes
 
-fields-fronts : (map : ℕ) (s : List ℕ) (m : ℕ) → longest ≤ m
-    → Fronts 0 (readFields default map s) (readFields default map (take m s))
+fields-fronts : (unnamed : CurveInterpolation) (map : ℕ) (s : List ℕ) (m : ℕ) → longest ≤ m
+    → Fronts 0 (readFields unnamed map s) (readFields unnamed map (take m s))
 unfolding readFields
-fields-fronts map s m h =
+fields-fronts unnamed map s m h =
     then-fronts
     (then-fronts
     (then-fronts
@@ -182,7 +185,7 @@ fields-fronts map s m h =
     (then-fronts (master-takes map emptyView 393 s m h) (λ v. colour-takes Red map v 264))
     (λ v. colour-takes Green map v 135))
     (λ v. colour-takes Blue map v 6))
-    (λ v. kind-takes map v 1))
+    (λ v. kind-takes unnamed map v 1))
     (λ v. end-takes v 0)
 
 same-result : {n : ℕ} {p q : Parse View} → Fronts n p q → result q ≡ result p
@@ -194,4 +197,5 @@ pub front-tells : (s : List ℕ) (m : ℕ) → longest < m → readRecord (take 
 unfolding readRecord
 front-tells s zero h = absurd (omega arith)
 front-tells [] (suc m) h = refl
-front-tells (b ∷ s) (suc m) h = rw (same-result (fields-fronts b s m (omega arith)))
+front-tells (b ∷ s) (suc m) h =
+    rw (same-result (fields-fronts (unnamedKind (bit 128 b)) b s m (omega arith)))

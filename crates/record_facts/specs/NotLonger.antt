@@ -1,17 +1,15 @@
--- The writer's record of a set that was read is never longer than the record that was read.
-use Prim.Native.Nat.{ℕ, _≤_}
+-- How much longer than a record the writer's record of its set may be: a byte, where the record
+-- leaves kind 2 out, and else nothing.
+use Prim.Native.Nat.{ℕ, _+_, _≤_}
 use native.Mathlib.Omega.{arith}
 use mathlib.Core.Path.{_≡_}
 use mathlib.Core.List.{List}
 use lib.ListN.{length}
-use Rattle.lists.specs.Test.{by-test}
 use Rattle.answers.specs.declared.Answer.the-variants.{Done}
 use Rattle.records.specs.Format.{readRecord}
-use Rattle.writing.specs.Encode.{encode}
-use Rattle.record_facts.specs.Canonical.{namesDefault, accepted-length}
+use Rattle.writing.specs.Encode.{oneIf, encode}
+use Rattle.record_facts.specs.Canonical.{leavesTwoOut, accepted-length}
 
 pub not-longer : (s : List ℕ) → readRecord s .answer ≡ Done
-    → length (encode (readRecord s .set)) ≤ length s
-not-longer s accepted =
-    let long = accepted-length s accepted in
-    by-test (namesDefault s) (λ t. omega (arith, rw t at long)) (λ t. omega (arith, rw t at long))
+    → length (encode (readRecord s .set)) ≤ length s + oneIf (leavesTwoOut s)
+not-longer s accepted = omega (arith, accepted-length s accepted)

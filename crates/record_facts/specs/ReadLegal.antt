@@ -36,6 +36,6 @@ read-legal (m ∷ s) b =
     let answer = readRecord (m ∷ s) .answer in
     by-test (isDone answer)
     (λ t.
-    let f = accepted m s (done-is answer t) .1 in
+    let f = accepted m s (done-is answer t) in
     record { lists = f .legal; kind = carried-same f (bytes-rest m s b) .1 })
     (λ t. rw (read-empty (m ∷ s) t) empty-legal)

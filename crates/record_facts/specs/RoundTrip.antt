@@ -4,6 +4,7 @@ use Prim.Native.Nat.{ℕ, _+_, _-_, _*_, _/_, _%_, _≤_, _<_}
 use native.Mathlib.Omega.{arith}
 use mathlib.Core.Path.{_≡_, refl, sym, ap, _∙_}
 use mathlib.Core.List.{List, [], _∷_, _++_, append-assoc}
+use mathlib.Core.Bool.{true}
 use mathlib.Core.Option.{Option, none, some}
 use lib.ListN.{length, take, drop, length-append}
 use lib.Seq.{drop-at, take-append-seam}
@@ -27,12 +28,13 @@ use Rattle.tables.specs.KindLaws.{number-known, kindWith, carriedFor, kind-carr
 use Rattle.answers.specs.declared.Answer.the-variants.{Done}
 use Rattle.sets.specs.declared.Curves.{Curves}
 use Rattle.sets.specs.Legal.{LegalList, LegalColour, Legal, legal-view}
-use Rattle.sets.specs.Sets.{View, viewOf, default}
+use Rattle.sets.specs.Sets.{View, viewOf}
 use Rattle.points.specs.Points.{limit}
 use Rattle.records.specs.Parse.{good}
 use Rattle.records.specs.Map.{bit, carriedBits}
 use Rattle.records.specs.PointLists.{pointBytes, pairs, readPoints, readList, readField}
 use Rattle.records.specs.Kinds.{
+  unnamedKind,
   storedSlope,
   readNumber,
   readTension,
@@ -131,11 +133,11 @@ agreed-back k m n h e carried =
 
 kind-back : (k : CurveInterpolation) (m : ℕ) → LegalKind k → bit 16 m ≡ namesKind k
     → carriedBits m ≡ kindBits (kindNumber k)
-    → readKind default m (kindBytes k ++ carriedBytes k) ≡ good k []
+    → readKind (unnamedKind true) m (kindBytes k ++ carriedBytes k) ≡ good k []
 unfolding readKind readNumber
 kind-back k m h named carried =
     let n = kindNumber k in
-    let d = kindNumber default in
+    let d = kindNumber (unnamedKind true) in
     by-test (eqb n d) (λ t. rw (named, t) (agreed-back k m d h (sym (eqb-true n d t)) carried))
     (λ t. rw (named, t, le-ltb lastKind n (number-known k)) (agreed-back k m n h refl carried))
 
@@ -156,7 +158,7 @@ round-trip v h legal =
     let carried = carriedBytes (v .kind) in
     let map = map-back master (v .red) (v .green) (v .blue) (v .kind) in
     rw (
-      map .reserved,
+      map .newer,
       regroup (fieldBytes master) red green blue kind carried,
       map .master,
       master-back (v .master) (red ++ (green ++ (blue ++ (kind ++ carried)))) (h .master),

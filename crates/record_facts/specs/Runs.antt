@@ -1,28 +1,37 @@
 -- What holds of any runs of the reader and the writer, from their contracts alone: the round trip,
 -- the same bytes for the same set, and room for every record.
-use Prim.Native.Nat.{ℕ, _≤_}
+use Prim.Native.Nat.{ℕ, _+_, _≤_}
 use native.Mathlib.Omega.{arith}
 use mathlib.Core.Path.{_≡_, refl, sym, ap, _∙_}
 use mathlib.Core.List.{List, [], _∷_}
-use mathlib.Core.Bool.{false}
-use lib.ListN.{length, take, drop}
+use mathlib.Core.Bool.{true, not}
+use lib.Dec.{eqb}
+use lib.ListN.{length, getD, take, drop}
 use lib.Seq.{take-append-seam}
 use borrow.Author.Tests.{le-ltb}
 use Rattle.answers.specs.declared.Answer.the-variants.{Done, OutputTooSmall}
 use Rattle.answers.specs.Checks.{firstRefusal, roomCheck, first-goes-on}
+use Rattle.tables.specs.Kinds.{kindNumber}
 use Rattle.sets.specs.declared.Curves.{Curves}
 use Rattle.sets.specs.Sets.{viewOf, curveChecks, setChecks, setAnswer}
 use Rattle.sets.specs.Same.{Same}
 use Rattle.sets.specs.SameLaws.{view-same}
 use Rattle.records.specs.declared.RecordRead.{RecordRead}
+use Rattle.records.specs.Map.{bit}
 use Rattle.records.specs.Format.{longest, readRecord}
 use Rattle.records.specs.Views.{ReadRecordCall}
 use Rattle.writing.specs.declared.Written.{Written}
-use Rattle.writing.specs.Encode.{Write, encode}
+use Rattle.writing.specs.Encode.{oneIf, Write, encode}
 use Rattle.writing.specs.Cases.{write-answer, write-done, done-case}
 use Rattle.writing.specs.Contracts.{WriteRecordCall}
 use Rattle.record_facts.specs.Found.{AllBytes}
-use Rattle.record_facts.specs.Canonical.{namesDefault, same-written, accepted-is}
+use Rattle.record_facts.specs.Canonical.{
+  leavesTwoOut,
+  hasWriterForm,
+  same-written,
+  writer-sets,
+  accepted-is,
+}
 use Rattle.record_facts.specs.NotLonger.{not-longer}
 use Rattle.record_facts.specs.Room.{longest-suffices, never-thirteen}
 use Rattle.record_facts.specs.RoundTrip.{written-back}
@@ -54,10 +63,12 @@ accepted-not-refused s {before} {r = r} handed wrote =
     ∙ sym (first-goes-on (setChecks curveChecks (r .set)) _ (handed .legal) refl)
     ∙ rw (handed .set)
 
--- and of a record that was accepted it is done in every buffer that has room for that record
+-- and of a record that was accepted it is done in every buffer that has room for that record, with
+-- a byte more where it leaves kind 2 out
 pub accepted-fits : (s : List ℕ) {before after : List ℕ} {r : RecordRead} {w : Written}
     → ReadRecordCall s r → r .answer ≡ Done
-    → WriteRecordCall (r .set) before w after → length s ≤ length before → w .answer ≡ Done
+    → WriteRecordCall (r .set) before w after
+    → length s + oneIf (leavesTwoOut s) ≤ length before → w .answer ≡ Done
 accepted-fits s {before} handed accepted wrote room =
     let short = not-longer s (sym (handed .answer) ∙ accepted) in
     accepted-not-refused s handed wrote
@@ -74,18 +85,28 @@ same-runs {a} {b} {before} same left right =
       left .buffer ∙ ap (λ (r : Write). r .buffer) e ∙ sym (right .buffer),
     )
 
--- a record that was accepted and does not name the default kind comes back byte for byte
+-- a record that was accepted and has the writer's form comes back byte for byte
 pub returned : (s : List ℕ) {before after : List ℕ} {r : RecordRead} {w : Written} → AllBytes s
     → ReadRecordCall s r → r .answer ≡ Done
-    → namesDefault s ≡ false → WriteRecordCall (r .set) before w after → w .answer ≡ Done
+    → hasWriterForm s ≡ true → WriteRecordCall (r .set) before w after → w .answer ≡ Done
     → (w .length ≡ length s) × (take (w .length) after ≡ s)
-returned s {before} {r = r} {w} bytes handed accepted unnamed wrote done =
+returned s {before} {r = r} {w} bytes handed accepted form wrote done =
     let d = done-case (r .set) before (sym (wrote .answer) ∙ done) in
     let made : encode (viewOf (r .set)) ≡ s =
-    rw (handed .set) (accepted-is s bytes (sym (handed .answer) ∙ accepted) unnamed) in
+    rw (handed .set) (accepted-is s bytes (sym (handed .answer) ∙ accepted) form) in
     let e = write-done (r .set) before (d .0) (d .1) in
     let long : w .length ≡ length s = wrote .length ∙ rw (e, made) in
     (long, rw (long, wrote .buffer, e, made) (take-append-seam s (drop (length s) before)))
+
+-- the first byte of the buffer is then a map with bit 7, and with bit 4 unless the kind is 3
+pub written-map : {set : Curves} {before after : List ℕ} {w : Written}
+    → WriteRecordCall set before w after → w .answer ≡ Done
+    → (bit 128 (getD after 0 0) ≡ true)
+    × (bit 16 (getD after 0 0) ≡ not (eqb (kindNumber (set .interpolation)) 3))
+unfolding encode
+written-map {set} {before} wrote done =
+    let d = done-case set before (sym (wrote .answer) ∙ done) in
+    rw (wrote .buffer, write-done set before (d .0) (d .1)) (writer-sets (viewOf set))
 
 -- into a buffer of 522 bytes or more every set is written that passes the check of its lists, and
 -- none is refused with 13

@@ -1,6 +1,6 @@
 -- What the bytes of an accepted record are: the map, the lists that it marks, the kind's byte where
--- it names one, and what the kind carries. So a record is known from its set and from whether it
--- names the kind.
+-- it names one, and what the kind carries. So a record is known from its set, from its bit 7 and
+-- from whether it names the kind.
 use Prim.Native.Nat.{ℕ, suc, _+_, _*_, _/_, _%_, _<_}
 use native.Mathlib.Omega.{arith}
 use mathlib.Core.Path.{_≡_, sym, ap, _∙_}
@@ -13,8 +13,9 @@ use Rattle.lists.specs.Test.{by-test}
 use Rattle.answers.specs.declared.Answer.the-variants.{Done}
 use Rattle.tables.specs.declared.CurveInterpolation.{CurveInterpolation}
 use Rattle.tables.specs.Kinds.{kindNumber, carriesTension, carriesSlopes, kindBits}
-use Rattle.sets.specs.Sets.{View, default}
+use Rattle.sets.specs.Sets.{View}
 use Rattle.records.specs.Map.{bit, carriedBits}
+use Rattle.records.specs.Kinds.{unnamedKind}
 use Rattle.records.specs.Format.{readRecord}
 use Rattle.writing.specs.Encode.{fieldBytes, masterField, carriedBytes, oneIf, bitsUnder, there}
 use Rattle.record_facts.specs.Found.{
@@ -30,14 +31,14 @@ pub plain-carries : (v : CurveInterpolation) → carriesTension (kindNumber v) �
     → carriesSlopes (kindNumber v) ≡ false → carriedBytes v ≡ []
 plain-carries v h i = rw (h, i)
 
--- the record of a set that names its kind, or does not
-unfoldable pub recordNaming : Bool → View → List ℕ
-recordNaming named v =
+-- the record of a set with bit 7, or without it, that names its kind, or does not
+unfoldable pub recordNaming : Bool → Bool → View → List ℕ
+recordNaming newer named v =
     let marks =
     there (masterField (v .master)) ∷ there (v .red) ∷ there (v .green) ∷ there (v .blue) ∷ named
     ∷ [] in
-    (bitsUnder (kindBits (kindNumber (v .kind))) marks ∷ []) ++ fieldBytes (masterField (v .master))
-    ++ fieldBytes (v .red)
+    (bitsUnder (kindBits (kindNumber (v .kind)) + 4 * oneIf newer) marks ∷ [])
+    ++ fieldBytes (masterField (v .master)) ++ fieldBytes (v .red)
     ++ fieldBytes (v .green) ++ fieldBytes (v .blue) ++ kindByte named (v .kind)
     ++ carriedBytes (v .kind)
 
@@ -47,11 +48,13 @@ bit-back n half e =
     by-test (eqb (n % 2) 1) (λ t. rw t (omega (arith, eqb-true (n % 2) 1 t)))
     (λ t. rw t (omega (arith, eqb-false (n % 2) 1 t)))
 
-map-is : (m : ℕ) → m < 256 → bit 128 m ≡ false
-    → bitsUnder (carriedBits m) (bit 1 m ∷ bit 2 m ∷ bit 4 m ∷ bit 8 m ∷ bit 16 m ∷ []) ≡ m
+map-is : (m : ℕ) → m < 256
+    → bitsUnder (carriedBits m + 4 * oneIf (bit 128 m))
+    (bit 1 m ∷ bit 2 m ∷ bit 4 m ∷ bit 8 m ∷ bit 16 m ∷ []) ≡ m
 unfolding bitsUnder
-map-is m small clear =
-    let top : m / 32 % 4 ≡ m / 32 = omega (arith, eqb-false (m / 128 % 2) 1 clear) in
+map-is m small =
+    let top : m / 32 % 4 + 4 * oneIf (bit 128 m) ≡ m / 32 =
+    omega (arith, bit-back (m / 128) 0 (omega arith)) in
     rw (
       top,
       bit-back (m / 16) (m / 32) (omega arith),
@@ -62,15 +65,15 @@ map-is m small clear =
     (omega (arith, bit-back (m / 1) (m / 2) (omega arith)))
 
 module _ (m : ℕ) (s : List ℕ) (v : View) (f : Fields m v s) where
-  fields-length : suc (length s) ≡ length (recordNaming (bit 16 m) v)
+  fields-length : suc (length s) ≡ length (recordNaming (bit 128 m) (bit 16 m) v)
   unfolding recordNaming
   fields-length =
       rw (f .bytes, f .lists .bytes, f .kind .bytes)
       (simp length-append (omega (arith, f .kind .carried .long)))
 
-  fields-is : AllBytes (m ∷ s) → bit 128 m ≡ false → m ∷ s ≡ recordNaming (bit 16 m) v
+  fields-is : AllBytes (m ∷ s) → m ∷ s ≡ recordNaming (bit 128 m) (bit 16 m) v
   unfolding recordNaming
-  fields-is h clear =
+  fields-is h =
       let same = carried-same f (bytes-rest m s h) .0 in
       rw (
         f .lists .master,
@@ -78,7 +81,7 @@ module _ (m : ℕ) (s : List ℕ) (v : View) (f : Fields m v s) where
         f .lists .green,
         f .lists .blue,
         ← f .kind .agreed,
-        map-is m (h .byte 0) clear,
+        map-is m (h .byte 0),
       )
       (ap (λ (t : List ℕ). m ∷ t)
       (f .bytes
@@ -87,13 +90,15 @@ module _ (m : ℕ) (s : List ℕ) (v : View) (f : Fields m v s) where
 
 -- ---- an accepted record
 module _ (m : ℕ) (s : List ℕ) (e : readRecord (m ∷ s) .answer ≡ Done) where
-  -- where it names no kind, the kind is the default
-  pub unnamed-kind : bit 16 m ≡ false
-      → kindNumber (readRecord (m ∷ s) .set .kind) ≡ kindNumber default
-  unnamed-kind = accepted m s e .1 .kind .unnamed
+  abbrev set : View
+  set = readRecord (m ∷ s) .set
 
-  pub record-length : suc (length s) ≡ length (recordNaming (bit 16 m) (readRecord (m ∷ s) .set))
-  record-length = fields-length m s (readRecord (m ∷ s) .set) (accepted m s e .1)
+  -- where it names no kind, bit 7 tells it
+  pub unnamed-kind : bit 16 m ≡ false → set .kind ≡ unnamedKind (bit 128 m)
+  unnamed-kind = accepted m s e .kind .unnamed
 
-  pub record-is : AllBytes (m ∷ s) → m ∷ s ≡ recordNaming (bit 16 m) (readRecord (m ∷ s) .set)
-  record-is h = fields-is m s (readRecord (m ∷ s) .set) (accepted m s e .1) h (accepted m s e .0)
+  pub record-length : suc (length s) ≡ length (recordNaming (bit 128 m) (bit 16 m) set)
+  record-length = fields-length m s set (accepted m s e)
+
+  pub record-is : AllBytes (m ∷ s) → m ∷ s ≡ recordNaming (bit 128 m) (bit 16 m) set
+  record-is = fields-is m s set (accepted m s e)

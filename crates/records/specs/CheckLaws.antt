@@ -28,13 +28,16 @@ use Rattle.answers.specs.Checks.{
   AllPassed,
   all-passed,
 }
+use Rattle.tables.specs.declared.CurveInterpolation.{CurveInterpolation}
 use Rattle.tables.specs.Kinds.{kindNumber, lastKind, carriesTension, carriesSlopes}
+use Rattle.tables.specs.KindLaws.{number-known}
 use Rattle.sets.specs.declared.Colour.the-variants.{Red, Green, Blue}
-use Rattle.sets.specs.Sets.{View, emptyView, default}
+use Rattle.sets.specs.Sets.{View, emptyView}
 use Rattle.records.specs.Parse.{Parse, good, refused, _▷_, checked}
 use Rattle.records.specs.Map.{bit}
 use Rattle.records.specs.PointLists.{pointBytes, pairs, readPoints, readList, readField}
 use Rattle.records.specs.Kinds.{
+  unnamedKind,
   kindCheck,
   bitsCheck,
   readTension,
@@ -186,15 +189,16 @@ agreed-read : (m k : ℕ) (s : List ℕ)
     (drop (carriedLength k) s) (readAgreed m k s)
 agreed-read m k s = checked-read (bitsCheck m k ∷ []) (carried-read k s)
 
-kind-read : (present : Bool) (m : ℕ) (s : List ℕ)
-    → Reads (kindChecks present m s) (afterKind present s)
-    (readNumber default present s ▷ readAgreed m)
+kind-read : (unnamed : CurveInterpolation) (present : Bool) (m : ℕ) (s : List ℕ)
+    → Reads (kindChecks unnamed present m s) (afterKind unnamed present s)
+    (readNumber unnamed present s ▷ readAgreed m)
 unfolding readNumber
-kind-read false m s =
-    checked-read (RecordTruncated when false ∷ kindCheck (kindNumber default) ∷ [])
-    (agreed-read m (kindNumber default) s)
-kind-read true m [] = record { answer = refl; goes-on = refl }
-kind-read true m (k ∷ s) =
+kind-read unnamed false m s =
+    rw (le-ltb lastKind (kindNumber unnamed) (number-known unnamed))
+    (checked-read (RecordTruncated when false ∷ UnknownKind when false ∷ [])
+    (agreed-read m (kindNumber unnamed) s))
+kind-read unnamed true m [] = record { answer = refl; goes-on = refl }
+kind-read unnamed true m (k ∷ s) =
     by-test (ltb lastKind k) (λ t. rw t (record { answer = refl; goes-on = refl }))
     (λ t.
     rw t (checked-read (RecordTruncated when false ∷ UnknownKind when false ∷ [])
@@ -206,23 +210,25 @@ end-read v [] = checked-read (TrailingBytes when false ∷ []) (reads-on v [])
 end-read v (b ∷ s) = record { answer = refl; goes-on = refl }
 
 -- the fields in their order
-fields-read : (m : ℕ) (s : List ℕ) → Reads (mapChecks m s) [] (readFields default m s)
+fields-read : (m : ℕ) (s : List ℕ)
+    → Reads (mapChecks m s) [] (readFields (unnamedKind (bit 128 m)) m s)
 unfolding readFields readKind
 fields-read m s =
     let red = afterField (bit 1 m) s in
     let green = afterField (bit 2 m) red in
     let blue = afterField (bit 4 m) green in
     let kind = afterField (bit 8 m) blue in
+    let unnamed = unnamedKind (bit 128 m) in
     reads-then endStep
-    (reads-then (kindStep default m)
+    (reads-then (kindStep unnamed m)
     (reads-then (colourStep Blue m)
     (reads-then (colourStep Green m)
     (reads-then (colourStep Red m) (step-read _ (field-read (bit 1 m) 1 s))
     (λ v. step-read _ (field-read (bit 2 m) 0 red)))
     (λ v. step-read _ (field-read (bit 4 m) 0 green)))
     (λ v. step-read _ (field-read (bit 8 m) 0 blue)))
-    (λ v. step-read _ (kind-read (bit 16 m) m kind)))
-    (λ v. end-read v (afterKind (bit 16 m) kind))
+    (λ v. step-read _ (kind-read unnamed (bit 16 m) m kind)))
+    (λ v. end-read v (afterKind unnamed (bit 16 m) kind))
 
 result-answer : {cs : List Check} {p : Parse View} → Reads cs [] p
     → result p .answer ≡ firstRefusal cs
@@ -232,7 +238,7 @@ result-answer {p = refused a} f = f .answer
 pub read-answer : (s : List ℕ) → readRecord s .answer ≡ firstRefusal (recordChecks s)
 unfolding readRecord
 read-answer [] = refl
-read-answer (m ∷ s) = by-test (bit 128 m) (λ t. rw t) (λ t. rw t (result-answer (fields-read m s)))
+read-answer (m ∷ s) = result-answer (fields-read m s)
 
 -- ---- a refused record holds nothing
 result-empty : (p : Parse View) → isDone (result p .answer) ≡ false → result p .set ≡ emptyView
@@ -243,5 +249,4 @@ pub read-empty : (s : List ℕ) → isDone (readRecord s .answer) ≡ false
     → readRecord s .set ≡ emptyView
 unfolding readRecord
 read-empty [] e = refl
-read-empty (m ∷ s) e =
-    by-test (bit 128 m) (λ t. rw t) (λ t. rw t (result-empty (readFields default m s) (rw t at e)))
+read-empty (m ∷ s) e = result-empty (readFields (unnamedKind (bit 128 m)) m s) e

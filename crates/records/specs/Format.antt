@@ -7,22 +7,17 @@ use mathlib.Core.List.{List, [], _∷_}
 use mathlib.Core.Bool.{Bool, cond}
 use mathlib.Core.Option.{Option, none, some}
 use Rattle.answers.specs.declared.Answer.{Answer}
-use Rattle.answers.specs.declared.Answer.the-variants.{
-  Done,
-  ReservedBit,
-  RecordTruncated,
-  TrailingBytes,
-}
+use Rattle.answers.specs.declared.Answer.the-variants.{Done, RecordTruncated, TrailingBytes}
 use Rattle.points.specs.declared.Point.{Point}
 use Rattle.points.specs.Points.{limit}
 use Rattle.tables.specs.declared.CurveInterpolation.{CurveInterpolation}
 use Rattle.sets.specs.declared.Colour.{Colour}
 use Rattle.sets.specs.declared.Colour.the-variants.{Red, Green, Blue}
-use Rattle.sets.specs.Sets.{View, emptyView, default, withMaster, withColour, withKind}
+use Rattle.sets.specs.Sets.{View, emptyView, withMaster, withColour, withKind}
 use Rattle.records.specs.Parse.{Parse, good, refused, _▷_}
 use Rattle.records.specs.Map.{bit, colourBit}
 use Rattle.records.specs.PointLists.{pointBytes, readField}
-use Rattle.records.specs.Kinds.{readKind}
+use Rattle.records.specs.Kinds.{unnamedKind, readKind}
 
 -- ---- the fields in their order, each replacing one member of the set
 -- a master has at least one point: refusal 3 otherwise
@@ -46,7 +41,7 @@ abbrev pub endStep : View → List ℕ → Parse View
 endStep v [] = good v []
 endStep v (b ∷ s) = refused TrailingBytes
 
--- "from bit 0": the fields after the map m
+-- "from bit 0": the fields after the map m, unnamed being the kind where it names none
 unfoldable pub readFields : CurveInterpolation → ℕ → List ℕ → Parse View
 readFields unnamed m s =
     good emptyView s ▷ masterStep m ▷ colourStep Red m ▷ colourStep Green m ▷ colourStep Blue m ▷
@@ -62,11 +57,10 @@ abbrev pub result : Parse View → Read
 result (good v s) = record { answer = Done; set = v }
 result (refused a) = record { answer = a; set = emptyView }
 
--- a record without its map is refused with 2, one with bit 7 with 1
+-- a record without its map is refused with 2
 unfoldable pub readRecord : List ℕ → Read
 readRecord [] = result (refused RecordTruncated)
-readRecord (m ∷ s) =
-    cond (bit 128 m) (result (refused ReservedBit)) (result (readFields default m s))
+readRecord (m ∷ s) = result (readFields (unnamedKind (bit 128 m)) m s)
 
 -- ---- its length
 -- the most bytes of a list: its count and as many points as a list may have

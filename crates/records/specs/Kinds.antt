@@ -9,6 +9,7 @@ use lib.IntN.{ℤ, pos, negsuc}
 use Rattle.answers.specs.declared.Answer.the-variants.{RecordTruncated, UnknownKind, FieldMismatch}
 use Rattle.answers.specs.Checks.{Check, _when_}
 use Rattle.tables.specs.declared.CurveInterpolation.{CurveInterpolation}
+use Rattle.tables.specs.declared.CurveInterpolation.the-variants.{MonotoneCubic, MonotoneCubicBox}
 use Rattle.tables.specs.Kinds.{kindNumber, lastKind, kindOf}
 use Rattle.tables.specs.Kinds.{carriesTension, carriesSlopes, kindBits}
 use Rattle.records.specs.Parse.{Parse, good, refused, _▷_, checked}
@@ -21,6 +22,13 @@ signed16 n = cond (ltb n 32768) (pos n) (negsuc (65535 - n))
 -- "low byte first"
 abbrev pub storedSlope : ℕ → ℕ → ℤ
 storedSlope low high = signed16 (low + high * 256)
+
+-- The kind of a record that names none, by its bit 7: records without it "relied on kind 2"; bit 7
+-- says "new default": "with it, a missing kind means 3". Stored records keep what they mean: this
+-- is not the default of new sets, which may change again.
+abbrev pub unnamedKind : Bool → CurveInterpolation
+unnamedKind false = MonotoneCubic
+unnamedKind true = MonotoneCubicBox
 
 -- 5: "The kind byte is above 9"
 abbrev pub kindCheck : ℕ → Check

@@ -3,7 +3,7 @@ ghost use mathlib.Core.Path.{_≡_};
 ghost use mathlib.Core.List.{[], _∷_};
 ghost use lib.ListN.{drop};
 ghost use Rattle.answers.specs.Checks.{firstRefusal};
-ghost use Rattle.records.specs.Kinds.{storedSlope, kindCheck, readNumber};
+ghost use Rattle.records.specs.Kinds.{unnamedKind, storedSlope, kindCheck, readNumber};
 ghost use Rattle.records.specs.Kinds.{readTension, readSlopes, readCarried, readKind};
 ghost use Rattle.records.specs.Views.{numberParsed, kindParsed};
 use crate::map::has_bit;
@@ -34,6 +34,17 @@ fn no_number(refusal: Answer) -> NumberRead
         answer: refusal,
         next: 0,
         number: 0,
+    }
+}
+
+// The kind of a record that names none: 3 where its bit 7 says "new default", 2 without it.
+pub fn unnamed_kind(newer: bool) -> CurveInterpolation
+    ensures { λ r. ⌜ r ≡ unnamedKind newer ⌝ }
+{
+    if newer {
+        CurveInterpolation::MonotoneCubicBox
+    } else {
+        CurveInterpolation::MonotoneCubic
     }
 }
 

@@ -12,6 +12,7 @@ ghost use Rattle.records.specs.Format.{readFields, result};
 ghost use Rattle.records.specs.Views.{setParsed, ReadOn, HandedBack, ReadRecordCall};
 use answers::Answer;
 use kinds::read_kind;
+use kinds::unnamed_kind;
 use map::colour_bit;
 use map::has_bit;
 use point_lists::read_field;
@@ -155,8 +156,5 @@ pub fn read_record(s: &[u8]) -> RecordRead
         return no_record(Answer::RecordTruncated);
     }
     let map = s[0];
-    if has_bit(map, 128) {
-        return no_record(Answer::ReservedBit);
-    }
-    read_fields(s, 1, map, Curves::DEFAULT_INTERPOLATION)
+    read_fields(s, 1, map, unnamed_kind(has_bit(map, 128)))
 }

@@ -12,15 +12,15 @@ use Rattle.points.specs.declared.Point.{Point}
 use Rattle.points.specs.declared.Curve.{Curve}
 use Rattle.points.specs.Points.{listOf, rises, listChecks}
 use Rattle.tables.specs.declared.CurveInterpolation.{CurveInterpolation}
-use Rattle.tables.specs.declared.CurveInterpolation.the-variants.{MonotoneCubic}
+use Rattle.tables.specs.declared.CurveInterpolation.the-variants.{MonotoneCubicBox}
 use Rattle.sets.specs.declared.Channel.{Channel}
 use Rattle.sets.specs.declared.Colour.{Colour}
 use Rattle.sets.specs.declared.Colour.the-variants.{Red, Green, Blue}
 use Rattle.sets.specs.declared.Curves.{Curves}
 
--- "Default 2"
+-- "MonotoneCubicBox (3) as the default for new sets"
 abbrev pub default : CurveInterpolation
-default = MonotoneCubic
+default = MonotoneCubicBox
 
 -- ---- what a set is
 -- "A set is a master, three optional colours and a kind"

@@ -90,8 +90,8 @@ impl Channel {
 }
 
 impl Curves {
-    // The kind of a set that names none.
-    pub const DEFAULT_INTERPOLATION: CurveInterpolation = CurveInterpolation::MonotoneCubic;
+    // The kind of a new set. What a record that names none means is `records::unnamed_kind`.
+    pub const DEFAULT_INTERPOLATION: CurveInterpolation = CurveInterpolation::MonotoneCubicBox;
 
     // The set of this master alone, of the default kind.
     pub fn new(master: Curve) -> Curves

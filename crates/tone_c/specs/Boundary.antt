@@ -120,7 +120,7 @@ runOf asked set = record {
   lent = asked .lent;
 }
 
--- 1 to 7 of the record, whose lists have then passed 3 and 4; 8 of the format's number, then 8 to
+-- 2 to 7 of the record, whose lists have then passed 3 and 4; 8 of the format's number, then 8 to
 -- 13 of the set call
 abbrev pub tonePictureChecks : PictureAsked → List Check
 tonePictureChecks asked =
@@ -145,7 +145,7 @@ pub record TonePictureCall (asked : PictureAsked) (r : ℕ) (after : Outputs) : 
   pub run : r ≡ 0 → PictureRun asked after
 
 -- ---- tone_record_table
--- 1 to 7 of the record, then 13: the table is 256 bytes
+-- 2 to 7 of the record, then 13: the table is 256 bytes
 abbrev pub toneRecordTableChecks : List ℕ → ℕ → List Check
 toneRecordTableChecks stored held = recordChecks stored ++ roomCheck 256 held ∷ []
 
@@ -161,7 +161,7 @@ pub record ToneRecordTableCall (stored old : List ℕ) (r : ℕ) (new : List ℕ
 abbrev pub copyOf : List ℕ → List ℕ
 copyOf stored = encode (setOf stored)
 
--- 1 to 7 of the record, then 13
+-- 2 to 7 of the record, then 13
 abbrev pub toneRecordCopyChecks : List ℕ → ℕ → List Check
 toneRecordCopyChecks stored held =
     recordChecks stored ++ roomCheck (length (copyOf stored)) held ∷ []

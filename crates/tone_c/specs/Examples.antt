@@ -45,9 +45,9 @@ use Rattle.tone_c.specs.Boundary.{
 use Rattle.tone_c.specs.Version.{version}
 
 -- ---- the version
--- the first one
-pub first-version : version ≡ 1
-first-version = refl
+-- the second: the default kind, and bit 7 of a record
+pub this-version : version ≡ 2
+this-version = refl
 
 -- ---- a curve that is given
 pub odd-byte : pairsOf (10 ∷ 5 ∷ 0 ∷ 0 ∷ 77 ∷ []) ≡ pt 10 5 ∷ pt 0 0 ∷ []
@@ -162,10 +162,13 @@ pub record-table-order : (firstRefusal (toneRecordTableChecks longer 255) ≡ Tr
     × (firstRefusal (toneRecordTableChecks empty 256) ≡ Done)
 record-table-order = (refl, refl, refl)
 
--- the default kind, where a record names it, is left out of the copy: 1 byte for 2
+-- the copy of a record that names kind 3 leaves it out, 1 byte for 2; that of one without bit 7 that
+-- names no kind names kind 2, 2 bytes for 1
 pub record-copy-order : (firstRefusal (toneRecordCopyChecks longer 0) ≡ TrailingBytes)
     × (firstRefusal (toneRecordCopyChecks empty 1) ≡ OutputTooSmall)
     × (firstRefusal (toneRecordCopyChecks empty 2) ≡ Done)
-    × (firstRefusal (toneRecordCopyChecks (0x10 ∷ 2 ∷ []) 1) ≡ Done)
+    × (firstRefusal (toneRecordCopyChecks (0x10 ∷ 3 ∷ []) 1) ≡ Done)
+    × (firstRefusal (toneRecordCopyChecks (0x00 ∷ []) 1) ≡ OutputTooSmall)
+    × (firstRefusal (toneRecordCopyChecks (0x00 ∷ []) 2) ≡ Done)
 unfolding readRecord readFields readKind readNumber readCarried encode bitsUnder kindOf
-record-copy-order = (refl, refl, refl, refl)
+record-copy-order = (refl, refl, refl, refl, refl, refl)

@@ -5,6 +5,6 @@ use Prim.Native.Nat.{ℕ}
 -- arguments, a call taken away, a number that means something else or a new one (a kind, a format,
 -- a refusal), another default kind, another limit, a record that is read or written otherwise. A
 -- new call beside the old ones and a quicker one that answers the same leave it as it is.
--- TONE_VERSION of bindings/c/tone.h and VERSION of bindings/rust/src/lib.rs change with it.
+-- TONE_VERSION of bindings/c/tone.h and VERSION of bindings/rust/src/version.rs change with it.
 abbrev pub version : ℕ
-version = 1
+version = 2

@@ -32,7 +32,7 @@ mod given;
 pub extern "C" fn tone_version() -> u32
     ensures { λ r. ⌜ r ≡ version ⌝ }
 {
-    1
+    2
 }
 
 // Writes the byte table of the curve through the points, x, y pairs in any order, to the front of

@@ -1,5 +1,6 @@
 -- The record of a set, edition 1, byte by byte, and what the writer leaves in a lent buffer, as
--- document 01's sections "Stored record" and "When a call says no" have them. Definitions only.
+-- document 01's sections "Stored record" and "When a call says no" and document 02's U1 have them.
+-- Definitions only.
 use Prim.Native.Nat.{ℕ, _+_, _-_, _*_, _/_, _%_}
 use mathlib.Core.List.{List, [], _∷_, _++_}
 use mathlib.Core.Bool.{Bool, true, false, cond, not}
@@ -16,7 +17,8 @@ use Rattle.points.specs.declared.Point.{Point}
 use Rattle.tables.specs.declared.CurveInterpolation.{CurveInterpolation}
 use Rattle.tables.specs.Kinds.{kindNumber, carriesTension, carriesSlopes, kindBits, carriedOf}
 use Rattle.sets.specs.declared.Curves.{Curves}
-use Rattle.sets.specs.Sets.{View, viewOf, default, curveChecks, setChecks}
+use Rattle.sets.specs.Sets.{View, viewOf, curveChecks, setChecks}
+use Rattle.records.specs.Kinds.{unnamedKind}
 
 -- ---- the lists
 -- "x, y pairs"
@@ -35,9 +37,9 @@ masterField [] = none
 masterField (p ∷ ps) = some (p ∷ ps)
 
 -- ---- the kind
--- "The writer leaves the kind out when it is the default"
+-- "The writer sets bit 7 always and leaves the kind out when it is 3", the kind that bit 7 stands for
 abbrev pub namesKind : CurveInterpolation → Bool
-namesKind k = not (eqb (kindNumber k) (kindNumber default))
+namesKind k = not (eqb (kindNumber k) (kindNumber (unnamedKind true)))
 
 abbrev pub kindBytes : CurveInterpolation → List ℕ
 kindBytes k = cond (namesKind k) (kindNumber k ∷ []) []
@@ -74,11 +76,11 @@ abbrev pub there : {A : Type 0} → Option A → Bool
 there none = false
 there (some a) = true
 
--- bits 0 to 4, and above them what the kind says of bits 5 and 6
+-- bits 0 to 4, and above them what the kind says of bits 5 and 6, and bit 7, there worth 4
 abbrev pub mapOf : Option (List Point) → Option (List Point) → Option (List Point)
     → Option (List Point) → CurveInterpolation → ℕ
 mapOf master red green blue k =
-    bitsUnder (kindBits (kindNumber k))
+    bitsUnder (kindBits (kindNumber k) + 4)
     (there master ∷ there red ∷ there green ∷ there blue ∷ namesKind k ∷ [])
 
 -- ---- the record

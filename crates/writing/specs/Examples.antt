@@ -7,34 +7,54 @@ use lib.IntN.{pos, negsuc}
 use Rattle.answers.specs.declared.Answer.the-variants.{Done, PointCount, OutputTooSmall}
 use Rattle.answers.specs.Checks.{firstRefusal}
 use Rattle.points.specs.Points.{straightCurve, risesFrom}
-use Rattle.tables.specs.declared.CurveInterpolation.the-variants.{Linear, Cardinal, ClampedCubic}
+use Rattle.tables.specs.declared.CurveInterpolation.the-variants.{
+  Linear,
+  MonotoneCubic,
+  MonotoneCubicBox,
+  NaturalCubic,
+  Cardinal,
+  ClampedCubic,
+}
 use Rattle.sets.specs.declared.Colour.the-variants.{Green}
 use Rattle.sets.specs.Sets.{emptyView, masterOnly, withColour, withKind}
 use Rattle.sets.specs.Examples.{line, many, falling, four}
 use Rattle.writing.specs.Encode.{pairBytes, bitsUnder, encode, writeChecks}
 
 pub P10-written : encode (withKind Linear (masterOnly straightCurve))
-    ≡ 0x11 ∷ 2 ∷ 0 ∷ 0 ∷ 0xff ∷ 0xff ∷ 0 ∷ []
+    ≡ 0x91 ∷ 2 ∷ 0 ∷ 0 ∷ 0xff ∷ 0xff ∷ 0 ∷ []
 unfolding encode bitsUnder pairBytes
 P10-written = refl
 
--- an empty master and the default kind have no byte but the map
-pub empty-written : encode emptyView ≡ 0 ∷ []
+-- an empty master and kind 3 have no byte but the map
+pub empty-written : encode emptyView ≡ 0x80 ∷ []
 unfolding encode bitsUnder
 empty-written = refl
 
 -- a colour that is present and empty has its count
-pub empty-colour-written : encode (withColour Green (some []) emptyView) ≡ 4 ∷ 0 ∷ []
+pub empty-colour-written : encode (withColour Green (some []) emptyView) ≡ 0x84 ∷ 0 ∷ []
 unfolding encode bitsUnder pairBytes
 empty-colour-written = refl
 
-pub tension-written : encode (withKind (Cardinal 255) emptyView) ≡ 0x30 ∷ 7 ∷ 255 ∷ []
+-- just 3 is left out: the kinds beside it are named
+pub kind-3-left-out : encode (withKind MonotoneCubicBox emptyView) ≡ 0x80 ∷ []
+unfolding encode bitsUnder
+kind-3-left-out = refl
+
+pub kind-2-named : encode (withKind MonotoneCubic emptyView) ≡ 0x90 ∷ 2 ∷ []
+unfolding encode bitsUnder
+kind-2-named = refl
+
+pub kind-4-named : encode (withKind NaturalCubic emptyView) ≡ 0x90 ∷ 4 ∷ []
+unfolding encode bitsUnder
+kind-4-named = refl
+
+pub tension-written : encode (withKind (Cardinal 255) emptyView) ≡ 0xb0 ∷ 7 ∷ 255 ∷ []
 unfolding encode bitsUnder
 tension-written = refl
 
 -- slopes 256 and −32,768, low byte first
 pub slopes-written : encode (withKind (ClampedCubic (pos 256) (negsuc 32767)) emptyView)
-    ≡ 0x50 ∷ 8 ∷ 0 ∷ 1 ∷ 0 ∷ 0x80 ∷ []
+    ≡ 0xd0 ∷ 8 ∷ 0 ∷ 1 ∷ 0 ∷ 0x80 ∷ []
 unfolding encode bitsUnder
 slopes-written = refl
 

@@ -3,7 +3,7 @@ use Prim.Native.Nat.{ℕ, _/_, _%_, _≤_}
 use native.Mathlib.Omega.{arith}
 use mathlib.Core.Path.{_≡_}
 use mathlib.Core.List.{List}
-use mathlib.Core.Bool.{Bool, false}
+use mathlib.Core.Bool.{Bool, true}
 use mathlib.Core.Option.{Option}
 use lib.Dec.{lit≤}
 use Rattle.lists.specs.Test.{by-test}
@@ -34,7 +34,7 @@ module _ (m r g b : Option (List Point)) (k : CurveInterpolation) where
     pub blue : bit 8 (mapOf m r g b k) ≡ there b
     pub kind : bit 16 (mapOf m r g b k) ≡ namesKind k
     pub carried : carriedBits (mapOf m r g b k) ≡ kindBits (kindNumber k)
-    pub reserved : bit 128 (mapOf m r g b k) ≡ false
+    pub newer : bit 128 (mapOf m r g b k) ≡ true
 
   pub map-back : MapBack
   unfolding bitsUnder
@@ -46,7 +46,6 @@ module _ (m r g b : Option (List Point)) (k : CurveInterpolation) where
       let k≤1 = one-at-most (namesKind k) in
       let map = mapOf m r g b k in
       let above = carried-small (kindNumber k) in
-      let none : map / 128 % 2 ≡ 0 = omega arith in
       record {
         master = mark-is 1 map (there m) (omega arith);
         red = mark-is 2 map (there r) (omega arith);
@@ -54,5 +53,5 @@ module _ (m r g b : Option (List Point)) (k : CurveInterpolation) where
         blue = mark-is 8 map (there b) (omega arith);
         kind = mark-is 16 map (namesKind k) (omega arith);
         carried = omega arith;
-        reserved = rw none;
+        newer = mark-is 128 map true (omega arith);
       }

@@ -28,6 +28,7 @@ ghost use Rattle.records.specs.Format.{longest};
 use answers::Answer;
 use answers::room_for;
 use points::Curve;
+use records::kinds::unnamed_kind;
 use sets::Channel;
 use sets::Curves;
 use tables::CurveInterpolation;
@@ -153,12 +154,12 @@ fn unsigned(v: i16) -> u16
     }
 }
 
-// Whether the kind is written: it is not the default.
+// Whether the kind is written: it is not the one that bit 7 stands for.
 fn names_kind(k: CurveInterpolation) -> bool
     ensures { λ r. ⌜ r ≡ namesKind k ⌝ }
 {
-    let default = Curves::DEFAULT_INTERPOLATION;
-    k.number() != default.number()
+    let unnamed = unnamed_kind(true);
+    k.number() != unnamed.number()
 }
 
 // The bit of this weight, where it is set.
@@ -179,7 +180,7 @@ fn master_field(curve: Curve) -> Channel
     }
 }
 
-// The bit map. Bits 5 and 6 go with the kind.
+// The bit map. Bits 5 and 6 go with the kind, bit 7 is always set.
 fn map_byte(master: Channel, set: Curves) -> u8
     ensures { λ r. ⌜
         r ≡ mapOf (channelOf master) (channelOf (set .red)) (channelOf (set .green))
@@ -192,6 +193,7 @@ fn map_byte(master: Channel, set: Curves) -> u8
         + mark(set.blue.present, 8)
         + mark(names_kind(k), 16)
         + kind_bits(k.number()) * 32
+        + 128
 }
 
 // The record of a set whose lists are legal.

@@ -1,4 +1,4 @@
--- `read_record` meets its contract: no map, bit 7, or the fields.
+-- `read_record` meets its contract: no map, or the fields.
 use native.Mathlib.Omega.{arith}
 use lib.ListN.{drop-of-length-le}
 use Rattle.records.specs.Format.{readRecord}
@@ -14,22 +14,12 @@ returns c =
 returns-2 : tie.Need-returns-2
 unfolding readRecord
 returns-2 c =
-    let h = c .before .before in
+    let unnamed = c .before in
+    let newer = unnamed .before in
     rw (
-      drop-at (h .before .before .before .before .args .s .now) 0 (omega arith),
-      ← h .has-bit .ensures,
-      c .before .if2 .taken,
-    )
-    (c .no-record2 .ensures)
-
-returns-3 : tie.Need-returns-3
-unfolding readRecord
-returns-3 c =
-    let h = c .before .before in
-    rw (
-      drop-at (h .before .before .before .before .args .s .now) 0 (omega arith),
-      ← h .has-bit .ensures,
-      c .before .if2 .left,
+      drop-at (newer .before .before .before .before .args .s .now) 0 (omega arith),
+      ← newer .has-bit .ensures,
+      ← unnamed .unnamed-kind .ensures,
     )
     (c .read-fields .ensures)
 
@@ -39,7 +29,5 @@ read-record-spec =
     (tie.spec
     (omega arith)
     returns
-    (omega arith) (omega arith) (omega arith)
-    returns-2
-    (omega arith)
-    returns-3)
+    (omega arith) (omega arith) (omega arith) (omega arith)
+    returns-2)

@@ -8,7 +8,6 @@ use lib.Dec.{lit<}
 use Rattle.answers.specs.declared.Answer.{Answer}
 use Rattle.answers.specs.declared.Answer.the-variants.{
   Done,
-  ReservedBit,
   RecordTruncated,
   PointCount,
   PointsNotRising,
@@ -37,7 +36,6 @@ use Rattle.text.proofs.text_of.Tie as tie
 -- two digits hold every number
 two-digits : (a : Answer) → numberOf a < 100
 two-digits Done = lit< tt
-two-digits ReservedBit = lit< tt
 two-digits RecordTruncated = lit< tt
 two-digits PointCount = lit< tt
 two-digits PointsNotRising = lit< tt

@@ -1,4 +1,4 @@
--- `map_byte`: a sum of marks of the weights 1 to 16, and twice 32 at most.
+-- `map_byte`: a sum of marks of the weights 1 to 16, of twice 32 at most, and of 128.
 use Prim.Native.Nat.{_≤_}
 use native.Mathlib.Omega.{arith}
 use Rattle.writing.specs.Map.{carried-small}
@@ -14,6 +14,9 @@ mul-result c = omega (arith, few c)
 
 add-result-5 : tie.Need-add-result-5
 add-result-5 c = omega (arith, few c)
+
+add-result-6 : tie.Need-add-result-6
+add-result-6 c = omega (arith, few c)
 
 returns : tie.Need-returns
 returns c =
@@ -44,4 +47,5 @@ map-byte-spec =
     (omega arith) (omega arith)
     mul-result
     add-result-5
+    add-result-6
     returns)
