@@ -1,5 +1,6 @@
-/* Holds the archive to what tone.h says of it: the version, limits and sizes, the default kind,
- * what a refusal leaves alone, whose the modes of floating point are, the stack of each call.
+/* Holds the archive to what tone.h says of it: the version, limits and sizes, the kind of a record
+ * that names none, how long a copy is, what a refusal leaves alone, whose the modes of floating
+ * point are, the stack of each call.
  *
  * It prints the stack that was measured. Each fault is a line on standard error, and then the exit
  * code is 1. It is C99 and C++98. */
@@ -141,21 +142,61 @@ static void check_lengths(void)
            "a byte less will not do for it");
 }
 
-/* A record without a kind has the kind that the header calls the default, and no other. */
-static void check_default_kind(void)
+/* A record of this map, a master and no kind is of the kind that is meant, and of no other. */
+static void check_unnamed(uint8_t map, int meant, const char *what)
 {
-    static const uint8_t unnamed[] = {0x01, 4, 0, 0, 50, 50, 70, 210, 255, 255};
+    uint8_t unnamed[] = {0x01, 4, 0, 0, 50, 50, 70, 210, 255, 255};
     uint8_t expected[TONE_TABLE_BYTES];
     int kind;
 
+    unnamed[0] = map;
     expect(tone_record_table(unnamed, sizeof unnamed, expected, sizeof expected) == TONE_DONE,
            "a record without a kind has a table");
     memcpy(points, unnamed + 2, sizeof unnamed - 2);
     for (kind = 0; kind < KINDS; kind++) {
         make_table(4, (uint8_t)kind, sizeof table);
-        expect((memcmp(table, expected, sizeof table) == 0) == (kind == TONE_MONOTONE_CUBIC),
-               "TONE_MONOTONE_CUBIC is the default of a record");
+        expect((memcmp(table, expected, sizeof table) == 0) == (kind == meant), what);
     }
+}
+
+/* A record without a kind has the one that the header says: kind 2, and with bit 7 kind 3. */
+static void check_default_kind(void)
+{
+    check_unnamed(0x01, TONE_MONOTONE_CUBIC,
+                  "a record without bit 7 and kind is of TONE_MONOTONE_CUBIC");
+    check_unnamed(0x81, TONE_MONOTONE_CUBIC_BOX,
+                  "a record with bit 7 and without a kind is of TONE_MONOTONE_CUBIC_BOX");
+}
+
+/* Copies so much of the record; gives how many bytes longer the copy is. */
+static int longer_by(size_t length)
+{
+    expect(tone_record_copy(record, length, copied, sizeof copied, &written) == TONE_DONE,
+           "TONE_LONGEST_RECORD bytes suffice");
+    expect((copied[0] & 0x80) != 0, "a copy has bit 7");
+    return (int)written - (int)length;
+}
+
+/* A copy is as long as its record, but for a record without bit 7 that names no kind, and where
+ * TONE_MONOTONE_CUBIC_BOX was named. */
+static void check_copies(void)
+{
+    size_t length;
+    int kind;
+
+    for (kind = 0; kind < KINDS; kind++) {
+        int expected = kind == TONE_MONOTONE_CUBIC_BOX ? -1 : 0;
+
+        length = make_record((uint8_t)kind);
+        expect(longer_by(length) == expected, "a copy leaves out TONE_MONOTONE_CUBIC_BOX alone");
+        record[0] |= 0x80;
+        expect(longer_by(length) == expected, "and so it does where the record has bit 7");
+    }
+    length = make_record(TONE_LINEAR) - 1;
+    record[0] = 0x0F;
+    expect(longer_by(length) == 1, "without bit 7 and kind a record has a copy one byte longer");
+    record[0] = 0x8F;
+    expect(longer_by(length) == 0, "with bit 7 and without a kind it has one as long");
 }
 
 /* ---- floating point ------------------------------------------------------------------------- */
@@ -381,6 +422,7 @@ int main(void)
     check_limits();
     check_lengths();
     check_default_kind();
+    check_copies();
     check_refused_floats();
     check_rounding();
     check_flush();

@@ -48,17 +48,21 @@ extern "C" {
 
 /* The version of this boundary. It grows with every change that a program linked before would
  * notice: other arguments, other or new numbers, another limit or default, another record. */
-#define TONE_VERSION 1
+#define TONE_VERSION 2
 
 /* The archive's version. If it is not TONE_VERSION, this header does not describe the archive. */
 uint32_t tone_version(void);
 
-/* The kinds of interpolation. */
+/* The kinds of interpolation.
+ *
+ * A record may leave its kind out (bit 4 of its map is off). Then bit 7 says which is meant:
+ * without it TONE_MONOTONE_CUBIC, with it TONE_MONOTONE_CUBIC_BOX. A kind that is named stands,
+ * and bit 7 changes nothing else. */
 enum tone_kind {
     TONE_LINEAR = 0,
     TONE_CATMULL_ROM = 1,
-    TONE_MONOTONE_CUBIC = 2, /* the default of a record */
-    TONE_MONOTONE_CUBIC_BOX = 3,
+    TONE_MONOTONE_CUBIC = 2,     /* of a record without bit 7 that names no kind */
+    TONE_MONOTONE_CUBIC_BOX = 3, /* the default; of a record with bit 7 that names no kind */
     TONE_NATURAL_CUBIC = 4,
     TONE_CENTRIPETAL_CATMULL_ROM = 5,
     TONE_CHORDAL_CATMULL_ROM = 6,
@@ -84,10 +88,10 @@ enum tone_format {
     TONE_YUVJ444P = 11
 };
 
-/* The answers: done, or a refusal. tone_refusal_text has them in words. */
+/* The answers: done, or a refusal. tone_refusal_text has them in words. No call answers 1 any more,
+ * which version 1 had for bit 7 of a record's map. */
 enum tone_answer {
     TONE_DONE = 0,
-    TONE_RESERVED_BIT = 1,
     TONE_RECORD_TRUNCATED = 2,
     TONE_POINT_COUNT = 3,
     TONE_POINTS_NOT_RISING = 4,
@@ -133,8 +137,6 @@ static inline const char *tone_refusal_text(uint8_t answer)
     switch (answer) {
     case TONE_DONE:
         return "done";
-    case TONE_RESERVED_BIT:
-        return "bit 7 of a record's map stands";
     case TONE_RECORD_TRUNCATED:
         return "a record ends before its map or inside a field whose bit stands";
     case TONE_POINT_COUNT:
@@ -216,7 +218,7 @@ uint8_t tone_plane(const uint8_t table[TONE_TABLE_BYTES], uint8_t format, uint32
  * first three. `y` is the first, whatever the format, and row k starts at its byte k * y_step.
  * Where the format has no chroma, u, v, out_u and out_v may have length 0.
  *
- * Refusals: 1 to 7 the record's; 8 Ya8, Cmyk, CmykInverted or a format above 11; 9 a width or
+ * Refusals: 2 to 7 the record's; 8 Ya8, Cmyk, CmykInverted or a format above 11; 9 a width or
  * height above 4,096; 10 no plane, or fewer than three for YUV; 11 a y_step below the row's bytes
  * or above 32,768, also at height 0; 12 a y_length below (height - 1) * y_step + the row's bytes;
  * 13 an output that holds less than would be written to it. */
@@ -229,15 +231,19 @@ uint8_t tone_picture(const uint8_t *record, size_t record_length, uint8_t format
 /* Writes the byte table of a record's master, by the record's kind, to the first 256 bytes of
  * `table`; what is behind them stays.
  *
- * Refusals: 1 to 7 the record's; 13 a table_length below 256. */
+ * Refusals: 2 to 7 the record's; 13 a table_length below 256. */
 uint8_t tone_record_table(const uint8_t *record, size_t record_length, uint8_t *table,
                           size_t table_length);
 
 /* Reads a record and writes the set it holds to the front of `out`, as the present writer has it,
- * and the length to `written`; what is in `out` behind that stays. TONE_LONGEST_RECORD bytes
+ * and the length to `written`; what is in `out` behind that stays.
+ *
+ * The writer sets bit 7 always and leaves the kind out when it is TONE_MONOTONE_CUBIC_BOX. So a
+ * record without bit 7 that names no kind has a copy that is one byte longer, for the copy names
+ * TONE_MONOTONE_CUBIC. No other copy is longer than its record, and TONE_LONGEST_RECORD bytes
  * always suffice.
  *
- * Refusals: 1 to 7 the record's; 13 an out_length below the length that would be written. `written`
+ * Refusals: 2 to 7 the record's; 13 an out_length below the length that would be written. `written`
  * too is unchanged then. */
 uint8_t tone_record_copy(const uint8_t *record, size_t record_length, uint8_t *out,
                          size_t out_length, size_t *written);

@@ -1,12 +1,17 @@
 //! The ten kinds of interpolation.
 
-/// A kind of interpolation, with what Cardinal and ClampedCubic carry.
+/// A kind of interpolation, with what Cardinal and ClampedCubic carry. The default is that of a new
+/// set.
+///
+/// A record may leave its kind out (bit 4 of its map is off). Then bit 7 says which is meant:
+/// without it `MonotoneCubic`, with it `MonotoneCubicBox`. A kind that is named stands, and bit 7
+/// changes nothing else.
 #[derive(Clone, Copy, Debug, Default, PartialEq, Eq)]
 pub enum Kind {
     Linear,
     CatmullRom,
-    #[default]
     MonotoneCubic,
+    #[default]
     MonotoneCubicBox,
     NaturalCubic,
     CentripetalCatmullRom,

@@ -201,6 +201,11 @@ pub fn record_table(record: &[u8], table: &mut [u8]) -> Result<(), Refusal> {
 /// Reads a record and writes the set it holds to the front of `out`, as the present writer has it;
 /// gives the length written.
 ///
+/// The writer sets bit 7 always and leaves the kind out when it is `MonotoneCubicBox`. So a record
+/// without bit 7 that names no kind has a copy that is one byte longer, for the copy names
+/// `MonotoneCubic`. No other copy is longer than its record, and [`LONGEST_RECORD`] bytes always
+/// suffice.
+///
 /// Refusals, in order: the record's; an output too small.
 pub fn record_copy(record: &[u8], out: &mut [u8]) -> Result<usize, Refusal> {
     let mut written = 0;

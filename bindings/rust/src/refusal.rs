@@ -1,12 +1,12 @@
-//! The refusals of document 01, "When a call says no".
+//! The refusals of document 01, "When a call says no", without 1, which document 02 takes away.
 use std::error::Error;
 use std::fmt;
 
-/// Why a call did nothing. Its number is document 01's; later versions may have more of them.
+/// Why a call did nothing. Its number is document 01's; later versions may have more of them. 1 is
+/// no refusal any more: version 1 had it for bit 7 of a record's map.
 #[derive(Clone, Copy, Debug, PartialEq, Eq)]
 #[non_exhaustive]
 pub enum Refusal {
-    ReservedBit,
     RecordTruncated,
     PointCount,
     PointsNotRising,
@@ -25,8 +25,7 @@ pub enum Refusal {
 }
 
 /// Each refusal, in the order of the numbers, in document 01's words.
-const ALL: [(Refusal, &str); 14] = [
-    (Refusal::ReservedBit, "bit 7 of a record's map stands"),
+const ALL: [(Refusal, &str); 13] = [
     (Refusal::RecordTruncated, "a record ends before its map or inside a field whose bit stands"),
     (Refusal::PointCount, "a count of points is above 64, or a record's master count is 0"),
     (Refusal::PointsNotRising, "a record's or set's points don't strictly rise in x"),
@@ -46,14 +45,13 @@ const ALL: [(Refusal, &str); 14] = [
 ];
 
 impl Refusal {
-    /// Each refusal, by its number less one.
-    pub fn all() -> [Refusal; 14] {
+    /// Each refusal, in the order of the numbers.
+    pub fn all() -> [Refusal; 13] {
         ALL.map(|(refusal, _)| refusal)
     }
 
     pub fn number(self) -> u8 {
         match self {
-            Refusal::ReservedBit => 1,
             Refusal::RecordTruncated => 2,
             Refusal::PointCount => 3,
             Refusal::PointsNotRising => 4,
@@ -80,8 +78,11 @@ impl Refusal {
     /// The answer byte of a boundary function: 0, or a refusal's number.
     #[doc(hidden)]
     pub fn check(answer: u8) -> Result<(), Refusal> {
-        let Some(place) = usize::from(answer).checked_sub(1) else { return Ok(()) };
-        Err(ALL.get(place).map_or(Refusal::Unknown(answer), |(refusal, _)| *refusal))
+        if answer == 0 {
+            return Ok(());
+        }
+        let known = Refusal::all().into_iter().find(|refusal| refusal.number() == answer);
+        Err(known.unwrap_or(Refusal::Unknown(answer)))
     }
 }
 

@@ -24,7 +24,7 @@ fn stored(questions: &str, place: usize) -> Vec<u8> {
 #[test]
 fn a_new_number_is_a_new_version() {
     let counts = (tone::VERSION, Kind::NAMES.len(), Format::ALL.len(), Refusal::all().len());
-    assert_eq!(counts, (1, 10, 12, 14), "version, kinds, formats, refusals");
+    assert_eq!(counts, (2, 10, 12, 13), "version, kinds, formats, refusals");
 }
 
 /// What is said in words of numbers above the last.
@@ -120,12 +120,11 @@ fn kinds_of_the_model() {
     let mut table = [0; 256];
     for number in 0..=255 {
         assert_eq!(tone::table(&[], kind(number), &mut table), given(0, number), "kind {number}");
-        let record = [0x10, number];
-        assert_eq!(
-            tone::record_table(&record, &mut table),
-            read(&record).map(|_| ()),
-            "{record:?}"
-        );
+        for map in [0x10, 0x90] {
+            let record = [map, number];
+            let expected = read(&record).map(|_| ());
+            assert_eq!(tone::record_table(&record, &mut table), expected, "{record:?}");
+        }
     }
 }
 

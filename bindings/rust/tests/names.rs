@@ -5,6 +5,7 @@ use tone::{Format, FormatNumber, Kind, KindNumbers, Outputs, Planes, Refusal};
 const HEADER: &str = include_str!("../../c/tone.h");
 const ANSWERS: &str = include_str!("../../../crates/answers/specs/Numbers.antt");
 const KINDS: &str = include_str!("../../../crates/tables/specs/Kinds.antt");
+const SETS: &str = include_str!("../../../crates/sets/specs/Sets.antt");
 const FORMATS: &str = include_str!("../../../crates/formats/specs/Formats.antt");
 const BOUNDARY: &str = include_str!("../../../crates/tone_c/specs/Version.antt");
 
@@ -66,6 +67,14 @@ fn kinds() {
 }
 
 #[test]
+fn the_default_kind() {
+    let name = format!("{:?}", Kind::default());
+    assert!(SETS.contains(&format!("\ndefault = {name}\n")), "{name}");
+    assert!(in_header(&name, " = ").contains("/* the default;"), "{name}");
+    assert_eq!(HEADER.matches("/* the default").count(), 1);
+}
+
+#[test]
 fn formats() {
     for (place, format) in (0..).zip(Format::ALL) {
         assert_eq!(u8::from(format), place);
@@ -101,8 +110,10 @@ fn formats() {
 
 #[test]
 fn refusals() {
-    for (place, refusal) in (1..).zip(Refusal::all()) {
-        assert_eq!(refusal.number(), place);
+    // document 02 took 1 away, and the others kept theirs
+    assert!(Refusal::all().map(Refusal::number).into_iter().eq(2..=14));
+    for refusal in Refusal::all() {
+        let place = refusal.number();
         assert_eq!(refusal.to_string(), format!("refused {place}: {}", refusal.words()));
         let name = format!("{refusal:?}");
         assert_eq!(number(&name), usize::from(place), "{name}");
@@ -125,7 +136,7 @@ fn every_answer_is_taken() {
     for answer in 1..=255 {
         let refusal = Refusal::check(answer).unwrap_err();
         assert_eq!(refusal.number(), answer);
-        assert_eq!(refusal == Refusal::Unknown(answer), answer > 14);
+        assert_eq!(refusal == Refusal::Unknown(answer), answer == 1 || answer > 14);
     }
     let words = Refusal::Unknown(20).words();
     assert_eq!(Refusal::Unknown(20).to_string(), format!("refused 20: {words}"));

@@ -69,6 +69,32 @@ fn a_set_tones_grey_and_luma_by_the_master() {
     assert_eq!((y, u, v), ([7, 7, 99], [5, 6, 8, 99], [9, 99]));
 }
 
+/// A picture of all bytes, toned by the master (0,0), (50,50), (70,210), (255,255) of a record with
+/// this map and what stands behind the list.
+fn toned_by(map: u8, kind: &[u8]) -> [u8; 256] {
+    let record = [&[map, 4, 0, 0, 50, 50, 70, 210, 255, 255], kind].concat();
+    let plane: [u8; 256] = std::array::from_fn(|v| v as u8);
+    let mut out = [0; 256];
+    let (planes, outputs) = (Planes::one(&plane, 256), Outputs::one(&mut out));
+    tone::picture(&record, Format::Gray8, 256, 1, planes, outputs).unwrap();
+    out
+}
+
+/// "Records in the racks without bit 4 relied on kind 2 and must still show kind 2. From now on bit
+/// 7 says "new default": with it, a missing kind means 3."
+#[test]
+fn a_record_without_a_kind_tones_by_kind_2_or_3() {
+    assert_eq!(toned_by(0x01, &[]), toned_by(0x11, &[2]));
+    assert_eq!(toned_by(0x81, &[]), toned_by(0x91, &[3]));
+    assert_ne!(toned_by(0x01, &[]), toned_by(0x81, &[]));
+    // a kind that is named stands, with bit 7 too
+    for kind in [0, 1, 2, 3, 4, 5, 6, 9] {
+        assert_eq!(toned_by(0x11, &[kind]), toned_by(0x91, &[kind]), "kind {kind}");
+    }
+    assert_eq!(toned_by(0x31, &[7, 100]), toned_by(0xB1, &[7, 100]));
+    assert_eq!(toned_by(0x51, &[8, 1, 2, 3, 4]), toned_by(0xD1, &[8, 1, 2, 3, 4]));
+}
+
 #[test]
 fn refusals_of_the_one_table_call_come_in_order() {
     let mut plane = [8; 10];
@@ -116,8 +142,9 @@ fn refusals_of_the_set_call_come_in_order() {
             Outputs::three(&mut y, [&mut u, &mut v]),
         )
     };
-    assert_eq!(ask(&[0x80], 1, (5000, 1), 0, 0), Err(Refusal::ReservedBit));
     assert_eq!(ask(&RECORD[..10], 1, (5000, 1), 0, 0), Err(Refusal::RecordTruncated));
+    assert_eq!(ask(&[0x81], 1, (5000, 1), 0, 0), Err(Refusal::RecordTruncated));
+    assert_eq!(ask(&[0x80], 1, (5000, 1), 0, 0), Err(Refusal::UnsupportedFormat));
     for format in [1, 4, 5, 12, 255] {
         assert_eq!(ask(&RECORD, format, (5000, 1), 0, 0), Err(Refusal::UnsupportedFormat));
     }

@@ -9,27 +9,38 @@ pub struct Set {
     pub kind: Kind,
 }
 
+/// The kind of a record without bit 4, by its bit 7. "Records in the racks without bit 4 relied on
+/// kind 2 and must still show kind 2. From now on bit 7 says "new default": with it, a missing kind
+/// means 3." Stored records keep what they mean, whatever becomes of the default of new sets.
+pub fn unnamed(newer: bool) -> Kind {
+    if newer {
+        Kind::MonotoneCubicBox
+    } else {
+        Kind::MonotoneCubic
+    }
+}
+
+/// Whether a bit of a record's map stands.
+pub fn stands(map: u8, bit: u8) -> bool {
+    map & (1 << bit) != 0
+}
+
 /// "Inside a record 2 to 5 run field by field [..] then 6, and only then 2 for tension or
 /// slopes", and 7 at the end.
 pub fn read(record: &[u8]) -> Result<Set, Refusal> {
     let mut left = record;
     let map = take(&mut left, 1)?[0];
-    let stands = |bit: u8| map & (1 << bit) != 0;
-    if stands(7) {
-        return Err(Refusal::ReservedBit);
-    }
-    // "Bit 0 off: empty master; 1 to 3 off: absent colour, a count of 0 being an empty
-    // one; 4 off: default kind."
+    // "Bit 0 off: empty master; 1 to 3 off: absent colour, a count of 0 being an empty one"
     let mut set = Set::default();
-    if stands(0) {
+    if stands(map, 0) {
         set.master = list(&mut left, 1)?;
     }
     for (colour, bit) in set.colours.iter_mut().zip(1..) {
-        if stands(bit) {
+        if stands(map, bit) {
             *colour = Some(list(&mut left, 0)?);
         }
     }
-    set.kind = kind(&mut left, stands(4), stands(5), stands(6))?;
+    set.kind = kind(&mut left, map)?;
     // "7. Bytes follow the last field."
     match left {
         [] => Ok(set),
@@ -64,8 +75,9 @@ pub fn rises(points: &[u8]) -> bool {
 }
 
 /// "a missing kind byte, 5; then 6, and only then 2 for tension or slopes"
-fn kind(left: &mut &[u8], named: bool, tense: bool, sloped: bool) -> Result<Kind, Refusal> {
-    let number = if named { take(left, 1)?[0] } else { Kind::default().number() };
+fn kind(left: &mut &[u8], map: u8) -> Result<Kind, Refusal> {
+    let number = if stands(map, 4) { take(left, 1)?[0] } else { unnamed(stands(map, 7)).number() };
+    let (tense, sloped) = (stands(map, 5), stands(map, 6));
     if number > 9 {
         return Err(Refusal::UnknownKind);
     }
@@ -91,14 +103,15 @@ fn slope(left: &mut &[u8]) -> Result<i16, Refusal> {
     Ok(if value < 32_768 { value as i16 } else { (value - 65_536) as i16 })
 }
 
-/// "The writer leaves the kind out when it is the default."
+/// "The writer sets bit 7 always and leaves the kind out when it is 3."
 pub fn write(set: &Set) -> Vec<u8> {
-    encode(set, set.kind != Kind::default())
+    encode(set, true, set.kind != unnamed(true))
 }
 
-/// A record of a set, its kind named or not.
-pub fn encode(set: &Set, named: bool) -> Vec<u8> {
-    let mut record = vec![0];
+/// A record with the lists of a set and what its kind carries: with bit 7 or without it, the kind
+/// named or not.
+pub fn encode(set: &Set, newer: bool, named: bool) -> Vec<u8> {
+    let mut record = vec![if newer { 0x80 } else { 0 }];
     if !set.master.is_empty() {
         add_list(&mut record, 0, &set.master);
     }

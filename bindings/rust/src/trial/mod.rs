@@ -14,7 +14,7 @@ pub use lists::{any_list, distinct, kind, rising_list, Question};
 pub use page::{page_questions, statements, Statement};
 pub use pictures::{damaged, shape, Contents};
 pub use random::Random;
-pub use records::{any_record, any_set, legal_record};
+pub use records::{any_record, any_set, full_record, in_full, legal_record};
 
 /// The word after an option of the command line.
 pub fn word(name: &str) -> Option<String> {

@@ -1,6 +1,6 @@
 //! Random sets, and records that are good, damaged or anything.
 use super::{kind, rising_list, Random};
-use crate::model::record::{encode, Set};
+use crate::model::record::{encode, read, stands, unnamed, Set};
 use crate::Kind;
 
 /// A set whose lists rise, with any colours and any kind.
@@ -23,9 +23,25 @@ fn any_rising(random: &mut Random) -> Vec<u8> {
     rising_list(random, count)
 }
 
-/// A record that reads as a set. One of the default kind may name it.
+/// A record that reads as a set: with bit 7 or without it, its kind named or, where it is the one
+/// that is meant then, left out.
 pub fn legal_record(set: &Set, random: &mut Random) -> Vec<u8> {
-    encode(set, set.kind != Kind::default() || random.once_in(2))
+    let newer = random.once_in(2);
+    encode(set, newer, set.kind != unnamed(newer) || random.once_in(2))
+}
+
+/// A record that reads as a set, for a run beside the original: "Runs beside the Rust name the kind
+/// in full." With bit 7 or without it.
+pub fn full_record(set: &Set, random: &mut Random) -> Vec<u8> {
+    encode(set, random.once_in(2), true)
+}
+
+/// The same record with its kind named, or as it is where it is refused.
+pub fn in_full(record: Vec<u8>) -> Vec<u8> {
+    match read(&record) {
+        Ok(set) => encode(&set, stands(record[0], 7), true),
+        Err(_) => record,
+    }
 }
 
 /// A legal record, one with up to three faults, or any bytes.

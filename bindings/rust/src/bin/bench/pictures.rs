@@ -2,7 +2,7 @@
 use super::clock::best;
 use std::cell::RefCell;
 use std::hint::black_box;
-use tone::model::record::{write, Set};
+use tone::model::record::{encode, Set};
 use tone::original::{curves, frame, pixel_format, tonal_lut, PixelFilter, VideoStreamParams};
 use tone::trial::{rising_list, Random};
 use tone::{Format, Kind, Outputs, Planes};
@@ -52,15 +52,15 @@ fn one_table(rounds: u64, format: Format, (width, height): (u32, u32), random: &
     case(&format!("{format:?}, one table"), width, height, &times);
 }
 
-/// Four lists of 8 points, all colours present, the default kind.
+/// Four lists of 8 points, all colours present, MonotoneCubic, which the record names.
 fn by_set(rounds: u64, format: Format, (width, height): (u32, u32), random: &mut Random) {
     let mut list = || rising_list(random, 8);
     let set = Set {
         master: list(),
         colours: [Some(list()), Some(list()), Some(list())],
-        kind: Kind::default(),
+        kind: Kind::MonotoneCubic,
     };
-    let record = write(&set);
+    let record = encode(&set, true, true);
     let row = width as usize * format.bytes_a_pixel();
     let bytes = random.bytes(row * height as usize);
     let chroma = if format.is_yuv() {

@@ -10,8 +10,12 @@
 //! with each pair of ends, a minute or two.
 //!
 //! Where the original has nothing to compare with, records and the checks before a call's work, the
-//! answer expected is that of a second reading of document 01 (`model`). Every slice is lent with
-//! canaries around it, and a refused call must leave all that it was lent as it was.
+//! answer expected is that of a second reading of documents 01 and 02 (`model`). Every slice is
+//! lent with canaries around it, and a refused call must leave all that it was lent as it was.
+//!
+//! "Runs beside the Rust name the kind in full": the original is told each kind, for its default is
+//! another, and a record that is compared with it names its kind. Records that leave theirs out are
+//! compared with the model and with the engine's own tables.
 #[cfg(original)]
 mod pictures;
 #[cfg(original)]

@@ -3,8 +3,8 @@ use super::run::Trial;
 use tone::model::checks::{Answer, Shape};
 use tone::model::record::{self, Set};
 use tone::original::{curves, frame, pixel_format, tonal_lut, PixelFilter, VideoStreamParams};
-use tone::trial::{any_record, any_set, damaged, legal_record, shape, Contents, Lent};
-use tone::{Format, FormatNumber, Outputs, Planes, Refusal};
+use tone::trial::{any_record, any_set, damaged, full_record, in_full, shape, Contents, Lent};
+use tone::{Format, FormatNumber, Kind, Outputs, Planes, Refusal};
 
 /// The one-table call on pictures of every format.
 pub fn one_table(t: &mut Trial) {
@@ -18,7 +18,7 @@ pub fn by_set(t: &mut Trial) {
     let format = set_format(t);
     let shape = shape(format, &mut t.random);
     let set = any_set(&mut t.random);
-    let record = legal_record(&set, &mut t.random);
+    let record = full_record(&set, &mut t.random);
     tone_picture(t, &record, shape);
 }
 
@@ -39,9 +39,9 @@ pub fn refused(t: &mut Trial) {
     tone_plane(t, shape);
     let set = any_set(&mut t.random);
     let record = if t.random.once_in(4) {
-        any_record(&mut t.random)
+        in_full(any_record(&mut t.random))
     } else {
-        legal_record(&set, &mut t.random)
+        full_record(&set, &mut t.random)
     };
     tone_picture(t, &record, shape);
 }
@@ -49,7 +49,7 @@ pub fn refused(t: &mut Trial) {
 /// Every format 4,096 wide and high, and rows 32,768 apart; tight and with the widest padding.
 pub fn at_the_limits(t: &mut Trial) {
     let set = any_set(&mut t.random);
-    let record = legal_record(&set, &mut t.random);
+    let record = full_record(&set, &mut t.random);
     for format in Format::ALL {
         for (width, height, step) in
             [(4096, 4096, 0), (4096, 3, 32_768), (4096, 1, 0), (1, 4096, 0), (7, 300, 32_768)]
@@ -132,8 +132,10 @@ fn any_table(t: &mut Trial) -> [u8; 256] {
     curves::byte_table(&curves::curve(&question.points), question.kind())
 }
 
+/// "Runs beside the Rust name the kind in full": a record that is accepted names its kind.
 fn tone_picture(t: &mut Trial, record: &[u8], shape: Shape) {
     let read = record::read(record);
+    assert!(read.is_err() || record::stands(record[0], 4), "{record:02x?}");
     let expected = read.as_ref().map(|_| ()).map_err(|r| *r).and(shape.picture_answer());
     let contents = Contents::of(&shape, &mut t.random);
     let mut record = Lent::new(record);
@@ -219,7 +221,8 @@ fn refused_there(t: &mut Trial, shape: &Shape, answer: Answer) {
     {
         let params = VideoStreamParams { format: pixel_format(format), width: 0, height: 0 };
         let planes = (0..shape.planes.min(3)).map(|_| (Vec::new(), 0));
-        if curves::set(&Set::default()).apply_pixels(&frame(planes), params).is_ok() {
+        let set = Set { kind: Kind::Linear, ..Set::default() };
+        if curves::set(&set).apply_pixels(&frame(planes), params).is_ok() {
             t.differ(&format_args!("answered {answer:?}, where the original tones: {shape:?}"));
         }
     }

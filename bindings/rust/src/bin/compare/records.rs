@@ -1,4 +1,4 @@
-//! Records beside the model, and their tables beside the original's.
+//! Records beside the model, and the tables of those that name their kind beside the original's.
 use super::run::Trial;
 use tone::boundary::tone_record_copy;
 use tone::model::checks::{self, Answer};
@@ -7,24 +7,35 @@ use tone::original::curves;
 use tone::trial::{any_record, Lent};
 use tone::Refusal;
 
-/// A record of any kind, good or damaged.
+/// A record of any kind, good or damaged, with room or without.
 pub fn any(t: &mut Trial) {
     let record = any_record(&mut t.random);
-    judge(t, &record);
+    let read = record::read(&record);
+    let room = if t.random.once_in(4) { t.random.below(300) } else { 256 + t.random.below(3) };
+    table(t, &record, &read, room);
+    let length = rewritten(&read).len();
+    let room = match t.random.below(4) {
+        0 => t.random.below(length + 1),
+        1 => length.saturating_sub(1),
+        2 => length,
+        _ => length + t.random.below(40),
+    };
+    copy(t, &record, &read, room);
+    t.tally.records += 1;
 }
 
 /// Every record of up to so many bytes. Few are accepted, so all but the
 /// accepted share one set of loans.
 pub fn short(t: &mut Trial, most: usize) {
-    judge(t, &[]);
     let mut walk = Walk::new();
-    for length in 1..=most {
+    for length in 0..=most {
         for bits in 0..1u32 << (8 * length) {
             // the first byte is the highest
             let bytes = bits.to_be_bytes();
             let record = &bytes[4 - length..];
-            match record::read(record) {
-                Ok(_) => judge(t, record),
+            let read = record::read(record);
+            match read {
+                Ok(_) => accepted(t, record, &read),
                 Err(refusal) => walk.refused(t, record, refusal),
             }
         }
@@ -32,19 +43,26 @@ pub fn short(t: &mut Trial, most: usize) {
     walk.end(t);
 }
 
-fn judge(t: &mut Trial, record: &[u8]) {
+/// An accepted record with just the room that it needs, and with a byte less.
+fn accepted(t: &mut Trial, record: &[u8], read: &Result<Set, Refusal>) {
     t.tally.records += 1;
-    let read = record::read(record);
-    table(t, record, &read);
-    copy(t, record, &read);
+    let length = rewritten(read).len();
+    for less in [0, 1] {
+        table(t, record, read, 256 - less);
+        copy(t, record, read, length - less);
+    }
+}
+
+/// What the writer makes of a set, or nothing for a refusal.
+fn rewritten(read: &Result<Set, Refusal>) -> Vec<u8> {
+    read.as_ref().map(record::write).unwrap_or_default()
 }
 
 fn answer_of(read: &Result<Set, Refusal>) -> Answer {
     read.as_ref().map(|_| ()).map_err(|refusal| *refusal)
 }
 
-fn table(t: &mut Trial, record: &[u8], read: &Result<Set, Refusal>) {
-    let room = if t.random.once_in(4) { t.random.below(300) } else { 256 + t.random.below(3) };
+fn table(t: &mut Trial, record: &[u8], read: &Result<Set, Refusal>, room: usize) {
     let expected = answer_of(read).and(checks::table_room(room));
     let mut lent = Lent::new(record);
     let mut table = Lent::new(&vec![t.random.byte(); room]);
@@ -53,23 +71,30 @@ fn table(t: &mut Trial, record: &[u8], read: &Result<Set, Refusal>) {
     t.kept(&lent, 0, &record);
     match read {
         Ok(set) if expected.is_ok() => {
-            let original = curves::byte_table(&curves::curve(&set.master), set.kind);
-            t.same(&table.now()[..256], &original, &record);
+            let named = record::stands(record[0], 4);
+            let made = if named { original(t, set) } else { engines(set) };
+            t.same(&table.now()[..256], &made, &record);
             t.kept(&table, 256, &record);
-            t.tally.entries += 256;
         }
         _ => t.kept(&table, 0, &record),
     }
 }
 
-fn copy(t: &mut Trial, record: &[u8], read: &Result<Set, Refusal>) {
-    let rewritten = read.as_ref().map(record::write).unwrap_or_default();
-    let room = match t.random.below(4) {
-        0 => t.random.below(rewritten.len() + 1),
-        1 => rewritten.len().saturating_sub(1),
-        2 => rewritten.len(),
-        _ => rewritten.len() + t.random.below(40),
-    };
+/// "Runs beside the Rust name the kind in full."
+fn original(t: &mut Trial, set: &Set) -> [u8; 256] {
+    t.tally.entries += 256;
+    curves::byte_table(&curves::curve(&set.master), set.kind)
+}
+
+/// The engine's table of a list and a kind, which other sections hold to the original's.
+fn engines(set: &Set) -> [u8; 256] {
+    let mut table = [0; 256];
+    tone::table(&set.master, set.kind, &mut table).expect("a legal list");
+    table
+}
+
+fn copy(t: &mut Trial, record: &[u8], read: &Result<Set, Refusal>, room: usize) {
+    let rewritten = rewritten(read);
     let fits = if room < rewritten.len() { Err(Refusal::OutputTooSmall) } else { Ok(()) };
     let expected = answer_of(read).and(fits);
     let mut lent = Lent::new(record);

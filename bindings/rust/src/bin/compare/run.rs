@@ -6,6 +6,7 @@ use std::process::exit;
 use std::time::{Duration, Instant};
 use tone::model::checks::Answer;
 use tone::trial::{grouped, option, Element, Lent, Question, Random};
+use tone::Refusal;
 
 /// What was compared so far.
 #[derive(Clone, Copy, Default)]
@@ -84,9 +85,8 @@ impl Trial {
 
     fn conclude(self) {
         println!("all, seed {}: {}", option("--seed", 1), since(Tally::default(), self.tally));
-        let refusals = self.tally.refusals.iter().enumerate().skip(1);
-        let refusals: Vec<String> =
-            refusals.map(|(number, count)| format!("{number}: {}", grouped(*count))).collect();
+        let count = |number: u8| grouped(self.tally.refusals[usize::from(number)]);
+        let refusals = Refusal::all().map(Refusal::number).map(|n| format!("{n}: {}", count(n)));
         println!("refusals by number: {}", refusals.join(", "));
         println!("{} differences", grouped(self.tally.differences));
         if self.tally.differences > 0 {

@@ -4,9 +4,10 @@
 //! of the record's master, 1 by the set), the format, the width, the height, the row step, the
 //! number of planes, and the lengths of the record, of the first plane, of the two chroma planes
 //! and of the tight rows. Then come the record (64 bytes), the first plane (240) and the chroma
-//! planes (24 each), zeros past the lengths. The answer is a line in hexadecimal: the whole plane
-//! of the call by one table; the tight rows of the set call and, of a YUV format, behind a space
-//! each, the chroma planes; or the word `refused`, where the original has the set call fail.
+//! planes (24 each), zeros past the lengths. "Runs beside the Rust name the kind in full": so do
+//! the records. The answer is a line in hexadecimal: the whole plane of the call by one table; the
+//! tight rows of the set call and, of a YUV format, behind a space each, the chroma planes; or the
+//! word `refused`, where the original has the set call fail.
 use super::{hex, Sample};
 use tone::model::record::{encode, Set};
 use tone::original::{curves, frame, pixel_format, tonal_lut, PixelFilter, VideoStreamParams};
@@ -78,7 +79,7 @@ fn set(random: &mut Random) -> Set {
 }
 
 fn bytes_of(question: &Question) -> Vec<u8> {
-    let record = encode(&question.set, true);
+    let record = encode(&question.set, false, true);
     let plane = |k: usize| question.planes.get(k).map_or(&[][..], |p| p);
     let tight = question.width * question.format.bytes_a_pixel() * question.height;
     let lengths = [record.len(), plane(0).len(), plane(1).len(), plane(2).len(), tight];
