@@ -55,6 +55,10 @@ pub names-another : (namesThree (0x10 ∷ 2 ∷ []) ≡ false) × (namesThree (0
 unfolding readRecord readFields readKind readNumber readCarried readTension kindOf
 names-another = (refl, refl, refl, refl, refl)
 
+-- .. nor where every list is there and no kind
+pub every-list : namesThree (0x8f ∷ 1 ∷ 0 ∷ 0 ∷ 0 ∷ 0 ∷ 0 ∷ []) ≡ false
+every-list = refl
+
 -- 2 is left out where neither bit is set, whatever the others are
 pub leaves-two-out : (leavesTwoOut (0x00 ∷ []) ≡ true) × (leavesTwoOut (0x6f ∷ []) ≡ true)
 leaves-two-out = (refl, refl)
@@ -63,14 +67,22 @@ pub leaves-none-out : (leavesTwoOut (0x80 ∷ []) ≡ false) × (leavesTwoOut (0
     × (leavesTwoOut (0x90 ∷ 2 ∷ []) ≡ false) × (leavesTwoOut [] ≡ false)
 leaves-none-out = (refl, refl, refl, refl)
 
--- named in full, the four records of a set of kind 2 or 3 are one
+-- named in full, the three records of a set of kind 2 are one, and so are those of kind 3
 pub two-in-full : (namedInFull (0x01 ∷ 1 ∷ 0 ∷ 7 ∷ []) ≡ 0x91 ∷ 1 ∷ 0 ∷ 7 ∷ 2 ∷ [])
     × (namedInFull (0x11 ∷ 1 ∷ 0 ∷ 7 ∷ 2 ∷ []) ≡ 0x91 ∷ 1 ∷ 0 ∷ 7 ∷ 2 ∷ [])
-two-in-full = (refl, refl)
+    × (namedInFull (0x91 ∷ 1 ∷ 0 ∷ 7 ∷ 2 ∷ []) ≡ 0x91 ∷ 1 ∷ 0 ∷ 7 ∷ 2 ∷ [])
+two-in-full = (refl, refl, refl)
 
 pub three-in-full : (namedInFull (0x81 ∷ 1 ∷ 0 ∷ 7 ∷ []) ≡ 0x91 ∷ 1 ∷ 0 ∷ 7 ∷ 3 ∷ [])
+    × (namedInFull (0x11 ∷ 1 ∷ 0 ∷ 7 ∷ 3 ∷ []) ≡ 0x91 ∷ 1 ∷ 0 ∷ 7 ∷ 3 ∷ [])
     × (namedInFull (0x91 ∷ 1 ∷ 0 ∷ 7 ∷ 3 ∷ []) ≡ 0x91 ∷ 1 ∷ 0 ∷ 7 ∷ 3 ∷ [])
-three-in-full = (refl, refl)
+three-in-full = (refl, refl, refl)
+
+-- by the two bits alone: of a map with bit 7 alone, with every bit but it, with every list
+pub maps-in-full : (namedInFull (0x80 ∷ []) ≡ 0x90 ∷ 3 ∷ [])
+    × (namedInFull (0x7f ∷ []) ≡ 0xff ∷ [])
+    × (namedInFull (0x8f ∷ 1 ∷ 0 ∷ 0 ∷ []) ≡ 0x9f ∷ 1 ∷ 0 ∷ 0 ∷ 3 ∷ [])
+maps-in-full = (refl, refl, refl)
 
 -- the writer makes "80" of "90 03", a byte less, and "90 02" of "00", a byte more
 pub three-left-out : encode (readRecord (0x90 ∷ 3 ∷ []) .set) ≡ 0x80 ∷ []
