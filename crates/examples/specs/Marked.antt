@@ -89,7 +89,8 @@ unfolding Computed.read
 P10-longer b = refl
 
 -- "P11 map 0x80": it "becomes an accepted empty set", of kind 3 ..
-pub P11 : readRecord (0x80 ∷ []) ≡ record { answer = Done; set = withKind MonotoneCubicBox (masterOnly []) }
+pub P11 : readRecord (0x80 ∷ [])
+    ≡ record { answer = Done; set = withKind MonotoneCubicBox (masterOnly []) }
 unfolding Computed.read
 P11 = refl
 

@@ -29,7 +29,8 @@ use Rattle.promises.specs.Checks.{Answers}
 
 -- ---- "MonotoneCubicBox (3) as the default for new sets"
 -- `Curves::new` and `Curves::empty`
-pub new-set : {master : Curve} {r : Curves} → MasterOnly master r → kindNumber (r .interpolation) ≡ 3
+pub new-set : {master : Curve} {r : Curves} → MasterOnly master r
+    → kindNumber (r .interpolation) ≡ 3
 new-set call = ap (λ (v : View). kindNumber (v .kind)) (call .view)
 
 pub empty-set : (r : Curves) → viewOf r ≡ emptyView → kindNumber (r .interpolation) ≡ 3

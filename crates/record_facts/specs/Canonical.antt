@@ -1,8 +1,8 @@
 -- A set has one record, the writer's: same sets write the same bytes, and every record that a
--- reader accepts is what the writer makes of its set, except in bit 7 and in whether it names its
--- kind. "The writer sets bit 7 always and leaves the kind out when it is 3": a record may be without
--- bit 7, name kind 3, or, without bit 7, leave kind 2 out.
-use Prim.Native.Nat.{ℕ, suc, _+_, _*_}
+-- reader accepts is what the writer makes of its set, but for bit 7 and the naming of its kind.
+-- "The writer sets bit 7 always and leaves the kind out when it is 3": a record may be without
+-- bit 7, may name kind 3, or may, without bit 7, leave kind 2 out.
+use Prim.Native.Nat.{ℕ, _+_, _*_}
 use native.Mathlib.Omega.{arith}
 use mathlib.Core.Path.{_≡_, refl, sym, ap, _∙_}
 use mathlib.Core.List.{List, [], _∷_, _++_, append-nil}
@@ -29,16 +29,16 @@ use Rattle.writing.specs.Encode.{
   oneIf,
   bitsUnder,
   namesKind,
-  mapOf,
   carriedBytes,
   encode,
   writeRecord,
 }
-use Rattle.writing.specs.Map.{MapBack, map-back}
-use Rattle.record_facts.specs.Found.{AllBytes, kindByte, unnamed-is}
+use Rattle.writing.specs.Map.{map-back}
+use Rattle.record_facts.specs.Found.{AllBytes, unnamed-is}
 use Rattle.record_facts.specs.Spelling.{
+  mapNaming,
+  bodyNaming,
   recordNaming,
-  plain-carries,
   unnamed-kind,
   record-length,
   record-is,
@@ -93,21 +93,13 @@ encode-is : (v : View) → encode v ≡ recordNaming true (namesKind (v .kind)) 
 unfolding encode recordNaming
 encode-is v = refl
 
--- its map
-abbrev mapFor : View → ℕ
-mapFor v = mapOf (masterField (v .master)) (v .red) (v .green) (v .blue) (v .kind)
-
-map-of : (v : View) → getD (encode v) 0 0 ≡ mapFor v
-unfolding encode
-map-of v = refl
-
-back : (v : View) → MapBack (masterField (v .master)) (v .red) (v .green) (v .blue) (v .kind)
-back v = map-back (masterField (v .master)) (v .red) (v .green) (v .blue) (v .kind)
-
 -- "sets bit 7 always and leaves the kind out when it is 3"
 pub writer-sets : (v : View)
     → (bit 128 (getD (encode v) 0 0) ≡ true) × (bit 16 (getD (encode v) 0 0) ≡ namesKind (v .kind))
-writer-sets v = rw (map-of v) (back v .newer, back v .kind)
+unfolding encode
+writer-sets v =
+    let back = map-back (masterField (v .master)) (v .red) (v .green) (v .blue) (v .kind) in
+    (back .newer, back .kind)
 
 -- the kind that it leaves out
 left-out : (k : CurveInterpolation) → namesKind k ≡ false → k ≡ unnamedKind true
@@ -120,18 +112,10 @@ one-of : (b : Bool) → oneIf b + oneIf (not b) ≡ 1
 one-of true = refl
 one-of false = refl
 
--- its bytes after the map
-abbrev bodyNaming : Bool → View → List ℕ
-bodyNaming named v =
-    fieldBytes (masterField (v .master)) ++ fieldBytes (v .red) ++ fieldBytes (v .green)
-    ++ fieldBytes (v .blue) ++ kindByte named (v .kind) ++ carriedBytes (v .kind)
-
-abbrev map : Bool → Bool → View → ℕ
-map newer named v = getD (recordNaming newer named v) 0 0
-
 full-map : (newer named : Bool) (v : View)
-    → map newer named v + 16 * oneIf (not named) + 128 * oneIf (not newer) ≡ map true true v
-unfolding recordNaming bitsUnder
+    → mapNaming newer named v + 16 * oneIf (not named) + 128 * oneIf (not newer)
+    ≡ mapNaming true true v
+unfolding bitsUnder
 full-map newer named v = omega (arith, one-of newer, one-of named)
 
 full-body : (newer named : Bool) (v : View) → (named ≡ false → v .kind ≡ unnamedKind newer)
@@ -151,21 +135,21 @@ in-full : (m : ℕ) (s : List ℕ) (v : View) → m ∷ s ≡ recordNaming (bit 
     → namedInFull (m ∷ s) ≡ recordNaming true true v
 unfolding recordNaming
 in-full m s v e unnamed =
-    let front : m ≡ map (bit 128 m) (bit 16 m) v = ap (λ (l : List ℕ). getD l 0 0) e in
+    let first : m ≡ mapNaming (bit 128 m) (bit 16 m) v = ap (λ (l : List ℕ). getD l 0 0) e in
     let rest : s ≡ bodyNaming (bit 16 m) v = ap (λ (l : List ℕ). drop 1 l) e in
-    let first : mapInFull m ≡ map true true v =
-    omega (arith, front, full-map (bit 128 m) (bit 16 m) v) in
-    ap (λ (n : ℕ). n ∷ (s ++ byteLeftOut m)) first
-    ∙ ap (λ (l : List ℕ). map true true v ∷ l)
-    (ap (λ (l : List ℕ). l ++ byteLeftOut m) rest
-    ∙ full-body (bit 128 m) (bit 16 m) v unnamed)
+    let map : mapInFull m ≡ mapNaming true true v =
+    omega (arith, first, full-map (bit 128 m) (bit 16 m) v) in
+    let body : s ++ byteLeftOut m ≡ bodyNaming true v =
+    ap (λ (l : List ℕ). l ++ byteLeftOut m) rest ∙ full-body (bit 128 m) (bit 16 m) v unnamed in
+    ap (λ (n : ℕ). n ∷ (s ++ byteLeftOut m)) map ∙ ap (λ (l : List ℕ). mapNaming true true v ∷ l) body
 
 written-in-full : (v : View) → namedInFull (encode v) ≡ recordNaming true true v
 unfolding encode recordNaming
 written-in-full v =
-    let b = back v in
-    in-full (mapFor v) (bodyNaming (namesKind (v .kind)) v) v (rw (b .newer, b .kind))
-    (λ e. rw (b .newer) (left-out (v .kind) (sym (b .kind) ∙ e)))
+    let named = namesKind (v .kind) in
+    let bits = writer-sets v in
+    in-full (mapNaming true named v) (bodyNaming named v) v (rw (bits .0, bits .1))
+    (λ e. rw (bits .0) (left-out (v .kind) (sym (bits .1) ∙ e)))
 
 -- ---- an accepted record
 no-map : readRecord [] .answer ≡ Done → ⊥

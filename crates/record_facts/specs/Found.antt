@@ -253,7 +253,8 @@ pub record KindOf (named : Bool) (m : ℕ) (v : CurveInterpolation) (c : List �
   pub bytes : c ≡ kindByte named v ++ rest
 
 -- no other kind has the number of an unnamed one
-pub unnamed-is : (newer : Bool) (v : CurveInterpolation) → kindNumber v ≡ kindNumber (unnamedKind newer)
+pub unnamed-is : (newer : Bool) (v : CurveInterpolation)
+    → kindNumber v ≡ kindNumber (unnamedKind newer)
     → v ≡ unnamedKind newer
 unfolding kindOf
 unnamed-is false v e = sym (rw e at (kind-carries v))

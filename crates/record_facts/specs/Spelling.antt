@@ -11,8 +11,7 @@ use lib.ListN.{length, length-append}
 use borrow.Author.Tests.{eqb-true, eqb-false}
 use Rattle.lists.specs.Test.{by-test}
 use Rattle.answers.specs.declared.Answer.the-variants.{Done}
-use Rattle.tables.specs.declared.CurveInterpolation.{CurveInterpolation}
-use Rattle.tables.specs.Kinds.{kindNumber, carriesTension, carriesSlopes, kindBits}
+use Rattle.tables.specs.Kinds.{kindNumber, kindBits}
 use Rattle.sets.specs.Sets.{View}
 use Rattle.records.specs.Map.{bit, carriedBits}
 use Rattle.records.specs.Kinds.{unnamedKind}
@@ -27,20 +26,21 @@ use Rattle.record_facts.specs.Found.{
   carried-same,
 }
 
-pub plain-carries : (v : CurveInterpolation) → carriesTension (kindNumber v) ≡ false
-    → carriesSlopes (kindNumber v) ≡ false → carriedBytes v ≡ []
-plain-carries v h i = rw (h, i)
+-- the record of a set with bit 7, or without it, that names its kind, or does not: its map, and the
+-- bytes after that
+abbrev pub mapNaming : Bool → Bool → View → ℕ
+mapNaming newer named v =
+    bitsUnder (kindBits (kindNumber (v .kind)) + 4 * oneIf newer)
+    (there (masterField (v .master)) ∷ there (v .red) ∷ there (v .green) ∷ there (v .blue) ∷ named
+    ∷ [])
 
--- the record of a set with bit 7, or without it, that names its kind, or does not
+abbrev pub bodyNaming : Bool → View → List ℕ
+bodyNaming named v =
+    fieldBytes (masterField (v .master)) ++ fieldBytes (v .red) ++ fieldBytes (v .green)
+    ++ fieldBytes (v .blue) ++ kindByte named (v .kind) ++ carriedBytes (v .kind)
+
 unfoldable pub recordNaming : Bool → Bool → View → List ℕ
-recordNaming newer named v =
-    let marks =
-    there (masterField (v .master)) ∷ there (v .red) ∷ there (v .green) ∷ there (v .blue) ∷ named
-    ∷ [] in
-    (bitsUnder (kindBits (kindNumber (v .kind)) + 4 * oneIf newer) marks ∷ [])
-    ++ fieldBytes (masterField (v .master)) ++ fieldBytes (v .red)
-    ++ fieldBytes (v .green) ++ fieldBytes (v .blue) ++ kindByte named (v .kind)
-    ++ carriedBytes (v .kind)
+recordNaming newer named v = mapNaming newer named v ∷ bodyNaming named v
 
 -- a map is its bits
 bit-back : (n half : ℕ) → half ≡ n / 2 → oneIf (eqb (n % 2) 1) + 2 * half ≡ n

@@ -38,7 +38,6 @@ use Rattle.records.specs.Map.{bit}
 use Rattle.records.specs.PointLists.{pointBytes, pairs, readPoints, readList, readField}
 use Rattle.records.specs.Kinds.{
   unnamedKind,
-  kindCheck,
   bitsCheck,
   readTension,
   readSlopes,

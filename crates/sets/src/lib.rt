@@ -90,7 +90,7 @@ impl Channel {
 }
 
 impl Curves {
-    // The kind of a new set. What a record that names none means is `records::unnamed_kind`.
+    // The kind of a new set. What a record means that names none is `unnamed_kind` of `records`.
     pub const DEFAULT_INTERPOLATION: CurveInterpolation = CurveInterpolation::MonotoneCubicBox;
 
     // The set of this master alone, of the default kind.

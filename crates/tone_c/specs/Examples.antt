@@ -162,8 +162,8 @@ pub record-table-order : (firstRefusal (toneRecordTableChecks longer 255) ≡ Tr
     × (firstRefusal (toneRecordTableChecks empty 256) ≡ Done)
 record-table-order = (refl, refl, refl)
 
--- the copy of a record that names kind 3 leaves it out, 1 byte for 2; that of one without bit 7 that
--- names no kind names kind 2, 2 bytes for 1
+-- the copy of a record that names kind 3 leaves it out, 1 byte for 2; where a record has neither
+-- bit 7 nor a kind, it names kind 2, 2 bytes for 1
 pub record-copy-order : (firstRefusal (toneRecordCopyChecks longer 0) ≡ TrailingBytes)
     × (firstRefusal (toneRecordCopyChecks empty 1) ≡ OutputTooSmall)
     × (firstRefusal (toneRecordCopyChecks empty 2) ≡ Done)

@@ -119,7 +119,8 @@ weighted true w = omega arith
 weighted false w = omega arith
 
 pub map-sum : (a b c d e : Bool) (f : ℕ)
-    → cond a 1 0 + cond b 2 0 + cond c 4 0 + cond d 8 0 + cond e 16 0 + f * 32 + 128 ≡ bitsUnder (f + 4) (a ∷ b ∷ c ∷ d ∷ e ∷ [])
+    → cond a 1 0 + cond b 2 0 + cond c 4 0 + cond d 8 0 + cond e 16 0 + f * 32 + 128
+    ≡ bitsUnder (f + 4) (a ∷ b ∷ c ∷ d ∷ e ∷ [])
 unfolding bitsUnder
 map-sum a b c d e f = omega (arith, weighted b 2, weighted c 4, weighted d 8, weighted e 16)
 

@@ -37,7 +37,7 @@ masterField [] = none
 masterField (p ∷ ps) = some (p ∷ ps)
 
 -- ---- the kind
--- "The writer sets bit 7 always and leaves the kind out when it is 3", the kind that bit 7 stands for
+-- "The writer sets bit 7 always and leaves the kind out when it is 3", for which bit 7 stands
 abbrev pub namesKind : CurveInterpolation → Bool
 namesKind k = not (eqb (kindNumber k) (kindNumber (unnamedKind true)))
 
