@@ -2,10 +2,10 @@
 """A second reading of document 01's "Stored record" and "When a call says no", as document 02's U1
 changes them, and the lists of records that hold the engine to it.
 
-The model of document 01 was written from that paper alone, without a look at the engine's code, and
-U1 was added to it: `read` and `write` below follow the papers' sentences, which stand beside them,
-and share no code with the engine. From it come the two files of the test program
-crates/replay_records:
+The model of document 01 was written from that paper alone, without a look at the engine's code; U1
+was added to it when the engine had it already. `read` and `write` below follow the papers'
+sentences, which stand beside them, and share no code with the engine. From it come the two files of
+the test program crates/replay_records:
 
   stdin   the stored list: for each record its length in two bytes, low byte first, then its bytes
   stdout  what the program must print, a line for each record of the list and one for each map byte
@@ -248,9 +248,10 @@ class Chance:
         ]
 
 
-# Cases worked out by hand: a record, its answer, the set's kind, and the record that the present
-# writer makes of the set. Among them document 01's P10, with a byte more too, and P11, which
-# "becomes an accepted empty set".
+# Cases that do not come from this model: a record, its answer, the set's kind, and the record that
+# the present writer makes of the set. Those of U1 are from an earlier model of it, which is not
+# kept here. Among them document 01's P10, with a byte more too, and P11, which "becomes an accepted
+# empty set".
 CASES = [
     ("", 2, 3, None),
     ("00", 0, 2, "90 02"),

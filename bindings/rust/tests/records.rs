@@ -56,7 +56,8 @@ fn assert_copied(record: &[u8], copy: &[u8]) {
     assert!(out[copy.len()..].iter().all(|b| *b == 9), "{record:02x?}");
 }
 
-/// The model and the archive have the cases that were worked out by hand.
+/// The model and the archive have the cases above, which come from neither: most are from an
+/// earlier model of U1, which is not kept here.
 #[test]
 fn kinds_and_copies() {
     for (record, kind, copy) in ACCEPTED {
