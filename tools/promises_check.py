@@ -3,7 +3,8 @@
 
 A block is a heading `### ..` and a fenced list, one role a line: the role, a file, names in that
 file. A line without a role goes on with the role above it, a line without a file with the file
-above it. The check says, with the line, where
+above it. A word of ASCII with a slash is a file, 𝟏/𝟐𝟓𝟔 is a name. The check says, with the line,
+where
 
   a role is unknown, or a block has no role that can meet a sentence
   a file does not exist: a/B is crates/a/specs/B.antt, else the path is below crates/ or the root
@@ -112,7 +113,7 @@ class Block:
             self.words |= {word, word.rpartition("/")[2]}
             if self.role == "rules out":
                 yield from self.edit(word, named)
-            elif "/" in word:
+            elif "/" in word and word.isascii():
                 self.file = file_of(word) or MISSING
                 if self.file is MISSING:
                     yield f"no file {word}"

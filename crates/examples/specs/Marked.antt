@@ -1,16 +1,18 @@
 -- Document 01's "Marked examples to prove (P)", in its order, each with its line above it, from the
 -- definitions that the contracts cite: whole tables where the example speaks of all entries, the
--- paper's numbers where it names a refusal. P11 is as document 02 changed it.
+-- paper's numbers where it names a refusal. P11 is as document 02 changed it, and P8 also as the
+-- product that document 02 asks for.
 use Prim.Native.Nat.{ℕ}
 use mathlib.Core.Path.{_≡_, refl}
 use mathlib.Core.List.{List, [], _∷_}
 use lib.IntN.{pos, negsuc}
 use lib.ListN.{replicate}
-use lib.Ieee.{binary32, div, ofInt, ofBits, toBits}
+use lib.Ieee.{binary32, mul, div, ofInt, ofBits, toBits}
 use Rattle.lists.specs.Tabulate.{tabulate}
+use Rattle.floats.specs.Notation.{_⊗_}
 use Rattle.answers.specs.declared.Answer.the-variants.{Done}
 use Rattle.answers.specs.Numbers.{numberOf}
-use Rattle.single.specs.Constants.{𝟐}
+use Rattle.single.specs.Constants.{𝟏/𝟐𝟓𝟔, 𝟐}
 use Rattle.single.specs.Root.{rootOf}
 use Rattle.points.specs.Points.{pt, straightCurve}
 use Rattle.spline.specs.Segments.{slopeOf}
@@ -70,6 +72,10 @@ P7 = refl
 pub P8 : slopeOf (negsuc 32767) ≡ ofInt binary32 (negsuc 127)
 unfolding slopeOf div ofInt ofBits
 P8 = refl
+
+pub P8-product : ofInt binary32 (negsuc 32767) ⊗ 𝟏/𝟐𝟓𝟔 ≡ ofInt binary32 (negsuc 127)
+unfolding mul ofInt ofBits
+P8-product = refl
 
 -- "P9 root of 2.0 has bits 0x3FB504F3."
 pub P9 : toBits binary32 (rootOf 𝟐) ≡ 0x3FB5_04F3

@@ -1,16 +1,18 @@
--- Rounding where a slip would show, computed: half-way cases, values below a half, and the signs of
--- zeros. Each word is pinned from both sides: the float that is the nearest, and one that is not.
+-- Rounding where a slip would show, computed: half-way cases, values below a half, the signs of
+-- zeros, and reciprocals. Each word is pinned from both sides: the float that is the nearest, and
+-- one that is not; a reciprocal, and what is none.
 use mathlib.Core.Path.{_≡_, refl}
 use Prim.Native.Nat.{ℕ, _^_, _≤_}
 use native.Mathlib.Omega.{arith}
-use mathlib.Core.Bool.{true, false}
+use mathlib.Core.Bool.{true, false, true≢false}
 use lib.IntN.{pos, negsuc}
 use lib.Dec.{lit<}
-use lib.Ieee.{Float, fin, binary32, round, add, sub, mul, div, fits, toBits}
+use lib.Ieee.{Float, inf, fin, binary32, round, add, sub, mul, div, fits, toBits}
 use Rattle.floats.specs.Notation.{_⊕_, _⊖_, _⊗_, _⊘_}
 use Rattle.floats.specs.Value.{nought}
 use Rattle.floats.specs.Round.{over}
 use Rattle.floats.specs.NearestFloat.{NearestFloat, rounds-nearest}
+use Rattle.floats.specs.Reciprocal.{Reciprocal}
 
 differ : _≡_ {A = ℕ} 0 1 → ⊥
 differ e = omega arith
@@ -80,3 +82,39 @@ minus-zero-times = refl
 pub zero-over-minus-one : nought false ⊘ fin true 1 (pos 0) ≡ nought true
 unfolding div
 zero-over-minus-one = refl
+
+-- ---- reciprocals: −½ is that of −2, and not that of 2
+abbrev −½ : Float
+−½ = fin true 1 (negsuc 0)
+
+pub reciprocal-below : Reciprocal (fin true 1 (pos 1)) −½
+reciprocal-below = (refl, refl)
+
+pub reciprocal-other-sign : Reciprocal (fin false 1 (pos 1)) −½ → ⊥
+reciprocal-other-sign r = true≢false (r .0)
+
+-- 0 is not that of an infinity, and the float nearest to a third is not that of 3: 5 / 3 is another
+-- float than 5 times it. The bits are those that a processor gives
+abbrev 𝟑 : Float
+𝟑 = fin false 3 (pos 0)
+
+abbrev 𝟓 : Float
+𝟓 = fin false 5 (pos 0)
+
+abbrev third : Float
+third = 𝟏 ⊘ 𝟑
+
+pub reciprocal-infinite : Reciprocal (inf false) (nought false) → ⊥
+reciprocal-infinite r = omega (arith, r .1)
+
+pub reciprocal-inexact : Reciprocal 𝟑 third → ⊥
+unfolding div
+reciprocal-inexact r = omega (arith, r .1)
+
+pub times-third : toBits binary32 (𝟓 ⊗ third) ≡ 0x3fd5_5556
+unfolding mul div toBits
+times-third = refl
+
+pub over-three : toBits binary32 (𝟓 ⊘ 𝟑) ≡ 0x3fd5_5555
+unfolding div toBits
+over-three = refl

@@ -3,7 +3,7 @@
 -- says which float a fraction is rounded to and that rounding keeps the order, Exact that it leaves
 -- a value of the format as it is, Unique that such a value is known by its fraction. Ops says what
 -- each operation rounds; from that follow the order (Mono), zeros and one as operands (Zero), the
--- signs (Sign), exact results (Small).
+-- signs (Sign), products in place of quotients (Reciprocal), exact results (Small).
 -- NearestFloat says that rounding gives the nearest float, ties to even, and no other; Closest has
 -- the same of whole numbers, Parity when a significand is even, Distance how far a float is from a
 -- fraction, Overflow where a result is infinite. Error bounds the error of one rounding; Frac
@@ -14,7 +14,7 @@
 -- program computes it, Minus and Position the part of the way gone, Segment how near it is to the
 -- exact line and that it keeps the order, Nearest what that means for the nearest whole number;
 -- Cubic says that a cubic piece has the knot's height at either end. Examples has computed cases of
--- rounding.
+-- rounding and of reciprocals.
 pub mod Notation
 pub mod Signed
 pub mod Value
@@ -26,6 +26,7 @@ pub mod Ops
 pub mod Mono
 pub mod Zero
 pub mod Sign
+pub mod Reciprocal
 pub mod Small
 pub mod Closest
 pub mod Parity

@@ -94,7 +94,7 @@ pub fn draw(
         four(
             knot_at(xs, ys, i),
             c1s[i],
-            ms[i] / 2.0,
+            spline::second_coefficient(ms[i]),
             c3s[i],
             step,
             p.v,

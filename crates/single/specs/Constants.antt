@@ -9,6 +9,9 @@ use Rattle.floats.specs.Value.{Is}
 abbrev pub 𝟎 : Float
 𝟎 = ofBits binary32 0
 
+abbrev pub 𝟏/𝟐𝟓𝟔 : Float
+𝟏/𝟐𝟓𝟔 = ofBits binary32 0x3b80_0000
+
 abbrev pub ½ : Float
 ½ = ofBits binary32 0x3f00_0000
 
@@ -57,6 +60,10 @@ pico = ofBits binary32 0x2b8c_bccc
 pub 𝟎-is : Is 𝟎 0 0 1
 unfolding ofBits
 𝟎-is = (tt, refl)
+
+pub 𝟏/𝟐𝟓𝟔-is : Is 𝟏/𝟐𝟓𝟔 1 0 256
+unfolding ofBits
+𝟏/𝟐𝟓𝟔-is = (tt, refl)
 
 pub ½-is : Is ½ 1 0 2
 unfolding ofBits

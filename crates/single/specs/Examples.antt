@@ -1,10 +1,13 @@
 -- The small rules on single floats where a slip would show, computed: halves, the float just below
--- one, both zeros, and NaN; roots of the smallest and the largest float.
+-- one, both zeros, and NaN; roots of the smallest and the largest float; products with ½ and
+-- 1 / 256, of numbers so small that the result is rounded among others.
 use mathlib.Core.Path.{_≡_, refl}
-use lib.Ieee.{Float, nan, binary32, lt, add, ofBits, toBits}
-use Rattle.floats.specs.Notation.{_⊕_}
+use mathlib.Core.List.{List, [], _∷_, map}
+use Prim.Native.Nat.{ℕ}
+use lib.Ieee.{Float, nan, binary32, lt, add, mul, ofBits, toBits}
+use Rattle.floats.specs.Notation.{_⊕_, _⊗_}
 use Rattle.floats.specs.Value.{Is, absolute}
-use Rattle.single.specs.Constants.{𝟎, ½, 𝟏, 𝟐}
+use Rattle.single.specs.Constants.{𝟎, 𝟏/𝟐𝟓𝟔, ½, 𝟏, 𝟐}
 use Rattle.single.specs.Rules.{clamped, byteOf}
 use Rattle.single.specs.Root.{rootOf}
 
@@ -74,3 +77,24 @@ root-of-unit = refl
 pub root-of-largest : toBits binary32 (rootOf (ofBits binary32 0x7f7f_ffff)) ≡ 0x5f7f_ffff
 unfolding rootOf ofBits toBits
 root-of-largest = refl
+
+-- ---- x / 2 and x / 256 as products, in bits; the bits are those that a processor gives for the
+-- quotients
+abbrev timesBits : Float → List ℕ → List ℕ
+timesBits h l = map (λ (x : ℕ). toBits binary32 (ofBits binary32 x ⊗ h)) l
+
+pub halves : timesBits ½ (
+    1 ∷ 3 ∷ 0x007f_ffff ∷ 0x0080_0001 ∷ 0x8000_0000 ∷ 0x8000_0003 ∷ 0x3f80_0001 ∷ 0x7f7f_ffff
+    ∷ 0x7f80_0000 ∷ 0xff80_0000 ∷ [])
+    ≡ 0 ∷ 2 ∷ 0x0040_0000 ∷ 0x0040_0000 ∷ 0x8000_0000 ∷ 0x8000_0002 ∷ 0x3f00_0001 ∷ 0x7eff_ffff
+    ∷ 0x7f80_0000 ∷ 0xff80_0000 ∷ []
+unfolding mul ofBits toBits
+halves = refl
+
+pub 256ths : timesBits 𝟏/𝟐𝟓𝟔 (
+    0x80 ∷ 0x81 ∷ 0x180 ∷ 0x03ff_ffff ∷ 0x0400_0001 ∷ 0x8000_0000 ∷ 0x8000_0180 ∷ 0x3f80_0001
+    ∷ 0x7f7f_ffff ∷ 0x7f80_0000 ∷ 0xff80_0000 ∷ [])
+    ≡ 0 ∷ 1 ∷ 2 ∷ 0x0040_0000 ∷ 0x0040_0000 ∷ 0x8000_0000 ∷ 0x8000_0002 ∷ 0x3b80_0001
+    ∷ 0x7b7f_ffff ∷ 0x7f80_0000 ∷ 0xff80_0000 ∷ []
+unfolding mul ofBits toBits
+256ths = refl

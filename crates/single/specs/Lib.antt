@@ -1,5 +1,7 @@
 -- each constant under one name, with its value
 pub mod Constants
+-- the quotients by 2 and by 256 as products
+pub mod Products
 -- clamp, to a byte, floor, guarded quotient
 pub mod Rules
 -- their laws

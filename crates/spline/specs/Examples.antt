@@ -1,11 +1,12 @@
--- Few knots: the cases where document 01 says what comes out.
+-- Few knots: the cases where document 01 says what comes out; and slopes as floats.
 use mathlib.Core.Path.{_≡_, refl}
-use mathlib.Core.List.{List}
+use mathlib.Core.List.{List, [], _∷_, map}
 use Prim.Native.Nat.{ℕ}
-use lib.Ieee.{Float}
+use lib.IntN.{ℤ, pos, negsuc}
+use lib.Ieee.{Float, binary32, div, ofInt, ofBits, toBits}
 use Rattle.single.specs.Constants.{𝟎}
 use Rattle.spline.specs.declared.SplineBoundary.the-variants.{Natural, NotAKnot}
-use Rattle.spline.specs.Segments.{segmentAt}
+use Rattle.spline.specs.Segments.{segmentAt, slopeOf}
 use Rattle.spline.specs.Second.{parabola, framed, naturalAt, notAKnotAt, secondAt}
 
 -- ---- not-a-knot: two knots, three knots
@@ -22,3 +23,16 @@ three-knots xs ys i = refl
 pub natural-start : (xs ys : List Float) (n : ℕ) → secondAt xs ys n Natural 0 ≡ 𝟎
 unfolding framed naturalAt secondAt
 natural-start xs ys n = refl
+
+-- ---- slopes, the lowest and the highest among them, in bits: those that a processor gives for the
+-- quotients by 256. In ℤ the number −(n + 1) is negsuc n
+abbrev slopeBits : ℤ → ℕ
+slopeBits q = toBits binary32 (slopeOf q)
+
+pub slopes : map slopeBits (
+    negsuc 32767 ∷ negsuc 32766 ∷ negsuc 0 ∷ pos 0 ∷ pos 1 ∷ pos 255 ∷ pos 256 ∷ pos 257
+    ∷ pos 32767 ∷ [])
+    ≡ 0xc300_0000 ∷ 0xc2ff_fe00 ∷ 0xbb80_0000 ∷ 0 ∷ 0x3b80_0000 ∷ 0x3f7f_0000 ∷ 0x3f80_0000
+    ∷ 0x3f80_8000 ∷ 0x42ff_fe00 ∷ []
+unfolding slopeOf div ofInt ofBits toBits
+slopes = refl

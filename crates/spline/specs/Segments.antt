@@ -27,7 +27,11 @@ segmentAt xs ys i = between (knotAt xs ys i) (knotAt xs ys (i + 1))
 unfoldable pub firstCoefficient : Knot → Knot → Float → Float → Float
 firstCoefficient a b ma mb = let s = between a b in s .secant ⊖ s .width ⊗ (𝟐 ⊗ ma ⊕ mb) ⊘ 𝟔
 
--- c3 = (M' − M) / (6 h); c2 is M / 2
+-- c2 = M / 2
+abbrev pub secondCoefficient : Float → Float
+secondCoefficient ma = ma ⊘ 𝟐
+
+-- c3 = (M' − M) / (6 h)
 abbrev pub thirdCoefficient : Knot → Knot → Float → Float → Float
 thirdCoefficient a b ma mb = (mb ⊖ ma) ⊘ (𝟔 ⊗ (b .x ⊖ a .x))
 
@@ -39,7 +43,8 @@ polynomialFrom a c1 c2 c3 x = let t = x ⊖ a .x in a .y ⊕ c1 ⊗ t ⊕ c2 ⊗
 unfoldable pub splinePiece : Knot → Knot → Float → Float → Float → Float
 splinePiece a b ma mb x =
     cond (tooThin (a .x) (b .x)) (a .y)
-    (polynomialFrom a (firstCoefficient a b ma mb) (ma ⊘ 𝟐) (thirdCoefficient a b ma mb) x)
+    (polynomialFrom a (firstCoefficient a b ma mb) (secondCoefficient ma)
+    (thirdCoefficient a b ma mb) x)
 
 -- "ClampedCubic carries two slopes, signed 16-bit, each divided by 256"
 unfoldable pub slopeOf : ℤ → Float

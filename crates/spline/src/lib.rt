@@ -4,8 +4,12 @@
 ghost use mathlib.Core.Path.{_≡_};
 ghost use Prim.Native.Nat.{_+_, _<_};
 ghost use Rattle.spline.specs.Segments as S;
-ghost use Rattle.spline.specs.Segments.{segmentAt, firstCoefficient, thirdCoefficient};
-ghost use Rattle.spline.specs.Segments.{polynomialFrom, splinePiece, slopeOf};
+ghost use Rattle.spline.specs.Segments.{segmentAt, polynomialFrom, splinePiece, slopeOf};
+ghost use Rattle.spline.specs.Segments.{
+  firstCoefficient,
+  secondCoefficient,
+  thirdCoefficient,
+};
 use points::Knot;
 use points::knot_at;
 use points::too_thin;
@@ -48,13 +52,20 @@ fn segment_at(xs: &[f32; 66], ys: &[f32; 66], i: usize) -> Segment
     between(knot_at(xs, ys, i), knot_at(xs, ys, i + 1))
 }
 
-// The coefficients of t and of its cube in the polynomial of the piece from a to b, t being x -
-// a.x, and ma and mb the second derivatives at a and b.
+// The coefficients of t, of its square and of its cube in the polynomial of the piece from a to b,
+// t being x - a.x, and ma and mb the second derivatives at a and b.
 pub fn first_coefficient(a: Knot, b: Knot, ma: f32, mb: f32) -> f32
     ensures { λ r. ⌜ r ≡ firstCoefficient a b ma mb ⌝ }
 {
     let s = between(a, b);
     s.secant - s.width * (2.0 * ma + mb) / 6.0
+}
+
+// ma / 2 as a product, which has the same bits for every ma.
+pub fn second_coefficient(ma: f32) -> f32
+    ensures { λ r. ⌜ r ≡ secondCoefficient ma ⌝ }
+{
+    ma * 0.5
 }
 
 pub fn third_coefficient(a: Knot, b: Knot, ma: f32, mb: f32) -> f32
@@ -79,13 +90,15 @@ pub fn spline_piece(a: Knot, b: Knot, ma: f32, mb: f32, x: f32) -> f32
         return a.y;
     }
     let c1 = first_coefficient(a, b, ma, mb);
+    let c2 = second_coefficient(ma);
     let c3 = third_coefficient(a, b, ma, mb);
-    polynomial_from(a, c1, ma / 2.0, c3, x)
+    polynomial_from(a, c1, c2, c3, x)
 }
 
-// A slope of a clamped curve, a signed 16-bit number over 256, as a float, in this one place.
+// A slope of a clamped curve, a signed 16-bit number over 256, as a float, in this one place: as a
+// product with 1 / 256, which has the quotient's bits.
 pub fn clamped_slope(q: i16) -> f32
     ensures { λ r. ⌜ r ≡ slopeOf q ⌝ }
 {
-    (q as f32) / 256.0
+    (q as f32) * 0.00390625
 }

@@ -25,7 +25,8 @@ loop-again : tie.Need-loop-again Inv-loop μ-loop
 unfolding splineSample pieceSample pieceHeight splinePiece firstCoefficientAt thirdCoefficientAt
 loop-again c =
     let drawn = c .before .before .before in
-    let knot = drawn .before .before .before in
+    let second = drawn .before .before in
+    let knot = second .before .before in
     let b = knot .before .before .before in
     let p = b .loop .p in
     let state = b .loop .inv .1 in
@@ -36,7 +37,8 @@ loop-again c =
     let on = next (state .room) given (omega arith) (c .next .ensures) in (
       omega arith,
       after-block state on (given .step-is)
-          (stored-as (rw (knot .knot-at .ensures, first, third) at (drawn .four .ensures))
+          (stored-as
+          (rw (knot .knot-at .ensures, first, second .second-coefficient .ensures, third) at (drawn .four .ensures))
           (λ w low high. rw (given .right .wide (p .i) (state .room)))),
     )
 
@@ -49,10 +51,11 @@ draw-spec =
     (λ c κs. (omega arith, omega arith))
     (λ c. (omega arith, start refl (omega arith)))
     (omega arith) (omega arith) (omega arith) (omega arith) (omega arith) (omega arith) (omega arith) (omega arith)
+    (omega arith)
     (λ c κs. (omega arith, omega arith))
     (λ c κs. (omega arith, omega arith))
     (λ c.
-    let b = c .before .before .before .before .before .before .before .before .before in
+    let b = c .before .before .before .before .before .before .before .before .before .before in
     omega (
       arith,
       next (b .loop .inv .1 .room) (b .before .before .before .before .before .pre) (omega arith) (c .next .ensures),
