@@ -3,8 +3,8 @@
 //! `cargo run --release --bin compare -- --seed 1 --seconds 60`: a line for each section, the
 //! totals, the refusals by number, and the count of differences last; exit code 1 if there are any.
 //! The seconds are shared by the sections of random inputs. Before these come all records of up to
-//! three bytes and the largest pictures, some ten seconds more; `--quick`, for a run under
-//! valgrind, has records of up to two bytes and leaves the pictures out.
+//! three bytes, every slope and the largest pictures, some ten seconds more; `--quick`, for a run
+//! under valgrind, has records of up to two bytes and leaves slopes and pictures out.
 //!
 //! `cargo run --release --bin compare -- --exhaustive`: the straight segments instead, each width
 //! with each pair of ends, a minute or two.

@@ -63,6 +63,7 @@ impl Trial {
         let most = if quick { 2 } else { 3 };
         self.section(&format!("all records of up to {most} bytes"), |t| records::short(t, most));
         if !quick {
+            self.section("tables of every slope", tables::every_slope);
             self.section("pictures at the limits", pictures::at_the_limits);
         }
         let shares: u32 = SECTIONS.iter().map(|s| s.1).sum();

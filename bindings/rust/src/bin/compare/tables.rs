@@ -41,6 +41,28 @@ fn same_samples(t: &mut Trial, question: &Question, table: &Lent<f32>) {
     t.tally.samples += samples as u64;
 }
 
+/// Each slope, at the start and at the end of a list that is level at 128, with short segments at
+/// both ends: the samples beside the ends are not clamped, and each slope gives another.
+pub fn every_slope(t: &mut Trial) {
+    let mut before = [-1.0, 256.0];
+    for slope in i16::MIN..=i16::MAX {
+        let now = [slopes(t, slope, 0)[1], slopes(t, 0, slope)[254]];
+        assert!(before[0] < now[0] && now[1] < before[1], "slope {slope} does not show");
+        before = now;
+    }
+}
+
+fn slopes(t: &mut Trial, start_slope: i16, end_slope: i16) -> [f32; 256] {
+    let points = [0, 128, 5, 128, 250, 128, 255, 128];
+    let kind = Kind::ClampedCubic { start_slope, end_slope };
+    let mut samples = [0.0; 256];
+    let answer = tone::fine_table(&points, kind, &mut samples);
+    t.answered(answer, Ok(()), &kind);
+    t.same(&samples, &curves::fine_table(&curves::curve(&points), kind, 256), &kind);
+    t.tally.samples += 256;
+    samples
+}
+
 pub fn lookups(t: &mut Trial) {
     let table = table_to_look_in(t);
     let values: Vec<f32> = (0..t.random.below(2048)).map(|_| value(&mut t.random)).collect();
