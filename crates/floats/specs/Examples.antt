@@ -94,7 +94,7 @@ pub reciprocal-other-sign : Reciprocal (fin false 1 (pos 1)) −½ → ⊥
 reciprocal-other-sign r = true≢false (r .0)
 
 -- 0 is not that of an infinity, and the float nearest to a third is not that of 3: 5 / 3 is another
--- float than 5 times it. The bits are those that a processor gives
+-- float than 5 times it. The bits are a processor's (the test `products` of bindings/rust)
 abbrev 𝟑 : Float
 𝟑 = fin false 3 (pos 0)
 

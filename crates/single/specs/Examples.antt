@@ -78,8 +78,8 @@ pub root-of-largest : toBits binary32 (rootOf (ofBits binary32 0x7f7f_ffff)) ≡
 unfolding rootOf ofBits toBits
 root-of-largest = refl
 
--- ---- x / 2 and x / 256 as products, in bits; the bits are those that a processor gives for the
--- quotients
+-- ---- x / 2 and x / 256 as products, in bits. They are the bits of a processor's quotients: the
+-- test `products` of bindings/rust has the same pairs, and asks the processor for each
 abbrev timesBits : Float → List ℕ → List ℕ
 timesBits h l = map (λ (x : ℕ). toBits binary32 (ofBits binary32 x ⊗ h)) l
 

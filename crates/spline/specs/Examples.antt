@@ -24,8 +24,8 @@ pub natural-start : (xs ys : List Float) (n : ℕ) → secondAt xs ys n Natural 
 unfolding framed naturalAt secondAt
 natural-start xs ys n = refl
 
--- ---- slopes, the lowest and the highest among them, in bits: those that a processor gives for the
--- quotients by 256. In ℤ the number −(n + 1) is negsuc n
+-- ---- slopes, the lowest and the highest among them, in bits: those of a processor's quotients by
+-- 256, which the test `products` of bindings/rust asks for. In ℤ the number −(n + 1) is negsuc n
 abbrev slopeBits : ℤ → ℕ
 slopeBits q = toBits binary32 (slopeOf q)
 
