@@ -1,8 +1,9 @@
 #!/usr/bin/env python3
-"""Says where code divides a float by a power of two, which document 02's U3 wants as a product: the
-older guides' float divide is slow. No contract can say it, for quotient and product have the same
-bits (floats/specs/Reciprocal.antt); so it is said of the text: no divisor is a literal such as 2.0
-or 256.0. Other divisors, 6.0 or 255.0, have no reciprocal among the floats and stay.
+"""Says where code divides a float by a literal power of two, which document 02's U3 wants as a
+product: the older guides' float divide is slow. No contract can say it, for quotient and product
+have the same bits (floats/specs/Reciprocal.antt); so it is said of the text: no divisor is a
+literal such as 2.0 or 256.0. Other literals, 6.0 or 255.0, have no reciprocal among the floats and
+stay. A divisor with a name is not looked at.
 """
 import math
 import pathlib

@@ -1,6 +1,6 @@
 //! Document 02's U3 on this processor: the products that the engine computes have the bits of the
-//! quotients that document 01 names, and the computed cases of `crates/single/specs/Examples.antt`
-//! and `crates/spline/specs/Examples.antt` have the bits that the processor gives.
+//! quotients that document 01 names, and the computed cases of the pages `specs/Examples.antt` of
+//! the crates `floats`, `single` and `spline` have the bits that the processor gives.
 use std::hint::black_box;
 
 /// x and its half, as bits.
