@@ -1,5 +1,5 @@
--- The numbers of document 01, "When a call says no", one for each answer; and that different
--- answers have different numbers, none of them 1, which document 02 took away.
+-- The numbers of document 01, "When a call says no", and of document 02, one for each answer; and
+-- that different answers have different numbers, none of them 1, which document 02 took away.
 use Prim.Native.Nat.{ℕ}
 use native.Mathlib.Omega.{arith}
 use mathlib.Core.Path.{_≡_, refl, sym, ap, _∙_}
@@ -24,6 +24,7 @@ use Rattle.answers.specs.declared.Answer.the-variants.{
   PlaneTooShort,
   OutputTooSmall,
   TableLength,
+  HeightRange,
 }
 
 abbrev pub numberOf : Answer → ℕ
@@ -54,6 +55,9 @@ numberOf PlaneTooShort = 12
 numberOf OutputTooSmall = 13
 -- A float table's length isn't 256 or 4,096 (build) or 4,096 (lookup).
 numberOf TableLength = 14
+-- A height above 65,280 in a list or set, or, when today's record is written, one that isn't a
+-- multiple of 256.
+numberOf HeightRange = 20
 
 abbrev pub isDone : Answer → Bool
 isDone a = eqb (numberOf a) 0
@@ -64,13 +68,13 @@ firstOf a b = cond (isDone a) b a
 
 -- ---- different answers have different numbers
 
--- the answers in the order of their numbers; Done fills the place of 1, which no answer has
+-- the answers in the order of their numbers; Done fills the places of those that no answer has
 abbrev inOrder : List Answer
 inOrder =
     Done ∷ Done ∷ RecordTruncated ∷ PointCount ∷ PointsNotRising ∷ UnknownKind
     ∷ FieldMismatch ∷ TrailingBytes
     ∷ UnsupportedFormat ∷ PictureTooLarge ∷ MissingPlane ∷ RowStep ∷ PlaneTooShort ∷ OutputTooSmall
-    ∷ TableLength ∷ []
+    ∷ TableLength ∷ Done ∷ Done ∷ Done ∷ Done ∷ Done ∷ HeightRange ∷ []
 
 at-number : (a : Answer) → getD inOrder (numberOf a) Done ≡ a
 at-number Done = refl
@@ -87,6 +91,7 @@ at-number RowStep = refl
 at-number PlaneTooShort = refl
 at-number OutputTooSmall = refl
 at-number TableLength = refl
+at-number HeightRange = refl
 
 pub number-unique : (a b : Answer) → numberOf a ≡ numberOf b → a ≡ b
 number-unique a b e = sym (at-number a) ∙ ap (λ n. getD inOrder n Done) e ∙ at-number b

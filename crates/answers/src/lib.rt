@@ -1,5 +1,5 @@
 // The answer of a call: done, or the first refusal of document 01, "When a call says no". Document
-// 02 took the number 1 away.
+// 02 took the number 1 away and added 20.
 ghost use mathlib.Core.Path.{_≡_};
 ghost use mathlib.Core.List.{[], _∷_};
 ghost use Rattle.answers.specs.Numbers.{numberOf, isDone, firstOf};
@@ -20,6 +20,7 @@ pub enum Answer {
     PlaneTooShort,
     OutputTooSmall,
     TableLength,
+    HeightRange,
 }
 
 impl Answer {
@@ -48,6 +49,7 @@ impl Answer {
             Answer::PlaneTooShort => 12,
             Answer::OutputTooSmall => 13,
             Answer::TableLength => 14,
+            Answer::HeightRange => 20,
         }
     }
 

@@ -1,33 +1,52 @@
 -- Document 01's marked examples, as far as they speak of lists: P3's kept points, the knots of an
--- empty list (P1) and of (128,200) (P2). And the words of points, and the exact broken line of a
--- list given unsorted, at their edges.
+-- empty list (P1) and of (128,200) (P2). And the words of points and of heights, and the exact
+-- broken line of a list given unsorted, at their edges.
 use mathlib.Core.Path.{_≡_, refl}
 use mathlib.Core.List.{List, [], _∷_}
 use Prim.Native.Nat.{ℕ, zero, suc, _-_, _≤_, _<_}
 use native.Mathlib.Omega.{arith}
 use lib.Dec.{lit<, lit≤}
-use Rattle.answers.specs.declared.Answer.the-variants.{Done, PointCount}
+use Rattle.answers.specs.declared.Answer.the-variants.{Done, PointCount, HeightRange}
 use Rattle.answers.specs.Checks.{firstRefusal}
 use Rattle.points.specs.declared.Point.{Point}
-use Rattle.points.specs.Points.{pt, straightCurve, countCheck, firstAt, keptBelow, kept}
+use Rattle.points.specs.declared.Curve.{Curve}
+use Rattle.points.specs.declared.Heights.the-variants.{Fine, Whole}
+use Rattle.points.specs.Points.{
+  pt,
+  level,
+  atLevel,
+  straightCurve,
+  countCheck,
+  allAllowed,
+  heightCheck,
+  listChecks,
+  firstAt,
+  keptBelow,
+  kept,
+}
 use Rattle.points.specs.Knots.{rest, knots, givenKnots, xOf, OnLine}
-use Rattle.points.specs.Order.{All, Bytes, Rising, NeverFalls}
+use Rattle.points.specs.Order.{All, Typed, Proper, WholeHeight, Rising, NeverFalls}
 
-pub P3-kept : kept (pt 10 5 ∷ pt 10 9 ∷ pt 0 0 ∷ []) ≡ pt 0 0 ∷ pt 10 5 ∷ []
+pub P3-kept : kept (atLevel 10 5 ∷ atLevel 10 9 ∷ atLevel 0 0 ∷ []) ≡ atLevel 0 0 ∷ atLevel 10 5 ∷ []
 unfolding kept keptBelow firstAt
 P3-kept = refl
 
-pub P1-knots : knots [] ≡ pt 0 0 ∷ pt 255 0 ∷ []
+pub P1-knots : knots [] ≡ atLevel 0 0 ∷ atLevel 255 0 ∷ []
 unfolding knots
 P1-knots = refl
 
-pub P2-knots : knots (pt 128 200 ∷ []) ≡ pt 0 200 ∷ pt 128 200 ∷ pt 255 200 ∷ []
+pub P2-knots : knots (atLevel 128 200 ∷ [])
+    ≡ atLevel 0 200 ∷ atLevel 128 200 ∷ atLevel 255 200 ∷ []
 unfolding rest knots
 P2-knots = refl
 
 -- "the straight curve", and at most 64 points
-pub straight : straightCurve ≡ pt 0 0 ∷ pt 255 255 ∷ []
+pub straight : straightCurve ≡ pt 0 0 ∷ pt 255 65280 ∷ []
 straight = refl
+
+-- "256ths of a level, 0 to 65,280"
+pub levels-at-edges : (level 0 ≡ 0) × (level 1 ≡ 256) × (level 255 ≡ 65280)
+levels-at-edges = (refl, refl, refl)
 
 pub count-at-edges :
     (firstRefusal (countCheck 64 ∷ []) ≡ Done) × (firstRefusal (countCheck 65 ∷ []) ≡ PointCount)
@@ -40,15 +59,56 @@ pub knots-at-edges :
 unfolding rest knots
 knots-at-edges = (refl, refl)
 
--- x and y are bytes, of every point
-pub bytes-at-edges :
-    All Bytes (pt 0 255 ∷ pt 255 0 ∷ []) × (All Bytes (pt 0 0 ∷ pt 256 0 ∷ []) → ⊥)
-    × (All Bytes (pt 0 256 ∷ pt 1 0 ∷ []) → ⊥)
-bytes-at-edges = (
+-- 20: "a height above 65,280", of any point; when today's record is written, also "one that isn't a
+-- multiple of 256"
+pub heights-at-edges :
+    (firstRefusal (heightCheck Fine (pt 0 1 ∷ pt 1 65280 ∷ []) ∷ []) ≡ Done)
+    × (firstRefusal (heightCheck Fine (pt 0 1 ∷ pt 1 65281 ∷ []) ∷ []) ≡ HeightRange)
+    × (firstRefusal (heightCheck Fine (pt 0 65535 ∷ pt 1 0 ∷ []) ∷ []) ≡ HeightRange)
+    × (firstRefusal (heightCheck Whole (pt 0 256 ∷ pt 1 65280 ∷ []) ∷ []) ≡ Done)
+    × (firstRefusal (heightCheck Whole (pt 0 0 ∷ pt 1 65281 ∷ []) ∷ []) ≡ HeightRange)
+    × (firstRefusal (heightCheck Whole (pt 0 0 ∷ pt 1 65279 ∷ []) ∷ []) ≡ HeightRange)
+    × (firstRefusal (heightCheck Whole (pt 0 1 ∷ pt 1 0 ∷ []) ∷ []) ≡ HeightRange)
+    × (firstRefusal (heightCheck Whole (pt 0 65536 ∷ []) ∷ []) ≡ HeightRange)
+unfolding allAllowed
+heights-at-edges = (refl, refl, refl, refl, refl, refl, refl, refl)
+
+-- a given list: 3, then 20, also of a point that sorting drops; what is past the count is not asked
+abbrev claiming : ℕ → Curve
+claiming n = record { points = pt 7 0 ∷ pt 7 65281 ∷ []; count = n }
+
+pub given-at-edges : (firstRefusal (listChecks (claiming 65)) ≡ PointCount)
+    × (firstRefusal (listChecks (claiming 64)) ≡ HeightRange)
+    × (firstRefusal (listChecks (claiming 2)) ≡ HeightRange)
+    × (firstRefusal (listChecks (claiming 1)) ≡ Done)
+unfolding allAllowed
+given-at-edges = (refl, refl, refl, refl)
+
+-- x is a byte and y a 16-bit number, of every point; of a list that passed 20 it is at most 65,280
+pub typed-at-edges :
+    All Typed (pt 0 65535 ∷ pt 255 0 ∷ []) × (All Typed (pt 0 0 ∷ pt 256 0 ∷ []) → ⊥)
+    × (All Typed (pt 0 65536 ∷ pt 1 0 ∷ []) → ⊥)
+typed-at-edges = (
   ((lit< tt, lit< tt), ((lit< tt, lit< tt), tt)),
   λ b. omega (arith, b .1 .0 .0),
   λ b. omega (arith, b .0 .1),
 )
+
+pub proper-at-edges :
+    All Proper (pt 0 65280 ∷ pt 255 0 ∷ []) × (All Proper (pt 0 0 ∷ pt 256 0 ∷ []) → ⊥)
+    × (All Proper (pt 0 65281 ∷ pt 1 0 ∷ []) → ⊥)
+proper-at-edges = (
+  ((lit< tt, lit≤ tt), ((lit< tt, lit≤ tt), tt)),
+  λ b. omega (arith, b .1 .0 .0),
+  λ b. omega (arith, b .0 .1),
+)
+
+-- a whole height is a level, and 255 and 257 are none
+pub whole-at-edges :
+    All WholeHeight (atLevel 0 0 ∷ atLevel 1 1 ∷ atLevel 2 255 ∷ [])
+    × (All WholeHeight (pt 0 0 ∷ pt 1 255 ∷ []) → ⊥)
+    × (All WholeHeight (pt 0 257 ∷ pt 1 0 ∷ []) → ⊥)
+whole-at-edges = ((refl, (refl, (refl, tt))), λ w. omega (arith, w .1 .0), λ w. omega (arith, w .0))
 
 -- x rises from each point to the next, and does not stay
 pub rising-at-edges :
@@ -66,11 +126,12 @@ never-falls-at-edges =
 
 -- the line of (2,1),(0,0) joins (0,0), (2,1) and (255,1): at 1 it is 1 / 2
 abbrev unsorted : List Point
-unsorted = pt 2 1 ∷ pt 0 0 ∷ []
+unsorted = atLevel 2 1 ∷ atLevel 0 0 ∷ []
 
-pub unsorted-line-at-1 : OnLine unsorted 1 1 2
+pub unsorted-line-at-1 : OnLine unsorted 1 256 512
 unfolding kept keptBelow firstAt rest knots
 unsorted-line-at-1 = record {
+  divisor = lit< tt;
   i = 0;
   inside = lit< tt;
   left = lit≤ tt;
@@ -80,9 +141,10 @@ unsorted-line-at-1 = record {
 }
 
 -- and that of (0,10),(255,20) is 3,060 / 255 at 51, which is 12
-pub slanting-line-at-51 : OnLine (pt 0 10 ∷ pt 255 20 ∷ []) 51 3060 255
+pub slanting-line-at-51 : OnLine (atLevel 0 10 ∷ atLevel 255 20 ∷ []) 51 783360 65280
 unfolding kept keptBelow firstAt rest knots
 slanting-line-at-51 = record {
+  divisor = lit< tt;
   i = 0;
   inside = lit< tt;
   left = lit≤ tt;
@@ -93,18 +155,50 @@ slanting-line-at-51 = record {
 
 -- "both ends included": at the first knot, at the last, and "At an inner knot both sides give the
 -- knot's y"
-pub line-at-ends : OnLine unsorted 0 0 2 × OnLine unsorted 255 253 253
+pub line-at-ends : OnLine unsorted 0 0 512 × OnLine unsorted 255 64768 64768
 unfolding kept keptBelow firstAt rest knots
 line-at-ends = (
-  record { i = 0; inside = lit< tt; left = lit≤ tt; right = lit≤ tt; width = refl; height = refl },
-  record { i = 1; inside = lit< tt; left = lit≤ tt; right = lit≤ tt; width = refl; height = refl },
+  record {
+    divisor = lit< tt;
+    i = 0;
+    inside = lit< tt;
+    left = lit≤ tt;
+    right = lit≤ tt;
+    width = refl;
+    height = refl;
+  },
+  record {
+    divisor = lit< tt;
+    i = 1;
+    inside = lit< tt;
+    left = lit≤ tt;
+    right = lit≤ tt;
+    width = refl;
+    height = refl;
+  },
 )
 
-pub line-at-inner-knot : OnLine unsorted 2 2 2 × OnLine unsorted 2 253 253
+pub line-at-inner-knot : OnLine unsorted 2 512 512 × OnLine unsorted 2 64768 64768
 unfolding kept keptBelow firstAt rest knots
 line-at-inner-knot = (
-  record { i = 0; inside = lit< tt; left = lit≤ tt; right = lit≤ tt; width = refl; height = refl },
-  record { i = 1; inside = lit< tt; left = lit≤ tt; right = lit≤ tt; width = refl; height = refl },
+  record {
+    divisor = lit< tt;
+    i = 0;
+    inside = lit< tt;
+    left = lit≤ tt;
+    right = lit≤ tt;
+    width = refl;
+    height = refl;
+  },
+  record {
+    divisor = lit< tt;
+    i = 1;
+    inside = lit< tt;
+    left = lit≤ tt;
+    right = lit≤ tt;
+    width = refl;
+    height = refl;
+  },
 )
 
 -- three knots have two segments, and no more; a byte past a segment's ends is not on it
@@ -112,9 +206,12 @@ pub two-segments : {v n d : ℕ} (o : OnLine unsorted v n d) → o .i < 2
 unfolding kept keptBelow firstAt rest knots
 two-segments o = omega (arith, o .inside)
 
-pub past-the-ends : (OnLine unsorted 256 253 253 → ⊥) × (OnLine unsorted 1 253 253 → ⊥)
+pub past-the-ends : (OnLine unsorted 256 64768 64768 → ⊥) × (OnLine unsorted 1 64768 64768 → ⊥)
 unfolding kept keptBelow firstAt rest knots
-past-the-ends = (λ o. beyond (o .i) (o .inside) (o .right), λ o. before (o .i) (o .left) (o .width))
+past-the-ends = (
+  λ o. beyond (o .i) (o .inside) (omega (arith, o .right)),
+  λ o. before (o .i) (omega (arith, o .left)) (omega (arith, o .width)),
+)
   where
     beyond : (i : ℕ) → suc i < 3 → 256 ≤ xOf (givenKnots unsorted) (suc i) → ⊥
     beyond zero h r = omega (arith, r)

@@ -8,9 +8,9 @@ use lib.Dec.{eqb}
 use lib.ListN.{length, getD, replicate}
 use lib.Ieee.{Float, nan, lt}
 use Rattle.lists.specs.Tabulate.{filled}
-use Rattle.floats.specs.Notation.{_⊖_}
+use Rattle.floats.specs.Notation.{_⊖_, _⊘_}
 use Rattle.floats.specs.Value.{absolute}
-use Rattle.single.specs.Constants.{𝟎, micro}
+use Rattle.single.specs.Constants.{𝟎, 𝟐𝟓𝟔, micro}
 use Rattle.single.specs.Rules.{float}
 use Rattle.points.specs.declared.Point.{Point}
 use Rattle.points.specs.declared.Knot.{Knot}
@@ -38,9 +38,9 @@ abbrev pub yOf : List Point → ℕ → ℕ
 yOf ks i = nth ks i .y
 
 -- ---- as floats
--- a height as a float, in this one place
+-- a height "as a float", in this one place: "that number over 256"
 abbrev pub heightOf : ℕ → Float
-heightOf y = float y
+heightOf y = float y ⊘ 𝟐𝟓𝟔
 
 -- in rows of 66 with zeros behind
 unfoldable pub xAt : List Point → ℕ → Float
@@ -88,15 +88,24 @@ pub record KnotsOf (ks : List Point) (r : Knots) : Type 0 where
 abbrev pub givenKnots : List Point → List Point
 givenKnots l = knots (kept l)
 
--- "The exact broken line of a list joins its knots in order of x": that of l at v is n / d
-pub record OnLine (l : List Point) (v n d : ℕ) : Type 0 where
+-- "The exact broken line of a list joins its knots in order of x": that of l at the position p / c
+-- is n / d, in levels
+pub record LineAt (l : List Point) (p c n d : ℕ) : Type 0 where
+  -- a position is a fraction
+  pub divisor : 0 < c
   -- neighbouring knots i and i + 1 ..
   pub i : ℕ
   pub inside : suc i < length (givenKnots l)
-  -- .. with v between their x, ends included
-  pub left : xOf (givenKnots l) i ≤ v
-  pub right : v ≤ xOf (givenKnots l) (suc i)
-  pub width : d ≡ xOf (givenKnots l) (suc i) - xOf (givenKnots l) i
-  -- n = y0 * d + (y1 - y0) * (v - x0)
-  pub height : n + yOf (givenKnots l) i * (v - xOf (givenKnots l) i)
-      ≡ yOf (givenKnots l) i * d + yOf (givenKnots l) (suc i) * (v - xOf (givenKnots l) i)
+  -- .. with p / c between their x, ends included
+  pub left : xOf (givenKnots l) i * c ≤ p
+  pub right : p ≤ xOf (givenKnots l) (suc i) * c
+  -- the heights are 256ths
+  pub width : d ≡ (xOf (givenKnots l) (suc i) - xOf (givenKnots l) i) * c * 256
+  -- n = y0 * (x1 - x0) * c + (y1 - y0) * (p - x0 * c)
+  pub height : n + yOf (givenKnots l) i * (p - xOf (givenKnots l) i * c)
+      ≡ yOf (givenKnots l) i * ((xOf (givenKnots l) (suc i) - xOf (givenKnots l) i) * c)
+      + yOf (givenKnots l) (suc i) * (p - xOf (givenKnots l) i * c)
+
+-- the same at a byte
+abbrev pub OnLine : List Point → ℕ → ℕ → ℕ → Type 0
+OnLine l v n d = LineAt l v 1 n d

@@ -8,6 +8,8 @@ pub mod Knots
 pub mod Steps
 -- words for points one by one and in order
 pub mod Order
+-- laws of the test of heights
+pub mod HeightLaws
 -- laws of the kept points
 pub mod Kept
 -- laws of the knots

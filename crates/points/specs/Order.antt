@@ -2,12 +2,12 @@
 -- tell of places and members.
 use mathlib.Core.Path.{_≡_, sym}
 use mathlib.Core.List.{List, [], _∷_, List·Memᴰ, List·Memᴰ·head, List·Memᴰ·tail, List·Memᴰ·not-nil}
-use Prim.Native.Nat.{ℕ, zero, suc, _≤_, _<_}
+use Prim.Native.Nat.{ℕ, zero, suc, _%_, _≤_, _<_}
 use native.Mathlib.Nat.{lt-trans, le-trans}
 use native.Mathlib.Omega.{arith}
 use lib.ListN.{length, take}
 use Rattle.points.specs.declared.Point.{Point}
-use Rattle.points.specs.Points.{nth}
+use Rattle.points.specs.Points.{nth, highest}
 
 -- P of every point
 abbrev pub All : (Point → Type 0) → List Point → Type 0
@@ -26,9 +26,17 @@ Before p q = p .x < q .x
 abbrev pub NoLower : Point → Point → Type 0
 NoLower p q = p .y ≤ q .y
 
--- x and y are bytes
-abbrev pub Bytes : Point → Type 0
-Bytes p = (p .x < 256) × (p .y < 256)
+-- what the types of a stored point say: x is a byte, y "a 16-bit number"
+abbrev pub Typed : Point → Type 0
+Typed p = (p .x < 256) × (p .y < 65536)
+
+-- a point of a list that passed 20: its height is at most 65,280
+abbrev pub Proper : Point → Type 0
+Proper p = (p .x < 256) × (p .y ≤ highest)
+
+-- "Whole heights": a level
+abbrev pub WholeHeight : Point → Type 0
+WholeHeight p = p .y % 256 ≡ 0
 
 -- the points strictly rise in x
 abbrev pub Rising : List Point → Type 0
@@ -38,9 +46,9 @@ Rising l = Nexts Before l
 abbrev pub NeverFalls : List Point → Type 0
 NeverFalls l = Nexts NoLower l
 
--- a list that may be one of kept points: of bytes, and rising
+-- a list that may be one of kept points: proper, and rising
 pub record IsKept (l : List Point) : Type 0 where
-  pub bytes : All Bytes l
+  pub proper : All Proper l
   pub rising : Rising l
 
 -- ---- places
@@ -88,3 +96,13 @@ pub all-take : (P : Point → Type 0) (n : ℕ) (l : List Point) → All P l →
 all-take P zero l a = tt
 all-take P (suc n) [] a = tt
 all-take P (suc n) (p ∷ l) a = (a .0, all-take P n l (a .1))
+
+-- what every point has that has P
+pub all-map : (P Q : Point → Type 0) → ((p : Point) → P p → Q p) → (l : List Point) → All P l
+    → All Q l
+all-map P Q f [] a = tt
+all-map P Q f (p ∷ l) a = (f p (a .0), all-map P Q f l (a .1))
+
+-- a proper point is one that is stored
+pub proper-typed : (l : List Point) → All Proper l → All Typed l
+proper-typed = all-map Proper Typed (λ p h. (h .0, omega (arith, h .1)))

@@ -1,9 +1,9 @@
 -- What a `Curve` that a function is given, or that a call hands back, tells of its points: there
--- are 64, each of two bytes.
+-- are 64, each of a byte and a 16-bit number.
 -- The type says neither, but that the value is owned does, in a form that `search` finds. At a need
 -- c of a function of a parameter `curve`:
 --     let long : length (c .args .curve .points) ≡ 64 = search (needs, owned-length) in
---     let bytes : All Bytes (listOf (c .args .curve)) = search (needs, all-take, owned-bytes) in ..
+--     let typed : All Typed (listOf (c .args .curve)) = search (needs, all-take, owned-typed) in ..
 use mathlib.Core.Path.{_≡_, sym, _∙_}
 use mathlib.Core.List.{List, [], _∷_, map}
 use Prim.Native.Nat.{ℕ, min}
@@ -15,16 +15,16 @@ use mir.Val.{Val}
 use denote.Array.{each}
 use denote.RattleType.{RattleType}
 use denote.Shadow.{shadow}
-use denote.Struct.Field.{rows, u8-field}
+use denote.Struct.Field.{rows, u8-field, u16-field}
 use denote.Struct.Struct.{Struct}
 use Rattle.points.specs.declared.Point.{Point}
 use Rattle.points.specs.declared.Curve.{Curve}
 use Rattle.points.specs.Points.{listOf}
-use Rattle.points.specs.Order.{All, Bytes}
+use Rattle.points.specs.Order.{All, Typed}
 
--- what is owned with a struct of two bytes, whatever its name
-abbrev twoBytes : RattleType
-twoBytes = Struct (record { name = []; args = []; fields = rows (u8-field ∷ u8-field ∷ []) })
+-- what is owned with a struct of these two, whatever its name
+abbrev byteAndWord : RattleType
+byteAndWord = Struct (record { name = []; args = []; fields = rows (u8-field ∷ u16-field ∷ []) })
 
 pub owned-length : (X Y : Type 0) (f : X → Y) (l : List X) (n : ℕ) → length (map f l) ≡ n
     → length l ≡ n
@@ -43,9 +43,9 @@ limited-list l n long = elim (decLe n 64) [
       rw most (take-all 64 l (omega arith) ∙ sym (take-all n l (omega arith)))
 ]
 
-pub owned-bytes : (l : List Point) (us : List Val)
-    → shadow (each (twoBytes .Denot) (twoBytes .own) (map (λ p. (p .x, (p .y, tt))) l) us)
-    → All Bytes l
-owned-bytes [] us s = tt
-owned-bytes (p ∷ l) [] s = absurd s
-owned-bytes (p ∷ l) (u ∷ us) s = ((s .0 .1 .1 .0 .1, s .0 .1 .1 .1 .0 .1), owned-bytes l us (s .1))
+pub owned-typed : (l : List Point) (us : List Val)
+    → shadow (each (byteAndWord .Denot) (byteAndWord .own) (map (λ p. (p .x, (p .y, tt))) l) us)
+    → All Typed l
+owned-typed [] us s = tt
+owned-typed (p ∷ l) [] s = absurd s
+owned-typed (p ∷ l) (u ∷ us) s = ((s .0 .1 .1 .0 .1, s .0 .1 .1 .1 .0 .1), owned-typed l us (s .1))

@@ -13,7 +13,7 @@ use lib.ListN.{length}
 use Rattle.points.specs.declared.Point.{Point}
 use Rattle.points.specs.Points.{pt}
 use Rattle.points.specs.Knots.{rest, knots, xOf}
-use Rattle.points.specs.Order.{All, Nexts, Before, NoLower, Bytes, Rising, NeverFalls, IsKept}
+use Rattle.points.specs.Order.{All, Nexts, Before, NoLower, Proper, Rising, NeverFalls, IsKept}
 
 -- ---- p and what is behind it
 -- what holds both of none and of one at 255 holds of what is behind the last point
@@ -25,15 +25,15 @@ by-end P p without with-one = elim (ℕ-discrete (p .x) 255) [
   | no other ↦ rw (ne-eqb (p .x) 255 other) (with-one other)
 ]
 
-rest-all : (p : Point) (l : List Point) → All Bytes (p ∷ l) → All Bytes (p ∷ rest p l)
+rest-all : (p : Point) (l : List Point) → All Proper (p ∷ l) → All Proper (p ∷ rest p l)
 unfolding rest
 rest-all p [] a =
-    by-end (λ t. All Bytes (p ∷ t)) p (λ here. a) (λ other. (a .0, ((lit< tt, a .0 .1), tt)))
+    by-end (λ t. All Proper (p ∷ t)) p (λ here. a) (λ other. (a .0, ((lit< tt, a .0 .1), tt)))
 rest-all p (q ∷ l) a = (a .0, rest-all q l (a .1))
 
 rest-nexts : (R : Point → Point → Type 0) → ((p : Point) → p .x < 255 → R p (pt 255 (p .y)))
     → (p : Point) (l : List Point)
-    → All Bytes (p ∷ l) → Nexts R (p ∷ l) → Nexts R (p ∷ rest p l)
+    → All Proper (p ∷ l) → Nexts R (p ∷ l) → Nexts R (p ∷ rest p l)
 unfolding rest
 rest-nexts R end p [] a n =
     by-end (λ t. Nexts R (p ∷ t)) p (λ here. tt) (λ other. (end p (omega (arith, a .0 .0)), tt))
@@ -78,7 +78,7 @@ pub record Shape (ks : List Point) : Type 0 where
   pub start : xOf ks 0 ≡ 0
   pub end : xOf ks (length ks - 1) ≡ 255
   pub rising : Rising ks
-  pub bytes : All Bytes ks
+  pub proper : All Proper ks
 
 pub knots-shape : (l : List Point) → IsKept l → Shape (knots l)
 unfolding knots
@@ -87,11 +87,11 @@ knots-shape [] k = record {
   start = refl;
   end = refl;
   rising = (lit< tt, tt);
-  bytes = ((lit< tt, lit< tt), ((lit< tt, lit< tt), tt));
+  proper = ((lit< tt, lit≤ tt), ((lit< tt, lit≤ tt), tt));
 }
 knots-shape (p ∷ l) k =
-    let bytes = rest-all p l (k .bytes) in
-    let rising = rest-nexts Before (λ q h. h) p l (k .bytes) (k .rising) in
+    let proper = rest-all p l (k .proper) in
+    let rising = rest-nexts Before (λ q h. h) p l (k .proper) (k .rising) in
     by-front Shape p l
     (λ zero.
     record {
@@ -99,7 +99,7 @@ knots-shape (p ∷ l) k =
       start = zero;
       end = rw sub-one (rest-last p l);
       rising = rising;
-      bytes = bytes;
+      proper = proper;
     })
     (λ above.
     record {
@@ -107,7 +107,7 @@ knots-shape (p ∷ l) k =
       start = refl;
       end = rw sub-one (rest-last p l);
       rising = (above, rising);
-      bytes = ((lit< tt, k .bytes .0 .1), bytes);
+      proper = ((lit< tt, k .proper .0 .1), proper);
     })
 
 -- at most two more than the list: 64 points give at most 66 knots
@@ -130,5 +130,5 @@ pub knots-never-fall : (l : List Point) → IsKept l → NeverFalls l → NeverF
 unfolding knots
 knots-never-fall [] k f = (le-refl 0, tt)
 knots-never-fall (p ∷ l) k f =
-    let n = rest-nexts NoLower (λ q h. le-refl (q .y)) p l (k .bytes) f in
+    let n = rest-nexts NoLower (λ q h. le-refl (q .y)) p l (k .proper) f in
     by-front NeverFalls p l (λ zero. n) (λ above. (le-refl (p .y), n))

@@ -21,6 +21,7 @@ use Rattle.answers.specs.declared.Answer.the-variants.{
   PlaneTooShort,
   OutputTooSmall,
   TableLength,
+  HeightRange,
 }
 use Rattle.answers.specs.Numbers.{numberOf, isDone}
 use Rattle.points.specs.Points.{listOf}
@@ -49,6 +50,7 @@ two-digits RowStep = lit< tt
 two-digits PlaneTooShort = lit< tt
 two-digits OutputTooSmall = lit< tt
 two-digits TableLength = lit< tt
+two-digits HeightRange = lit< tt
 
 -- the text of what is handed back
 module _ (s : List ℕ) (r : RecordRead) (h : ReadRecordCall s r) where
