@@ -16,6 +16,7 @@ use Rattle.points.specs.Points.{
   level,
   atLevel,
   straightCurve,
+  rounded,
   countCheck,
   allAllowed,
   heightCheck,
@@ -47,6 +48,11 @@ straight = refl
 -- "256ths of a level, 0 to 65,280"
 pub levels-at-edges : (level 0 ≡ 0) × (level 1 ≡ 256) × (level 255 ≡ 65280)
 levels-at-edges = (refl, refl, refl)
+
+-- "its height rounded, a half upward"
+pub rounded-at-edges : (rounded 0 ≡ 0) × (rounded 127 ≡ 0) × (rounded 128 ≡ 1) × (rounded 383 ≡ 1)
+    × (rounded 384 ≡ 2) × (rounded 65151 ≡ 254) × (rounded 65152 ≡ 255) × (rounded 65280 ≡ 255)
+rounded-at-edges = (refl, refl, refl, refl, refl, refl, refl, refl)
 
 pub count-at-edges :
     (firstRefusal (countCheck 64 ∷ []) ≡ Done) × (firstRefusal (countCheck 65 ∷ []) ≡ PointCount)

@@ -13,7 +13,8 @@ use lib.ListN.{length}
 use Rattle.points.specs.declared.Point.{Point}
 use Rattle.points.specs.Points.{pt}
 use Rattle.points.specs.Knots.{rest, knots, xOf}
-use Rattle.points.specs.Order.{All, Nexts, Before, NoLower, Proper, Rising, NeverFalls, IsKept}
+use Rattle.points.specs.Order.{All, Nexts, Before, NoLower, Proper, WholeHeight}
+use Rattle.points.specs.Order.{Rising, NeverFalls, IsKept}
 
 -- ---- p and what is behind it
 -- what holds both of none and of one at 255 holds of what is behind the last point
@@ -25,11 +26,12 @@ by-end P p without with-one = elim (ℕ-discrete (p .x) 255) [
   | no other ↦ rw (ne-eqb (p .x) 255 other) (with-one other)
 ]
 
-rest-all : (p : Point) (l : List Point) → All Proper (p ∷ l) → All Proper (p ∷ rest p l)
+rest-all : (P : Point → Type 0) → ((p : Point) → P p → P (pt 255 (p .y)))
+    → (p : Point) (l : List Point) → All P (p ∷ l) → All P (p ∷ rest p l)
 unfolding rest
-rest-all p [] a =
-    by-end (λ t. All Proper (p ∷ t)) p (λ here. a) (λ other. (a .0, ((lit< tt, a .0 .1), tt)))
-rest-all p (q ∷ l) a = (a .0, rest-all q l (a .1))
+rest-all P end p [] a =
+    by-end (λ t. All P (p ∷ t)) p (λ here. a) (λ other. (a .0, (end p (a .0), tt)))
+rest-all P end p (q ∷ l) a = (a .0, rest-all P end q l (a .1))
 
 rest-nexts : (R : Point → Point → Type 0) → ((p : Point) → p .x < 255 → R p (pt 255 (p .y)))
     → (p : Point) (l : List Point)
@@ -72,6 +74,14 @@ by-front P p l without with-one = elim (ℕ-discrete (p .x) 0) [
   | no other ↦ rw (ne-eqb (p .x) 0 other) (with-one (omega arith))
 ]
 
+-- at least two
+pub knots-two : (l : List Point) → 1 < length (knots l)
+unfolding knots
+knots-two [] = lit< tt
+knots-two (p ∷ l) =
+    by-front (λ ks. 1 < length ks) p l (λ zero. omega (arith, rest-some p l zero))
+    (λ above. omega arith)
+
 -- from 0 to 255, strictly rising
 pub record Shape (ks : List Point) : Type 0 where
   pub two : 1 < length ks
@@ -90,7 +100,7 @@ knots-shape [] k = record {
   proper = ((lit< tt, lit≤ tt), ((lit< tt, lit≤ tt), tt));
 }
 knots-shape (p ∷ l) k =
-    let proper = rest-all p l (k .proper) in
+    let proper = rest-all Proper (λ q h. (lit< tt, h .1)) p l (k .proper) in
     let rising = rest-nexts Before (λ q h. h) p l (k .proper) (k .rising) in
     by-front Shape p l
     (λ zero.
@@ -109,6 +119,14 @@ knots-shape (p ∷ l) k =
       rising = (above, rising);
       proper = ((lit< tt, k .proper .0 .1), proper);
     })
+
+-- whole heights stay whole
+pub knots-whole : (l : List Point) → All WholeHeight l → All WholeHeight (knots l)
+unfolding knots
+knots-whole [] a = (refl, (refl, tt))
+knots-whole (p ∷ l) a =
+    let whole = rest-all WholeHeight (λ q h. h) p l a in
+    by-front (All WholeHeight) p l (λ zero. whole) (λ above. (a .0, whole))
 
 -- at most two more than the list: 64 points give at most 66 knots
 pub knots-length : (l : List Point) → length (knots l) ≤ length l + 2

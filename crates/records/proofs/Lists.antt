@@ -11,16 +11,18 @@ use lib.Seq.{drop-cons}
 use Rattle.answers.specs.declared.Answer.the-variants.{Done}
 use Rattle.points.specs.declared.Curve.{Curve}
 use Rattle.points.specs.Owned.{list-length}
-use Rattle.points.specs.Points.{limit, listOf, rises, risesFrom}
+use Rattle.points.specs.declared.Heights.the-variants.{Whole}
+use Rattle.points.specs.Points.{limit, listOf, rises, risesFrom, allAllowed}
 use Rattle.sets.specs.Sets.{curveAnswer}
 
 pub drop-at : (s : List ℕ) (i : ℕ) → i < length s → drop i s ≡ getD s i 0 ∷ drop (i + 1) s
 drop-at s i h = rw (add-one i, drop-cons s i 0 h)
 
-pub rising-passes : (c : Curve) → c .count ≤ limit → rises (listOf c) ≡ true → curveAnswer c ≡ Done
+pub list-passes : (c : Curve) → c .count ≤ limit → rises (listOf c) ≡ true → allAllowed Whole (listOf c) ≡ true
+    → curveAnswer Whole c ≡ Done
 unfolding curveAnswer
-rising-passes c few rising = rw (le-ltb limit (c .count) few, rising)
+list-passes c few rising whole = rw (le-ltb limit (c .count) few, rising, whole)
 
-pub empty-passes : (c : Curve) → length (c .points) ≡ limit → listOf c ≡ [] → curveAnswer c ≡ Done
-unfolding risesFrom
-empty-passes c long e = rising-passes c (omega (arith, list-length c long, ap length e)) (rw e)
+pub empty-passes : (c : Curve) → length (c .points) ≡ limit → listOf c ≡ [] → curveAnswer Whole c ≡ Done
+unfolding risesFrom allAllowed
+empty-passes c long e = list-passes c (omega (arith, list-length c long, ap length e)) (rw e) (rw e)

@@ -11,6 +11,7 @@ use Rattle.lists.specs.Test.{by-test}
 use Rattle.answers.specs.declared.Answer.{Answer}
 use Rattle.answers.specs.declared.Answer.the-variants.{Done}
 use Rattle.answers.specs.Numbers.{isDone}
+use Rattle.points.specs.declared.Heights.the-variants.{Whole}
 use Rattle.points.specs.Points.{limit}
 use Rattle.sets.specs.declared.Channel.{Channel}
 use Rattle.sets.specs.declared.Colour.{Colour}
@@ -23,8 +24,8 @@ use Rattle.records.specs.Parse.{Parse, good, _▷_}
 use Rattle.records.specs.Views.{parsed, ReadOn}
 use Rattle.records.proofs.Lists.{empty-passes}
 
-set-passes : (s : Curves) → Passed s → setAnswer s ≡ Done
-set-passes s p = set-answer s ∙ rw (p .master, p .red, p .green) (p .blue)
+set-passes : (s : Curves) → Passed Whole s → setAnswer Whole s ≡ Done
+set-passes s p = set-answer Whole s ∙ rw (p .master, p .red, p .green) (p .blue)
 
 -- ---- a step of the reader, d being whether no field was refused before it
 module _ {s : List ℕ} {before : Reading} {d : Bool} (e : d ≡ isDone (before .answer)) where
@@ -37,32 +38,32 @@ module _ {s : List ℕ} {before : Reading} {d : Bool} (e : d ≡ isDone (before 
       {B : Type 0} (p : List ℕ → Parse B) (g : B → View → View) (v : B) {a : Answer} {next : ℕ} {set new : Curves}
       → d ≡ true
       → parsed a v s next ≡ p (drop (before .next) s) → set ≡ new → viewOf new ≡ g v (viewOf (before .set))
-      → (Passed (before .set) → Passed new)
+      → (Passed Whole (before .set) → Passed Whole new)
       → ReadOn s (λ w t. p t ▷ λ y u. good (g y w) u) before (record { answer = a; next = next; set = set })
   member-read p g v {a = a} {new = new} t q made view passes =
       record {
         field = rw (← e, t, ← q, made, view) (by-test (isDone a) (λ x. rw x) (λ x. rw x));
-        legal = λ h. rw made (set-passes new (passes (passed-set (before .set) h)));
+        legal = λ h. rw made (set-passes new (passes (passed-set Whole (before .set) h)));
       }
 
 -- ---- the check of a set with a colour replaced
-pub channel-passes : (c : Channel) → curveAnswer (c .curve) ≡ Done → channelAnswer c ≡ Done
+pub channel-passes : (c : Channel) → curveAnswer Whole (c .curve) ≡ Done → channelAnswer Whole c ≡ Done
 unfolding channelAnswer curveAnswer
 channel-passes c e = by-test (c .present) (λ t. rw t e) (λ t. rw t)
 
-pub colour-passed : (colour : Colour) (c : Channel) (s : Curves) → channelAnswer c ≡ Done → Passed s
-    → Passed (replaceColour colour c s)
+pub colour-passed : (colour : Colour) (c : Channel) (s : Curves) → channelAnswer Whole c ≡ Done → Passed Whole s
+    → Passed Whole (replaceColour colour c s)
 colour-passed Red c s new p = record { master = p .master; red = new; green = p .green; blue = p .blue }
 colour-passed Green c s new p = record { master = p .master; red = p .red; green = new; blue = p .blue }
 colour-passed Blue c s new p = record { master = p .master; red = p .red; green = p .green; blue = new }
 
 -- ---- the empty set
-absent-passes : (c : Channel) → channelOf c ≡ none → channelAnswer c ≡ Done
+absent-passes : (c : Channel) → channelOf c ≡ none → channelAnswer Whole c ≡ Done
 unfolding channelAnswer
 absent-passes c e =
     by-test (c .present) (λ t. let z : _≡_ {A = ℕ} 0 1 = cc (rw t at e) in absurd (omega arith)) (λ t. rw t)
 
-pub empty-set-passes : (s : Curves) → length (s .master .points) ≡ limit → viewOf s ≡ emptyView → setAnswer s ≡ Done
+pub empty-set-passes : (s : Curves) → length (s .master .points) ≡ limit → viewOf s ≡ emptyView → setAnswer Whole s ≡ Done
 empty-set-passes s long e =
     set-passes s
     (record {

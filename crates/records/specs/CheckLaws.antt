@@ -35,6 +35,7 @@ use Rattle.sets.specs.declared.Colour.the-variants.{Red, Green, Blue}
 use Rattle.sets.specs.Sets.{View, emptyView}
 use Rattle.records.specs.Parse.{Parse, good, refused, _▷_, checked}
 use Rattle.records.specs.Map.{bit}
+use Rattle.records.specs.declared.point_lists.Edition.the-variants.{One}
 use Rattle.records.specs.PointLists.{pointBytes, pairs, readPoints, readList, readField}
 use Rattle.records.specs.Kinds.{
   unnamedKind,
@@ -143,12 +144,13 @@ checked-read (c ∷ cs) f =
 
 -- a list
 list-read : (least : ℕ) (s : List ℕ)
-    → Reads (storedListChecks least s) (drop (getD s 0 0 * pointBytes) (drop 1 s))
+    → Reads (storedListChecks least s) (drop (getD s 0 0 * pointBytes One) (drop 1 s))
     (readList least s)
 unfolding readList readPoints
 list-read least [] = record { answer = refl; goes-on = refl }
 list-read least (n ∷ s) =
-    checked-read (storedListChecks least (n ∷ s)) (reads-on (pairs n s) (drop (n * pointBytes) s))
+    checked-read (storedListChecks least (n ∷ s)) 
+    (reads-on (pairs One n s) (drop (n * pointBytes One) s))
 
 field-read : (present : Bool) (least : ℕ) (s : List ℕ)
     → Reads (fieldChecks present least s) (afterField present s) (readField present least s)

@@ -11,6 +11,7 @@ use Rattle.answers.specs.declared.Answer.the-variants.{RecordTruncated, Trailin
 use Rattle.answers.specs.Checks.{Check, _when_}
 use Rattle.tables.specs.declared.CurveInterpolation.{CurveInterpolation}
 use Rattle.tables.specs.Kinds.{kindNumber, carriesTension, carriesSlopes}
+use Rattle.records.specs.declared.point_lists.Edition.the-variants.{One}
 use Rattle.records.specs.Map.{bit}
 use Rattle.records.specs.PointLists.{pointBytes, pointChecks}
 use Rattle.records.specs.Kinds.{unnamedKind, kindCheck, bitsCheck}
@@ -29,7 +30,7 @@ abbrev pub fieldChecks : Bool → ℕ → List ℕ → List Check
 fieldChecks present least s = cond present (storedListChecks least s) []
 
 abbrev pub afterField : Bool → List ℕ → List ℕ
-afterField present s = cond present (drop (getD s 0 0 * pointBytes) (drop 1 s)) s
+afterField present s = cond present (drop (getD s 0 0 * pointBytes One) (drop 1 s)) s
 
 -- the kind's number, where its bit is set its byte, else that of the unnamed kind; and what follows
 -- that byte

@@ -14,6 +14,7 @@ use Rattle.tables.specs.declared.CurveInterpolation.{CurveInterpolation}
 use Rattle.sets.specs.declared.Colour.{Colour}
 use Rattle.sets.specs.declared.Colour.the-variants.{Red, Green, Blue}
 use Rattle.sets.specs.Sets.{View, emptyView, withMaster, withColour, withKind}
+use Rattle.records.specs.declared.point_lists.Edition.the-variants.{One}
 use Rattle.records.specs.Parse.{Parse, good, refused, _▷_}
 use Rattle.records.specs.Map.{bit, colourBit}
 use Rattle.records.specs.PointLists.{pointBytes, readField}
@@ -65,7 +66,7 @@ readRecord (m ∷ s) = result (readFields (unnamedKind (bit 128 m)) m s)
 -- ---- its length
 -- the most bytes of a list: its count and as many points as a list may have
 abbrev pub longestField : ℕ
-longestField = 1 + limit * pointBytes
+longestField = 1 + limit * pointBytes One
 
 -- and of a record: the map, four lists, the kind, two slopes
 abbrev pub longest : ℕ

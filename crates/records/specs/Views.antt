@@ -8,6 +8,7 @@ use Rattle.answers.specs.declared.Answer.{Answer}
 use Rattle.answers.specs.declared.Answer.the-variants.{Done}
 use Rattle.answers.specs.Numbers.{isDone}
 use Rattle.points.specs.declared.Point.{Point}
+use Rattle.points.specs.declared.Heights.the-variants.{Whole}
 use Rattle.points.specs.Points.{listOf}
 use Rattle.tables.specs.declared.CurveInterpolation.{CurveInterpolation}
 use Rattle.sets.specs.Sets.{View, viewOf, curveAnswer, setAnswer}
@@ -33,23 +34,23 @@ kindParsed s r = parsed (r .answer) (r .kind) s (r .next)
 abbrev pub setParsed : List ℕ → Reading → Parse View
 setParsed s r = parsed (r .answer) (viewOf (r .set)) s (r .next)
 
--- a list is read as p says, and passes the check of a set's list, refused or not
+-- a list is read as p says, and passes the writer's check of a set's list, refused or not
 pub record ListRead (s : List ℕ) (p : Parse (List Point)) (r : CurveRead) : Type 0 where
   pub list : parsed (r .answer) (listOf (r .curve)) s (r .next) ≡ p
-  pub legal : curveAnswer (r .curve) ≡ Done
+  pub legal : curveAnswer Whole (r .curve) ≡ Done
 
--- one field more is read, and a set that passes the check goes on passing it
+-- one field more is read, and a set that passes the writer's check goes on passing it
 pub record ReadOn (s : List ℕ) (step : View → List ℕ → Parse View) (before after : Reading) :
     Type 0 where
   pub field : setParsed s after ≡ (setParsed s before ▷ step)
-  pub legal : setAnswer (before .set) ≡ Done → setAnswer (after .set) ≡ Done
+  pub legal : setAnswer Whole (before .set) ≡ Done → setAnswer Whole (after .set) ≡ Done
 
--- what a reader hands back: answer and set, and, on a refusal too, that the set passes the check
--- and is stored as the types have it
+-- what a reader hands back: answer and set, and, on a refusal too, that the set passes the writer's
+-- check, "whole heights only", and is stored as the types have it
 pub record HandedBack (r : Read) (handed : RecordRead) : Type 0 where
   pub answer : handed .answer ≡ r .answer
   pub set : viewOf (handed .set) ≡ r .set
-  pub legal : setAnswer (handed .set) ≡ Done
+  pub legal : setAnswer Whole (handed .set) ≡ Done
   pub full : Full (handed .set)
 
 -- what a call of the reader hands back for these bytes

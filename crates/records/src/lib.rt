@@ -5,6 +5,7 @@
 ghost use mathlib.Core.Path.{_≡_};
 ghost use lib.ListN.{drop};
 ghost use Rattle.answers.specs.declared.Answer.the-variants.{Done};
+ghost use Rattle.points.specs.declared.Heights.the-variants.{Whole};
 ghost use Rattle.sets.specs.Sets.{setAnswer};
 ghost use Rattle.records.specs.Parse.{_▷_, refused};
 ghost use Rattle.records.specs.Format.{masterStep, colourStep, kindStep, endStep};
@@ -100,7 +101,7 @@ impl Reading {
 
     // Nothing follows the last field.
     fn end(self, s: &[u8]) -> RecordRead
-        requires { ⌜ setAnswer (self .set) ≡ Done ⌝ }
+        requires { ⌜ setAnswer Whole (self .set) ≡ Done ⌝ }
         ensures { λ r. ⌜ HandedBack (result (setParsed (now (s .entry)) self ▷ endStep)) r ⌝ }
     {
         let answer = self.answer;

@@ -1,9 +1,10 @@
-// A list of the record: a count byte, then x, y pairs.
+// A list of the record: a count byte, then x, y pairs. An edition says how a pair is stored.
 ghost use mathlib.Core.Path.{_≡_};
 ghost use Prim.Native.Nat.{_+_, _*_, _≤_, _<_};
 ghost use lib.ListN.{length, drop};
 ghost use Rattle.answers.specs.declared.Answer.the-variants.{Done};
 ghost use Rattle.answers.specs.Checks.{firstRefusal};
+ghost use Rattle.points.specs.declared.Heights.the-variants.{Whole};
 ghost use Rattle.points.specs.Points.{limit, listOf};
 ghost use Rattle.sets.specs.Sets.{curveAnswer};
 ghost use Rattle.records.specs.PointLists.{pointBytes, pointOf, pairs, countChecks};
@@ -13,6 +14,13 @@ use answers::Answer;
 use points::Curve;
 use points::Point;
 use points::check_count;
+
+// How a point is stored: its x, then its height, as a level in one byte, or in 256ths, low byte
+// first.
+pub enum Edition {
+    One,
+    Two,
+}
 
 // A list as read, and where the next field starts.
 pub struct CurveRead {
@@ -28,37 +36,60 @@ fn wide(x: u8) -> usize
     x as usize
 }
 
-const POINT_BYTES: usize = 2;
-
-// A point: its x, then its y.
-fn read_point(s: &[u8], at: usize) -> Point
-    requires { ⌜ at + pointBytes ≤ length (now s) ⌝ }
-    ensures { λ r. ⌜ r ≡ pointOf (drop at (now (s .entry))) ⌝ }
+// A height from its two bytes.
+fn height_of(low: u8, high: u8) -> u16
+    ensures { λ r. ⌜ r ≡ low + high * 256 ⌝ }
 {
-    Point {
-        x: s[at],
-        y: s[at + 1],
+    low as u16 + high as u16 * 256
+}
+
+// How many bytes a point is.
+pub fn point_bytes(edition: Edition) -> usize
+    ensures { λ r. ⌜ r ≡ pointBytes edition ⌝ }
+{
+    match edition {
+        Edition::One => 2,
+        Edition::Two => 3,
+    }
+}
+
+// A point: its x, then its height.
+fn read_point(edition: Edition, s: &[u8], at: usize) -> Point
+    requires { ⌜ at + pointBytes edition ≤ length (now s) ⌝ }
+    ensures { λ r. ⌜ r ≡ pointOf edition (drop at (now (s .entry))) ⌝ }
+{
+    match edition {
+        Edition::One => Point {
+            x: s[at],
+            y: height_of(0, s[at + 1]),
+        },
+        Edition::Two => Point {
+            x: s[at],
+            y: height_of(s[at + 1], s[at + 2]),
+        },
     }
 }
 
 // n points from a position on.
-pub fn read_points(s: &[u8], from: usize, n: usize) -> Curve
-    requires { ⌜ (n ≤ limit) × (from + n * pointBytes ≤ length (now s)) ⌝ }
-    ensures { λ r. ⌜ (listOf r ≡ pairs n (drop from (now (s .entry)))) × (r .count ≡ n) ⌝ }
+pub fn read_points(edition: Edition, s: &[u8], from: usize, n: usize) -> Curve
+    requires { ⌜ (n ≤ limit) × (from + n * pointBytes edition ≤ length (now s)) ⌝ }
+    ensures { λ r. ⌜
+        (listOf r ≡ pairs edition n (drop from (now (s .entry)))) × (r .count ≡ n) ⌝ }
 {
+    let stride = point_bytes(edition);
     let mut points = [Point { x: 0, y: 0 }; 64];
     let mut at = from;
     let mut i: usize = 0;
     while i < n {
-        points[i] = read_point(s, at);
-        at += POINT_BYTES;
+        points[i] = read_point(edition, s, at);
+        at += stride;
         i += 1;
     }
     Curve { points, count: n }
 }
 
 fn no_curve(refusal: Answer) -> CurveRead
-    ensures { λ r. ⌜ (r .answer ≡ refusal) × (curveAnswer (r .curve) ≡ Done) ⌝ }
+    ensures { λ r. ⌜ (r .answer ≡ refusal) × (curveAnswer Whole (r .curve) ≡ Done) ⌝ }
 {
     CurveRead {
         answer: refusal,
@@ -90,14 +121,15 @@ fn read_curve(s: &[u8], at: usize, least: usize) -> CurveRead
         return no_curve(counted);
     }
     let from = at + 1;
-    if s.len() - from < n * POINT_BYTES {
+    let bytes = n * point_bytes(Edition::One);
+    if s.len() - from < bytes {
         return no_curve(Answer::RecordTruncated);
     }
-    let curve = read_points(s, from, n);
+    let curve = read_points(Edition::One, s, from, n);
     if curve.is_rising() {
         CurveRead {
             answer: Answer::Done,
-            next: from + n * POINT_BYTES,
+            next: from + bytes,
             curve,
         }
     } else {

@@ -15,7 +15,7 @@ use Rattle.floats.specs.Segment.{Segment}
 use Rattle.single.specs.Constants.{𝟎, 𝟐𝟓𝟓, 𝟎-is, 𝟐𝟓𝟓-is}
 use Rattle.points.specs.declared.Point.{Point}
 use Rattle.points.specs.Knots.{xOf, yOf, xRow, yRow, at}
-use Rattle.points.specs.Order.{Bytes, all-at, rising-to}
+use Rattle.points.specs.Order.{Proper, all-at, rising-to}
 use Rattle.points.specs.Shape.{Shape}
 use Rattle.points.specs.Rows.{x-is, y-is, y-at, height-fits}
 
@@ -31,20 +31,17 @@ pub record Rows (xs ys : List Float) (n : ℕ) (a h : ℕ → ℕ) : Type 0 wher
   pub y-is : (i : ℕ) → i < n → Is (at ys i) (h i) 0 256
   pub y-fits : (i : ℕ) → i < n → T (fits binary32 (at ys i))
 
--- ---- the knots of a kept list, which have whole heights
-abbrev pub fineHeight : List Point → ℕ → ℕ
-fineHeight ks i = 256 * yOf ks i
-
+-- ---- the knots of a kept list
 pub rows-of : (ks : List Point) → Shape ks
-    → Rows (xRow ks) (yRow ks) (length ks) (xOf ks) (fineHeight ks)
+    → Rows (xRow ks) (yRow ks) (length ks) (xOf ks) (yOf ks)
 rows-of ks s = record {
   two = s .two;
   start = s .start;
   end = s .end;
   rising = rising-to ks (s .rising);
-  high = λ i l. omega (arith, all-at Bytes ks (s .bytes) i l .1);
-  x-is = λ i l. x-is ks i l (s .bytes);
-  y-is = λ i l. y-is ks i l (s .bytes);
+  high = λ i l. all-at Proper ks (s .proper) i l .1;
+  x-is = λ i l. x-is ks i l (s .proper);
+  y-is = λ i l. y-is ks i l (s .proper);
   y-fits = λ i l. rw (y-at ks i l) (height-fits (yOf ks i));
 }
 

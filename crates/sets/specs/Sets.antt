@@ -10,7 +10,8 @@ use Rattle.answers.specs.declared.Answer.the-variants.{PointsNotRising}
 use Rattle.answers.specs.Checks.{Check, _when_, firstRefusal}
 use Rattle.points.specs.declared.Point.{Point}
 use Rattle.points.specs.declared.Curve.{Curve}
-use Rattle.points.specs.Points.{listOf, rises, listChecks}
+use Rattle.points.specs.declared.Heights.{Heights}
+use Rattle.points.specs.Points.{listOf, rises, countCheck, heightCheck}
 use Rattle.tables.specs.declared.CurveInterpolation.{CurveInterpolation}
 use Rattle.tables.specs.declared.CurveInterpolation.the-variants.{MonotoneCubicBox}
 use Rattle.sets.specs.declared.Channel.{Channel}
@@ -129,9 +130,11 @@ withKind k v =
 abbrev pub risingCheck : List Point → Check
 risingCheck l = PointsNotRising when not (rises l)
 
--- one list: 3, then 4
-abbrev pub curveChecks : Curve → List Check
-curveChecks c = listChecks c ++ risingCheck (listOf c) ∷ []
+-- one list that may have such heights: 3, then 4, then 20, "tested in each list after 3 and 4, before
+-- the next list and all later checks"
+abbrev pub curveChecks : Heights → Curve → List Check
+curveChecks heights c =
+    countCheck (c .count) ∷ risingCheck (listOf c) ∷ heightCheck heights (listOf c) ∷ []
 
 -- the checks of a set, by those of a list
 module _ (checks : Curve → List Check) where
@@ -144,15 +147,15 @@ module _ (checks : Curve → List Check) where
       checks (s .master) ++ channelChecks (s .red) ++ channelChecks (s .green)
       ++ channelChecks (s .blue)
 
-unfoldable pub curveAnswer : Curve → Answer
-curveAnswer c = firstRefusal (curveChecks c)
+unfoldable pub curveAnswer : Heights → Curve → Answer
+curveAnswer heights c = firstRefusal (curveChecks heights c)
 
-unfoldable pub channelAnswer : Channel → Answer
-channelAnswer c = firstRefusal (channelChecks curveChecks c)
+unfoldable pub channelAnswer : Heights → Channel → Answer
+channelAnswer heights c = firstRefusal (channelChecks (curveChecks heights) c)
 
--- "each with 3 and then 4"
-unfoldable pub setAnswer : Curves → Answer
-setAnswer s = firstRefusal (setChecks curveChecks s)
+-- "each with 3 and then 4", and then 20
+unfoldable pub setAnswer : Heights → Curves → Answer
+setAnswer heights s = firstRefusal (setChecks (curveChecks heights) s)
 
 -- ---- the table and the list of a channel
 -- "the colour's own table or else the master's"

@@ -22,6 +22,8 @@ ghost use Rattle.sets.specs.Sets.{
 use answers::Answer;
 use answers::first_of;
 use points::Curve;
+use points::Heights;
+use points::check_count;
 use tables::CurveInterpolation;
 
 // A colour's list, where it is present.
@@ -44,19 +46,18 @@ pub struct Curves {
     pub interpolation: CurveInterpolation,
 }
 
-// The refusals of one list: its count, then its order.
-pub fn check_curve(curve: Curve) -> Answer
-    ensures { λ r. ⌜ r ≡ curveAnswer curve ⌝ }
+// The refusals of one list that may have such heights: its count, then its order, then its heights.
+pub fn check_curve(curve: Curve, heights: Heights) -> Answer
+    ensures { λ r. ⌜ r ≡ curveAnswer heights curve ⌝ }
 {
-    let given = curve.check_given();
-    if !given.is_done() {
-        return given;
+    let counted = check_count(curve.count);
+    if !counted.is_done() {
+        return counted;
     }
-    if curve.is_rising() {
-        Answer::Done
-    } else {
-        Answer::PointsNotRising
+    if !curve.is_rising() {
+        return Answer::PointsNotRising;
     }
+    curve.check_heights(heights)
 }
 
 impl Channel {
@@ -78,11 +79,11 @@ impl Channel {
         }
     }
 
-    pub fn check(self) -> Answer
-        ensures { λ r. ⌜ r ≡ channelAnswer self ⌝ }
+    pub fn check(self, heights: Heights) -> Answer
+        ensures { λ r. ⌜ r ≡ channelAnswer heights self ⌝ }
     {
         if self.present {
-            check_curve(self.curve)
+            check_curve(self.curve, heights)
         } else {
             Answer::Done
         }
@@ -191,13 +192,13 @@ impl Curves {
     }
 
     // The present lists in their order: master, red, green, blue.
-    pub fn check(self) -> Answer
-        ensures { λ r. ⌜ r ≡ setAnswer self ⌝ }
+    pub fn check(self, heights: Heights) -> Answer
+        ensures { λ r. ⌜ r ≡ setAnswer heights self ⌝ }
     {
-        let master = check_curve(self.master);
-        let red = self.red.check();
-        let green = self.green.check();
-        let blue = self.blue.check();
+        let master = check_curve(self.master, heights);
+        let red = self.red.check(heights);
+        let green = self.green.check(heights);
+        let blue = self.blue.check(heights);
         first_of(first_of(first_of(master, red), green), blue)
     }
 }

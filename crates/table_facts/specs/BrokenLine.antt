@@ -1,16 +1,24 @@
--- The exact broken line of a given list: it is there at every byte, has one value there, also where
--- two pieces meet, and at a knot's x it is the knot's y.
+-- The exact broken line of a given list: it is there at every position from 0 to 255, has one value
+-- there, also where two pieces meet, and at a knot's x it is the knot's height.
 use mathlib.Core.Path.{_≡_, refl, sym, ap, _∙_}
 use mathlib.Core.List.{List}
 use Prim.Native.Nat.{ℕ, zero, suc, _+_, _-_, _*_, _≤_, _<_}
-use native.Mathlib.Nat.{le-refl, mul-right-comm}
+use native.Mathlib.Nat.{
+  le-refl,
+  le-of-lt,
+  mul-pos,
+  mul-lt-mul-of-pos-right,
+  add-sub-of-le,
+  eq-of-mul-eq-mul-right,
+}
 use native.Mathlib.Decide.{ℕ-discrete, decLe, decLt}
 use native.Mathlib.Omega.{arith}
+use lib.Dec.{lit<}
 use lib.ListN.{length}
 use Rattle.points.specs.declared.Point.{Point}
 use Rattle.points.specs.Points.{kept}
-use Rattle.points.specs.Knots.{givenKnots, xOf, yOf, OnLine}
-use Rattle.points.specs.Order.{All, Bytes, rising-to}
+use Rattle.points.specs.Knots.{givenKnots, xOf, yOf, LineAt}
+use Rattle.points.specs.Order.{All, Proper, rising-to}
 use Rattle.points.specs.Kept.{kept-is-kept}
 use Rattle.points.specs.Shape.{Shape, knots-shape}
 
@@ -23,35 +31,48 @@ between f v (suc n) low high = elim (decLe v (f (suc n))) [
   | no above ↦ (suc n, le-refl (suc n), omega arith, high)
 ]
 
--- ---- a piece of width d from the height m0 to m1, and its value n / d at k from its left end
-pub inside-piece : (m0 m1 k g : ℕ) → (m0 * g + m1 * k) + m0 * k ≡ m0 * (k + g) + m1 * k
+-- ---- a piece from the height m0 to m1, at k from its left end and g from its right one
+inside-piece : (m0 m1 k g : ℕ) → (m0 * g + m1 * k) + m0 * k ≡ m0 * (k + g) + m1 * k
 inside-piece m0 m1 k g = omega arith
 
--- ---- the line
-module _ (l : List Point) (bytes : All Bytes l) where
+-- ---- the line at the position p / c
+module _ (l : List Point) (proper : All Proper l) (p c : ℕ) where
   abbrev ks : List Point
   ks = givenKnots l
 
   shape : Shape ks
-  shape = knots-shape (kept l) (kept-is-kept l bytes)
+  shape = knots-shape (kept l) (kept-is-kept l proper)
 
   rise : (i j : ℕ) → i < j → j < length ks → xOf ks i < xOf ks j
   rise = rising-to ks (shape .rising)
 
-  -- its width is above 0
-  pub line-width : (v n d : ℕ) → OnLine l v n d → 0 < d
-  line-width v n d o = omega (arith, rise (o .i) (suc (o .i)) (le-refl (suc (o .i))) (o .inside))
+  -- the width of a piece, in parts of c
+  abbrev wide : ℕ → ℕ
+  wide i = (xOf ks (suc i) - xOf ks i) * c
 
-  -- it is there at every byte
-  piece : (v i : ℕ) → suc i < length ks → xOf ks i ≤ v → v ≤ xOf ks (suc i)
-      → (n d : ℕ) × OnLine l v n d
-  piece v i h low high =
-      let k = v - xOf ks i in
-      let g = xOf ks (suc i) - v in
-      let parts : k + g ≡ xOf ks (suc i) - xOf ks i = omega arith in (
+  width-split : (i : ℕ) → suc i < length ks → xOf ks i * c + wide i ≡ xOf ks (suc i) * c
+  width-split i h =
+      let whole = add-sub-of-le (le-of-lt (rise i (suc i) (le-refl (suc i)) h)) in
+      omega (arith, ap (λ (t : ℕ). t * c) whole)
+
+  -- its divisor is above 0
+  pub line-width : (n d : ℕ) → LineAt l p c n d → 0 < d
+  line-width n d o =
+      let apart : 0 < xOf ks (suc (o .i)) - xOf ks (o .i) =
+      omega (arith, rise (o .i) (suc (o .i)) (le-refl (suc (o .i))) (o .inside)) in
+      rw (o .width) (mul-pos (mul-pos apart (o .divisor)) (lit< tt))
+
+  -- it is there
+  piece : (i : ℕ) → 0 < c → suc i < length ks → xOf ks i * c ≤ p → p ≤ xOf ks (suc i) * c
+      → (n d : ℕ) × LineAt l p c n d
+  piece i some h low high =
+      let k = p - xOf ks i * c in
+      let g = xOf ks (suc i) * c - p in
+      let parts : k + g ≡ wide i = omega (arith, width-split i h) in (
         yOf ks i * g + yOf ks (suc i) * k,
-        xOf ks (suc i) - xOf ks i,
+        wide i * 256,
         record {
+          divisor = some;
           i = i;
           inside = h;
           left = low;
@@ -61,51 +82,65 @@ module _ (l : List Point) (bytes : All Bytes l) where
         },
       )
 
-  pub on-line : (v : ℕ) → v < 256 → (n d : ℕ) × OnLine l v n d
-  on-line v h =
+  pub on-line : 0 < c → p ≤ 255 * c → (n d : ℕ) × LineAt l p c n d
+  on-line some h =
       let last : suc (length ks - 2) ≡ length ks - 1 = omega (arith, shape .two) in
-      let r = between (xOf ks) v (length ks - 2) (omega (arith, shape .start))
-      (rw last (omega (arith, shape .end))) in
-      piece v (r .0) (omega arith) (r .2) (r .3)
+      let r =
+      between (λ i. xOf ks i * c) p (length ks - 2) (rw (shape .start) (omega arith))
+      (rw (last, shape .end) h) in
+      piece (r .0) some (omega (arith, shape .two)) (r .2) (r .3)
 
-  -- at a knot's x it is the knot's y
-  pub line-at-knot : (v n d : ℕ) → OnLine l v n d
-      → (j : ℕ) → j < length (givenKnots l) → xOf (givenKnots l) j ≡ v
-      → n ≡ yOf (givenKnots l) j * d
-  line-at-knot v n d o j h e =
+  -- at a knot's x it is the knot's height
+  pub line-at-knot : (n d : ℕ) → LineAt l p c n d
+      → (j : ℕ) → j < length (givenKnots l) → xOf (givenKnots l) j * c ≡ p
+      → n * 256 ≡ yOf (givenKnots l) j * d
+  line-at-knot n d o j h e =
       let i = o .i in
-      let not-before : j < i → ⊥ = λ less. omega (arith, rise j i less (omega arith)) in
-      let not-behind : suc i < j → ⊥ = λ more. omega (arith, rise (suc i) j more h) in
+      let apart : (a b : ℕ) → a < b → b < length ks → xOf ks a * c < xOf ks b * c =
+      λ a b less inside. mul-lt-mul-of-pos-right (rise a b less inside) (o .divisor) in
+      let not-before : j < i → ⊥ = λ less. omega (arith, apart j i less (omega arith), o .left) in
+      let not-behind : suc i < j → ⊥ = λ more. omega (arith, apart (suc i) j more h, o .right) in
       elim (ℕ-discrete j i) [
         | yes same ↦
-            let left : v - xOf ks i ≡ 0 = omega (arith, ap (xOf ks) same) in
-            rw same (omega (arith, rw left at (o .height)))
+            let left : p - xOf ks i * c ≡ 0 = omega (arith, ap (λ (t : ℕ). xOf ks t * c) same) in
+            rw (same, o .width) (omega (arith, rw left at (o .height)))
         | no other ↦
             let next : j ≡ suc i = omega arith in
-            let right : v - xOf ks i ≡ d = omega (arith, ap (xOf ks) next) in
-            rw next (omega (arith, rw right at (o .height)))
+            let right : p - xOf ks i * c ≡ wide i =
+            omega (arith, ap (λ (t : ℕ). xOf ks t * c) next, width-split i (o .inside)) in
+            rw (next, o .width) (omega (arith, rw right at (o .height)))
       ]
 
   -- two pieces meet at a knot
-  meet : (v n d m e : ℕ) (o : OnLine l v n d) (p : OnLine l v m e) → o .i < p .i → n * e ≡ m * d
-  meet v n d m e o p less =
+  meet : (n d m e : ℕ) (o : LineAt l p c n d) (q : LineAt l p c m e) → o .i < q .i → n * e ≡ m * d
+  meet n d m e o q less =
       let j = suc (o .i) in
-      let not-past : j < p .i → ⊥ = λ past. omega (arith, rise j (p .i) past (omega arith)) in
-      let same : p .i ≡ j = omega arith in
-      let at-v : xOf ks j ≡ v = omega (arith, ap (xOf ks) same) in
-      rw (line-at-knot v n d o j (o .inside) at-v, line-at-knot v m e p j (o .inside) at-v)
-      (mul-right-comm (yOf ks j) d e)
+      let not-past : j < q .i → ⊥ =
+      λ past.
+      omega (
+        arith,
+        mul-lt-mul-of-pos-right (rise j (q .i) past (omega arith)) (o .divisor),
+        o .right,
+        q .left,
+      ) in
+      let same : q .i ≡ j = omega arith in
+      let at-p : xOf ks j * c ≡ p =
+      omega (arith, ap (λ (t : ℕ). xOf ks t * c) same, o .right, q .left) in
+      let first = line-at-knot n d o j (o .inside) at-p in
+      let second = line-at-knot m e q j (o .inside) at-p in
+      eq-of-mul-eq-mul-right 256 (lit< tt) (n * e) (m * d)
+      (omega (arith, ap (λ (t : ℕ). t * e) first, ap (λ (t : ℕ). t * d) second))
 
   -- one value
-  pub one-value : (v n d m e : ℕ) → OnLine l v n d → OnLine l v m e → n * e ≡ m * d
-  one-value v n d m e o p = elim (decLt (o .i) (p .i)) [
-    | yes less ↦ meet v n d m e o p less
-    | no not-less ↦ elim (decLt (p .i) (o .i)) [
-      | yes more ↦ sym (meet v m e n d p o more)
+  pub one-value : (n d m e : ℕ) → LineAt l p c n d → LineAt l p c m e → n * e ≡ m * d
+  one-value n d m e o q = elim (decLt (o .i) (q .i)) [
+    | yes less ↦ meet n d m e o q less
+    | no not-less ↦ elim (decLt (q .i) (o .i)) [
+      | yes more ↦ sym (meet m e n d q o more)
       | no not-more ↦
-          let same : p .i ≡ o .i = omega arith in
-          let width : d ≡ e = o .width ∙ sym (rw same at (p .width)) in
-          let height : n ≡ m = omega (arith, rw width at (o .height), rw same at (p .height)) in
+          let same : q .i ≡ o .i = omega arith in
+          let width : d ≡ e = o .width ∙ sym (rw same at (q .width)) in
+          let height : n ≡ m = omega (arith, o .height, rw same at (q .height)) in
           rw (width, height)
     ]
   ]

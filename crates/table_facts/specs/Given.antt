@@ -10,12 +10,12 @@ use Rattle.floats.specs.Value.{Is}
 use Rattle.single.specs.RuleLaws.{float-is}
 use Rattle.points.specs.declared.Point.{Point}
 use Rattle.points.specs.Points.{kept}
-use Rattle.points.specs.Knots.{knots, xOf, xRow, yRow}
-use Rattle.points.specs.Order.{All, Bytes}
+use Rattle.points.specs.Knots.{knots, xOf, yOf, xRow, yRow}
+use Rattle.points.specs.Order.{All, Proper}
 use Rattle.points.specs.Kept.{kept-is-kept}
 use Rattle.segments.specs.Segments.{step, sampleAt}
 use Rattle.segments.specs.Samples.{sample-byte, sample-fine}
-use Rattle.segments.specs.Rows.{Rows, fineHeight}
+use Rattle.segments.specs.Rows.{Rows}
 use Rattle.table_facts.specs.ListLaws.{straightOf, knot-rows}
 use Rattle.tables.specs.declared.CurveInterpolation.the-variants.{Linear}
 use Rattle.sampling.specs.Pieces.{pieceHeight, heightAt}
@@ -39,7 +39,7 @@ unfolding unclampedAt heightAt pieceHeight
 linear-height l x = refl
 
 -- the rows hold the knots of the kept points
-pub given-rows : (l : List Point) → All Bytes l
+pub given-rows : (l : List Point) → All Proper l
     → Rows (xRow (knots (kept l))) (yRow (knots (kept l))) (length (knots (kept l)))
-    (xOf (knots (kept l))) (fineHeight (knots (kept l)))
-given-rows l bytes = knot-rows (kept l) (kept-is-kept l bytes)
+    (xOf (knots (kept l))) (yOf (knots (kept l)))
+given-rows l proper = knot-rows (kept l) (kept-is-kept l proper)

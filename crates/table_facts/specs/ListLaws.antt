@@ -2,8 +2,8 @@
 -- the straight pieces are in order where the list never falls.
 use mathlib.Core.Path.{ap}
 use mathlib.Core.List.{List, List·Memᴰ}
-use Prim.Native.Nat.{ℕ, _*_, _≤_, _<_}
-use native.Mathlib.Nat.{le-of-eq, mul-le-mul-left}
+use Prim.Native.Nat.{ℕ, _≤_, _<_}
+use native.Mathlib.Nat.{le-of-eq}
 use native.Mathlib.Decide.{ℕ-discrete}
 use native.Mathlib.Omega.{arith}
 use lib.Dec.{T}
@@ -15,7 +15,7 @@ use Rattle.points.specs.Points.{nth}
 use Rattle.points.specs.Knots.{knots, xOf, yOf, xRow, yRow}
 use Rattle.points.specs.Order.{NeverFalls, IsKept, mem-at, never-falls-to}
 use Rattle.points.specs.Shape.{knots-shape, knots-mem, knots-never-fall}
-use Rattle.segments.specs.Rows.{Rows, fineHeight, rows-of}
+use Rattle.segments.specs.Rows.{Rows, rows-of}
 use Rattle.segments.specs.SegmentLaws.{InRange}
 use Rattle.table_facts.specs.StraightLaws.{straightAt, straight-at-knot, straight-order}
 use Rattle.table_facts.specs.CubicLaws.{cubicAt}
@@ -34,7 +34,7 @@ module _ (l : List Point) (kept : IsKept l) where
 
   pub knot-rows :
       Rows (xRow (knots l)) (yRow (knots l)) (length (knots l)) (xOf (knots l))
-      (fineHeight (knots l))
+      (yOf (knots l))
   knot-rows = rows-of ks (knots-shape l kept)
 
   -- ---- through points
@@ -44,23 +44,23 @@ module _ (l : List Point) (kept : IsKept l) where
   at-point P all p m = let k = mem-at ks p (knots-mem l p m) in rw (← (k .2)) (all (k .0) (k .1))
 
   pub straight-at-point : (x : Float) (p : Point) → List·Memᴰ p l → Is x (p .x) 0 1
-      → Is (straightOf l x) (256 * p .y) 0 256
+      → Is (straightOf l x) (p .y) 0 256
   straight-at-point x p m e =
-      at-point (λ q. Is x (q .x) 0 1 → Is (straightOf l x) (256 * q .y) 0 256)
+      at-point (λ q. Is x (q .x) 0 1 → Is (straightOf l x) (q .y) 0 256)
       (straight-at-knot knot-rows x) p m e
 
   pub kind-at-point : {rule : TangentRule} → HermiteRule rule
       → (ms : List Float) → MadeBy rule (xRow (knots l)) (yRow (knots l)) (length (knots l)) ms
       → (x : Float) (p : Point) → List·Memᴰ p l → Is x (p .x) 0 1
-      → Is (cubicOf l ms x) (256 * p .y) 0 256
+      → Is (cubicOf l ms x) (p .y) 0 256
   kind-at-point kind ms made x p m e =
-      at-point (λ q. Is x (q .x) 0 1 → Is (cubicOf l ms x) (256 * q .y) 0 256)
+      at-point (λ q. Is x (q .x) 0 1 → Is (cubicOf l ms x) (q .y) 0 256)
       (kind-at-knot knot-rows kind ms made x) p m e
 
   -- ---- order
   pub straight-rises : NeverFalls l → (x y : Float) → InRange x → InRange y → T (le x y)
       → T (le (straightOf l x) (straightOf l y))
-  straight-rises f = straight-order knot-rows (λ i j h k. mul-le-mul-left 256 (climbs i j h k))
+  straight-rises f = straight-order knot-rows climbs
     where
       climbs : (i j : ℕ) → i ≤ j → j < length ks → yOf ks i ≤ yOf ks j
       climbs i j h k = elim (ℕ-discrete i j) [

@@ -9,7 +9,7 @@ use Rattle.single.specs.RuleLaws.{clamped-le}
 use Rattle.single.specs.ByteLaws.{byte-le}
 use Rattle.points.specs.declared.Point.{Point}
 use Rattle.points.specs.Points.{kept}
-use Rattle.points.specs.Order.{All, Bytes, NeverFalls}
+use Rattle.points.specs.Order.{All, Proper, NeverFalls}
 use Rattle.points.specs.Kept.{kept-is-kept}
 use Rattle.segments.specs.SegmentLaws.{InRange}
 use Rattle.segments.specs.Samples.{sample-256, sample-4096, sample-le}
@@ -19,7 +19,7 @@ use Rattle.sampling.specs.Pieces.{pieceHeight, heightAt, sampled}
 use Rattle.tables.specs.Tables.{unclampedAt, sampleOf, entryOf}
 use Rattle.table_facts.specs.Given.{sampleX}
 
-module _ (l : List Point) (bytes : All Bytes l) (never-falls : NeverFalls (kept l)) where
+module _ (l : List Point) (proper : All Proper l) (never-falls : NeverFalls (kept l)) where
   -- ---- for any S whose numbers of samples are floats
   pub sample-order : (S : ℕ) → 2 ≤ S → S ≤ 2 ^ 24
       → (v w : ℕ) → v ≤ w → w < S → InRange (sampleX S v) → InRange (sampleX S w)
@@ -27,7 +27,7 @@ module _ (l : List Point) (bytes : All Bytes l) (never-falls : NeverFalls (kept 
   unfolding sampleOf sampled unclampedAt heightAt pieceHeight
   sample-order S two most v w h k p q =
       clamped-le _ _
-      (straight-rises (kept l) (kept-is-kept l bytes) never-falls (sampleX S v) (sampleX S w) p q
+      (straight-rises (kept l) (kept-is-kept l proper) never-falls (sampleX S v) (sampleX S w) p q
       (sample-le S two most v w h (omega arith)))
 
   pub byte-sample-order : (v w : ℕ) → v ≤ w → w < 256

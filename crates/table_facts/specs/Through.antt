@@ -1,10 +1,10 @@
 -- All ten kinds: every tangent and second derivative is finite, and so is every sample of both
--- tables. The seven that are no splines: where a sample is at a kept point's x, it is the
--- point's y, in the byte table and in the fine one.
+-- tables. The seven that are no splines: where a sample is at a kept point's x, it is the point's
+-- height, in the fine table exactly and in the byte table rounded.
 use mathlib.Core.Path.{_≡_, refl, _∙_}
 use mathlib.Core.Bool.{true, false}
 use mathlib.Core.List.{List, List·Memᴰ}
-use Prim.Native.Nat.{ℕ, _*_, _<_}
+use Prim.Native.Nat.{ℕ, _*_, _≤_, _<_}
 use native.Mathlib.Omega.{arith}
 use lib.Dec.{T, lit<}
 use lib.ListN.{length, replicate}
@@ -18,9 +18,9 @@ use Rattle.single.specs.Rules.{clamped}
 use Rattle.single.specs.RuleLaws.{clamped-keeps, clamped-finite}
 use Rattle.single.specs.ByteLaws.{byte-256ths}
 use Rattle.points.specs.declared.Point.{Point}
-use Rattle.points.specs.Points.{kept}
+use Rattle.points.specs.Points.{rounded, highest, kept}
 use Rattle.points.specs.Knots.{knots, xRow, yRow, at}
-use Rattle.points.specs.Order.{All, Bytes, IsKept, all-mem}
+use Rattle.points.specs.Order.{All, Proper, IsKept, all-mem}
 use Rattle.points.specs.Kept.{kept-is-kept}
 use Rattle.segments.specs.SegmentLaws.{InRange}
 use Rattle.segments.specs.Samples.{sample-256, sample-4096}
@@ -88,18 +88,18 @@ three-ways (ClampedCubic start end) byte =
     (λ legal. (slope-of-within start (legal .start), slope-of-within end (legal .end))) refl
 three-ways NotAKnotCubic byte = splines refl NotAKnot (λ legal. tt) refl
 
--- a height in 256ths of a byte is not clamped
-byte-kept : (z : Float) (y : ℕ) → y < 256 → Is z (256 * y) 0 256 → clamped z ≡ z
-byte-kept z y h i =
-    clamped-keeps z (le-of-is 𝟎 z 0 0 1 (256 * y) 0 256 (lit< tt) (lit< tt) 𝟎-is i (omega arith))
-    (le-of-is z 𝟐𝟓𝟓 (256 * y) 0 256 255 0 1 (lit< tt) (lit< tt) i 𝟐𝟓𝟓-is (omega arith))
+-- a height is not clamped
+height-kept : (z : Float) (y : ℕ) → y ≤ highest → Is z y 0 256 → clamped z ≡ z
+height-kept z y h i =
+    clamped-keeps z (le-of-is 𝟎 z 0 0 1 y 0 256 (lit< tt) (lit< tt) 𝟎-is i (omega arith))
+    (le-of-is z 𝟐𝟓𝟓 y 0 256 255 0 1 (lit< tt) (lit< tt) i 𝟐𝟓𝟓-is (omega arith))
 
-module _ (l : List Point) (bytes : All Bytes l) where
+module _ (l : List Point) (proper : All Proper l) where
   abbrev ks : List Point
   ks = knots (kept l)
 
   is-kept : IsKept (kept l)
-  is-kept = kept-is-kept l bytes
+  is-kept = kept-is-kept l proper
 
   -- the row of the values at the knots
   abbrev knotValues : CurveInterpolation → List Float
@@ -116,24 +116,24 @@ module _ (l : List Point) (bytes : All Bytes l) where
       (length (knots (kept l))) i))
   knot-values-finite k h i inside = elim (three-ways k (h .tension)) [
     | lines e ↦ rw e (𝟎-is .0)
-    | cubics form rule ↦ tangent-finite (given-rows l bytes) rule i inside
+    | cubics form rule ↦ tangent-finite (given-rows l proper) rule i inside
     | splines form rule slopes second ↦
-        rw second (second-within (given-rows l bytes) rule (slopes h) i inside .most .fin)
+        rw second (second-within (given-rows l proper) rule (slopes h) i inside .most .fin)
   ]
 
   height-finite : (k : CurveInterpolation) → LegalKind k → (x : Float) → InRange x
       → T (finite (unclampedAt k l x))
   unfolding unclampedAt heightAt pieceHeight
   height-finite k h x p = elim (three-ways k (h .tension)) [
-    | lines e ↦ rw e (straight-finite (given-rows l bytes) x p)
+    | lines e ↦ rw e (straight-finite (given-rows l proper) x p)
     | cubics form rule ↦
-        rw form (kind-finite (given-rows l bytes) rule (knotValues k) (made k) x p)
+        rw form (kind-finite (given-rows l proper) rule (knotValues k) (made k) x p)
     | splines form rule slopes second ↦
         let small : (i : ℕ) → i < length ks → Within (at (knotValues k) i) 225 =
         λ i inside.
         rw (made k i inside, second)
-        (second-within (given-rows l bytes) rule (slopes h) i inside) in
-        rw form (spline-within (given-rows l bytes) (knotValues k) small x p .most .fin)
+        (second-within (given-rows l proper) rule (slopes h) i inside) in
+        rw form (spline-within (given-rows l proper) (knotValues k) small x p .most .fin)
   ]
 
   -- and every sample, so none is NaN: for any S ..
@@ -155,7 +155,7 @@ module _ (l : List Point) (bytes : All Bytes l) where
   -- ---- through points
   height-through : (k : CurveInterpolation) → NoSpline k → (p : Point) → List·Memᴰ p (kept l)
       → (x : Float) → Is x (p .x) 0 1
-      → Is (unclampedAt k l x) (256 * p .y) 0 256
+      → Is (unclampedAt k l x) (p .y) 0 256
   unfolding unclampedAt heightAt pieceHeight
   height-through k h p m x e = elim (three-ways k (h .tension)) [
     | lines linear ↦ rw linear (straight-at-point (kept l) is-kept x p m e)
@@ -167,26 +167,26 @@ module _ (l : List Point) (bytes : All Bytes l) where
   -- for any S: a sample at a kept point's x has the point's height, exactly
   pub sample-through : (k : CurveInterpolation) → NoSpline k → (p : Point) → List·Memᴰ p (kept l)
       → (S v : ℕ) → Is (sampleX S v) (p .x) 0 1
-      → Is (sampleOf k l S v) (256 * p .y) 0 256
+      → Is (sampleOf k l S v) (p .y) 0 256
   unfolding sampleOf sampled
   sample-through k h p m S v e =
       let i = height-through k h p m (sampleX S v) e in
-      rw (byte-kept (unclampedAt k l (sampleX S v)) (p .y)
-      (all-mem Bytes (kept l) (is-kept .bytes) p m .1) i) i
+      rw (height-kept (unclampedAt k l (sampleX S v)) (p .y)
+      (all-mem Proper (kept l) (is-kept .proper) p m .1) i) i
 
-  -- of 256 samples: the entry at a kept point's x is its y
+  -- of 256 samples: the entry at a kept point's x is its height rounded
   pub through-points : (k : CurveInterpolation) → NoSpline k → (p : Point) → List·Memᴰ p (kept l)
-      → entryOf k l (p .x) ≡ p .y
+      → entryOf k l (p .x) ≡ rounded (p .y)
   unfolding entryOf
   through-points k h p m =
-      let b = all-mem Bytes (kept l) (is-kept .bytes) p m in
-      byte-256ths (sampleOf k l 256 (p .x)) (256 * p .y) (omega arith)
-      (sample-through k h p m 256 (p .x) (sample-x-is (p .x) (b .0))) ∙ omega arith
+      let b = all-mem Proper (kept l) (is-kept .proper) p m in
+      byte-256ths (sampleOf k l 256 (p .x)) (p .y) (omega arith)
+      (sample-through k h p m 256 (p .x) (sample-x-is (p .x) (b .0)))
 
-  -- and of 4,096: where the point's x is 17 * j, sample 273 * j is its y
+  -- and of 4,096: where the point's x is 17 * j, sample 273 * j is its height
   pub fine-through : (k : CurveInterpolation) → NoSpline k → (p : Point) → List·Memᴰ p (kept l)
       → (j : ℕ) → p .x ≡ 17 * j
-      → Is (sampleOf k l 4096 (273 * j)) (256 * p .y) 0 256
+      → Is (sampleOf k l 4096 (273 * j)) (p .y) 0 256
   fine-through k h p m j e =
-      let b = all-mem Bytes (kept l) (is-kept .bytes) p m in
+      let b = all-mem Proper (kept l) (is-kept .proper) p m in
       sample-through k h p m 4096 (273 * j) (rw e (fine-x-is j (omega arith)))

@@ -7,7 +7,7 @@ use Prim.Native.Nat.{ℕ}
 use lib.IntN.{ℤ, pos}
 use Rattle.answers.specs.Numbers.{numberOf}
 use Rattle.answers.specs.Checks.{firstRefusal}
-use Rattle.points.specs.Points.{straightCurve}
+use Rattle.points.specs.Points.{pt, allAllowed}
 use Rattle.sampling.specs.declared.Form.the-variants.{Straight, Cubic, Spline}
 use Rattle.tables.specs.declared.CurveInterpolation.the-variants.{
   Linear,
@@ -70,16 +70,24 @@ pub forms : (q : ℕ) (start end : ℤ)
 unfolding kindOf
 forms q start end = refl
 
--- ---- the fine table of a list of so many points, into a slice of so many samples
-abbrev build : ℕ → ℕ → ℕ
-build count S =
-    numberOf (firstRefusal (tableChecks (record { points = straightCurve; count = count }) S))
+-- ---- the fine table of a list of so many points, the last at this height, into a slice of so many
+-- samples
+abbrev build : ℕ → ℕ → ℕ → ℕ
+build count height S =
+    numberOf
+    (firstRefusal (tableChecks (record {
+      points = pt 0 0 ∷ pt 255 height ∷ [];
+      count = count;
+    }) S))
 
--- "Checks run in this order": 3, "A count of points is above 64", before 14, "A float table's
--- length isn't 256 or 4,096 (build)"
-pub build-order : (build 65 255 ≡ 3) × (build 65 256 ≡ 3) × (build 64 255 ≡ 14) × (build 64 256 ≡ 0)
-build-order = (refl, refl, refl, refl)
+-- "Checks run in this order": 3, "A count of points is above 64", then 20, "a height above 65,280",
+-- then 14, "A float table's length isn't 256 or 4,096 (build)"
+pub build-order : (build 65 65281 255 ≡ 3) × (build 65 65280 256 ≡ 3) × (build 64 65281 255 ≡ 20)
+    × (build 64 65280 255 ≡ 14) × (build 64 65280 256 ≡ 0)
+unfolding allAllowed
+build-order = (refl, refl, refl, refl, refl)
 
-pub lengths : (build 2 257 ≡ 14) × (build 2 4095 ≡ 14) × (build 2 4096 ≡ 0) × (build 2 4097 ≡ 14)
-    × (build 2 0 ≡ 14)
+pub lengths : (build 2 0 257 ≡ 14) × (build 2 0 4095 ≡ 14) × (build 2 0 4096 ≡ 0)
+    × (build 2 0 4097 ≡ 14) × (build 2 0 0 ≡ 14)
+unfolding allAllowed
 lengths = (refl, refl, refl, refl, refl)

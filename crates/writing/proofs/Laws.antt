@@ -1,5 +1,5 @@
 -- Laws that the proofs of the writer cite.
-use Prim.Native.Nat.{ℕ, zero, suc, _+_, _*_, _≤_, _<_}
+use Prim.Native.Nat.{ℕ, zero, suc, _+_, _*_, _≤_, _<_, _/_}
 use native.Mathlib.Omega.{arith}
 use native.Mathlib.Numerals.{add-one}
 use mathlib.Core.Path.{_≡_, refl, sym, ap, _∙_}
@@ -22,6 +22,7 @@ use Rattle.points.specs.declared.Curve.{Curve}
 use Rattle.points.specs.Points.{pt, nth, listOf}
 use Rattle.sets.specs.declared.Channel.{Channel}
 use Rattle.sets.specs.declared.Curves.{Curves}
+use Rattle.points.specs.declared.Heights.the-variants.{Whole}
 use Rattle.sets.specs.Sets.{viewOf, channelOf, curveChecks, setChecks, curveAnswer, channelAnswer, setAnswer}
 use Rattle.sets.specs.Legal.{passed-count}
 use Rattle.writing.specs.declared.Draft.{Draft}
@@ -78,7 +79,7 @@ pairs-append (p ∷ l) m = rw (pairs-append l m)
 
 -- one point more
 pub pairs-next : (l : List Point) (i : ℕ) → i < ListN.length l
-    → pairBytes (take i l) ++ (nth l i .x ∷ nth l i .y ∷ []) ≡ pairBytes (take (i + 1) l)
+    → pairBytes (take i l) ++ (nth l i .x ∷ nth l i .y / 256 ∷ []) ≡ pairBytes (take (i + 1) l)
 unfolding pairBytes
 pairs-next l i h = rw (add-one i, take-suc l i (pt 0 0) h, pairs-append)
 
@@ -97,7 +98,7 @@ pub there-channel : (m : Channel) → m .present ≡ there (channelOf m)
 there-channel m = by-test (m .present) (λ t. rw t) (λ t. rw t)
 
 -- ---- the master as a field
-module _ (c : Curve) (long : ListN.length (c .points) ≡ 64) (e : curveAnswer c ≡ Done) where
+module _ (c : Curve) (long : ListN.length (c .points) ≡ 64) (e : curveAnswer Whole c ≡ Done) where
   some-or-none : (n : ℕ) (l : List Point) → n ≤ ListN.length l
       → cond (not (eqb n 0)) (some (take n l)) none ≡ masterField (take n l)
   some-or-none zero l h = refl
@@ -105,10 +106,10 @@ module _ (c : Curve) (long : ListN.length (c .points) ≡ 64) (e : curveAnswer c
   some-or-none (suc n) (p ∷ l) h = rw (ne-eqb (suc n) 0 (λ z. omega arith))
 
   pub master-channel : channelOf (record { present = not (eqb (c .count) 0); curve = c }) ≡ masterField (listOf c)
-  master-channel = some-or-none (c .count) (c .points) (omega (arith, passed-count c e))
+  master-channel = some-or-none (c .count) (c .points) (omega (arith, passed-count Whole c e))
 
-pub master-passes : (c : Curve) (b : Bool) → curveAnswer c ≡ Done
-    → channelAnswer (record { present = b; curve = c }) ≡ Done
+pub master-passes : (c : Curve) (b : Bool) → curveAnswer Whole c ≡ Done
+    → channelAnswer Whole (record { present = b; curve = c }) ≡ Done
 unfolding channelAnswer curveAnswer
 master-passes c true e = e
 master-passes c false e = refl
@@ -154,16 +155,16 @@ module _ {s : Curves} {buffer : List ℕ} where
   refused e t =
       wrote-as _ _ _ (written s buffer e ∙ rw t) refl refl refl (λ done. absurd (false≢true (sym t ∙ ap isDone done)))
 
-  pub lists-refused : {a : Answer} → a ≡ setAnswer s → isDone a ≡ false → Refused s buffer a
+  pub lists-refused : {a : Answer} → a ≡ setAnswer Whole s → isDone a ≡ false → Refused s buffer a
   unfolding setAnswer
-  lists-refused e t = refused (first-stops (setChecks curveChecks s) (room s buffer) e t) t
+  lists-refused e t = refused (first-stops (setChecks (curveChecks Whole) s) (room s buffer) e t) t
 
-  module _ (passed : setAnswer s ≡ Done) {d : Draft} (h : Holds (encode (viewOf s)) d) where
+  module _ (passed : setAnswer Whole s ≡ Done) {d : Draft} (h : Holds (encode (viewOf s)) d) where
     pub room-refused : {a : Answer} → a ≡ firstRefusal (roomCheck (d .length) (ListN.length buffer) ∷ [])
         → isDone a ≡ false → Refused s buffer a
     unfolding setAnswer
     room-refused e t =
-        refused (first-goes-on (setChecks curveChecks s) (room s buffer) passed (rw (h .length) at e)) t
+        refused (first-goes-on (setChecks (curveChecks Whole) s) (room s buffer) passed (rw (h .length) at e)) t
 
     pub wrote-done : {a : Answer} {after : List ℕ} → a ≡ Done → d .length ≤ ListN.length buffer
         → after ≡ bytesMade d ++ drop (d .length) buffer → Held s

@@ -19,6 +19,7 @@ use Rattle.answers.specs.Checks.{
   done-append,
   has-room,
 }
+use Rattle.points.specs.declared.Heights.the-variants.{Whole}
 use Rattle.sets.specs.declared.Curves.{Curves}
 use Rattle.sets.specs.Sets.{viewOf, curveChecks, setChecks, setAnswer}
 use Rattle.writing.specs.Encode.{encode, outcome, writeChecks, writeRecord}
@@ -33,13 +34,13 @@ module _ (s : Curves) (buffer : List ℕ) where
   unfolding writeRecord
   written e = ap (λ a. outcome a (encode (viewOf s)) buffer) (sym e)
 
-  module _ (passed : setAnswer s ≡ Done) where
+  module _ (passed : setAnswer Whole s ≡ Done) where
     pub write-passed : writeRecord s buffer
         ≡ outcome
         (firstRefusal (roomCheck (ListN.length (encode (viewOf s))) (ListN.length buffer) ∷ []))
         (encode (viewOf s)) buffer
     unfolding setAnswer
-    write-passed = written (first-goes-on (setChecks curveChecks s) room passed refl)
+    write-passed = written (first-goes-on (setChecks (curveChecks Whole) s) room passed refl)
 
     pub write-done : ListN.length (encode (viewOf s)) ≤ ListN.length buffer
         → writeRecord s buffer ≡ record {
@@ -71,8 +72,8 @@ module _ (s : Curves) (buffer : List ℕ) where
       outcome-unchanged (firstRefusal (writeChecks s (ListN.length buffer))) (encode (viewOf s)) e
 
   pub done-case : writeRecord s buffer .answer ≡ Done
-      → (setAnswer s ≡ Done) × (ListN.length (encode (viewOf s)) ≤ ListN.length buffer)
+      → (setAnswer Whole s ≡ Done) × (ListN.length (encode (viewOf s)) ≤ ListN.length buffer)
   unfolding setAnswer
   done-case e =
-      let d = done-append (setChecks curveChecks s) room (sym write-answer ∙ e) in
+      let d = done-append (setChecks (curveChecks Whole) s) room (sym write-answer ∙ e) in
       (d .0, has-room _ _ (d .1))

@@ -1,5 +1,6 @@
 -- The record of a set, edition 1, byte by byte, and what the writer leaves in a lent buffer, as
--- document 01's sections "Stored record" and "When a call says no" and document 02's U1 have them.
+-- document 01's sections "Stored record" and "When a call says no" and document 02's U1 and U9 have
+-- them.
 -- Definitions only.
 use Prim.Native.Nat.{ℕ, _+_, _-_, _*_, _/_, _%_}
 use mathlib.Core.List.{List, [], _∷_, _++_}
@@ -14,6 +15,7 @@ use Rattle.answers.specs.declared.Answer.the-variants.{Done}
 use Rattle.answers.specs.Numbers.{isDone}
 use Rattle.answers.specs.Checks.{Check, firstRefusal, roomCheck}
 use Rattle.points.specs.declared.Point.{Point}
+use Rattle.points.specs.declared.Heights.the-variants.{Whole}
 use Rattle.tables.specs.declared.CurveInterpolation.{CurveInterpolation}
 use Rattle.tables.specs.Kinds.{kindNumber, carriesTension, carriesSlopes, kindBits, carriedOf}
 use Rattle.sets.specs.declared.Curves.{Curves}
@@ -21,10 +23,10 @@ use Rattle.sets.specs.Sets.{View, viewOf, curveChecks, setChecks}
 use Rattle.records.specs.Kinds.{unnamedKind}
 
 -- ---- the lists
--- "x, y pairs"
+-- "x, y pairs": the y is a level
 unfoldable pub pairBytes : List Point → List ℕ
 pairBytes [] = []
-pairBytes (p ∷ ps) = p .x ∷ p .y ∷ pairBytes ps
+pairBytes (p ∷ ps) = p .x ∷ p .y / 256 ∷ pairBytes ps
 
 -- "each a count byte, then x, y pairs"; what is absent has no field
 abbrev pub fieldBytes : Option (List Point) → List ℕ
@@ -111,9 +113,11 @@ outcome a bytes buffer =
     })
     (record { answer = a; length = 0; buffer = buffer })
 
--- the checks of the writer into a buffer of so many bytes: those of the set's lists, then 13
+-- the checks of the writer into a buffer of so many bytes: those of the set's lists, which hold
+-- "whole heights only", then 13
 abbrev pub writeChecks : Curves → ℕ → List Check
-writeChecks s room = setChecks curveChecks s ++ roomCheck (length (encode (viewOf s))) room ∷ []
+writeChecks s room =
+    setChecks (curveChecks Whole) s ++ roomCheck (length (encode (viewOf s))) room ∷ []
 
 unfoldable pub writeRecord : Curves → List ℕ → Write
 writeRecord s buffer =

@@ -4,9 +4,14 @@ use mathlib.Core.Path.{_≡_, refl}
 use mathlib.Core.List.{[], _∷_}
 use mathlib.Core.Option.{some}
 use lib.IntN.{pos, negsuc}
-use Rattle.answers.specs.declared.Answer.the-variants.{Done, PointCount, OutputTooSmall}
+use Rattle.answers.specs.declared.Answer.the-variants.{
+  Done,
+  PointCount,
+  OutputTooSmall,
+  HeightRange,
+}
 use Rattle.answers.specs.Checks.{firstRefusal}
-use Rattle.points.specs.Points.{straightCurve, risesFrom}
+use Rattle.points.specs.Points.{pt, straightCurve, risesFrom, allAllowed}
 use Rattle.tables.specs.declared.CurveInterpolation.the-variants.{
   Linear,
   MonotoneCubic,
@@ -17,7 +22,7 @@ use Rattle.tables.specs.declared.CurveInterpolation.the-variants.{
 }
 use Rattle.sets.specs.declared.Colour.the-variants.{Green}
 use Rattle.sets.specs.Sets.{emptyView, masterOnly, withColour, withKind}
-use Rattle.sets.specs.Examples.{line, many, falling, four}
+use Rattle.sets.specs.Examples.{line, many, falling, fine, four}
 use Rattle.writing.specs.Encode.{pairBytes, bitsUnder, encode, writeChecks}
 
 pub P10-written : encode (withKind Linear (masterOnly straightCurve))
@@ -58,15 +63,26 @@ pub slopes-written : encode (withKind (ClampedCubic (pos 256) (negsuc 32767)) em
 unfolding encode bitsUnder
 slopes-written = refl
 
--- the order of the refusals: 3 and 4 of the lists, then 13
-pub refused-3 : firstRefusal (writeChecks (four line many falling line) 0) ≡ PointCount
-unfolding risesFrom
+-- the order of the refusals: 3, 4 and 20 of the lists, then 13
+pub refused-3 : firstRefusal (writeChecks (four line many fine line) 0) ≡ PointCount
+unfolding risesFrom allAllowed
 refused-3 = refl
 
+-- "when today's record is written, one that isn't a multiple of 256", "before the next list and all
+-- later checks"
+pub refused-20 : firstRefusal (writeChecks (four line fine many falling) 0) ≡ HeightRange
+unfolding risesFrom allAllowed
+refused-20 = refl
+
 pub refused-13 : firstRefusal (writeChecks (four line line line line) 21) ≡ OutputTooSmall
-unfolding risesFrom encode bitsUnder pairBytes
+unfolding risesFrom allAllowed encode bitsUnder pairBytes
 refused-13 = refl
 
 pub accepted : firstRefusal (writeChecks (four line line line line) 22) ≡ Done
-unfolding risesFrom encode bitsUnder pairBytes
+unfolding risesFrom allAllowed encode bitsUnder pairBytes
 accepted = refl
+
+-- a height of 256 is the level 1
+pub level-written : encode (masterOnly (pt 0 256 ∷ [])) ≡ 0x81 ∷ 1 ∷ 0 ∷ 1 ∷ []
+unfolding encode bitsUnder pairBytes
+level-written = refl

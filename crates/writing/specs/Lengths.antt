@@ -11,6 +11,7 @@ use Rattle.points.specs.declared.Point.{Point}
 use Rattle.tables.specs.declared.CurveInterpolation.{CurveInterpolation}
 use Rattle.tables.specs.Kinds.{kindNumber, carriesTension, carriesSlopes}
 use Rattle.sets.specs.Sets.{View}
+use Rattle.points.specs.declared.Heights.the-variants.{Whole}
 use Rattle.sets.specs.Legal.{LegalList, LegalColour, Legal}
 use Rattle.writing.specs.Encode.{
   pairBytes,
@@ -28,12 +29,12 @@ unfolding pairBytes
 pairs-length [] = refl
 pairs-length (p ∷ l) = omega (arith, pairs-length l)
 
-field-length : (o : Option (List Point)) → LegalColour o → length (fieldBytes o) ≤ longestField
+field-length : (o : Option (List Point)) → LegalColour Whole o → length (fieldBytes o) ≤ longestField
 field-length none h = lit≤ tt
 field-length (some l) h = omega (arith, pairs-length l)
 
 -- a legal list is a legal field, empty or not
-pub master-legal : (l : List Point) → LegalList l → LegalColour (masterField l)
+pub master-legal : (l : List Point) → LegalList Whole l → LegalColour Whole (masterField l)
 master-legal [] h = tt
 master-legal (p ∷ l) h = h
 
@@ -54,7 +55,7 @@ pub record FieldLengths (v : View) : Type 0 where
   pub kind : length (kindBytes (v .kind)) ≤ 1
   pub carried : length (carriedBytes (v .kind)) ≤ 4
 
-pub field-lengths : (v : View) → Legal v → FieldLengths v
+pub field-lengths : (v : View) → Legal Whole v → FieldLengths v
 field-lengths v h = record {
   master = field-length (masterField (v .master)) (master-legal (v .master) (h .master));
   red = field-length (v .red) (h .red);
@@ -64,6 +65,6 @@ field-lengths v h = record {
   carried = carried-length (v .kind);
 }
 
-pub encode-length : (v : View) → Legal v → length (encode v) ≤ longest
+pub encode-length : (v : View) → Legal Whole v → length (encode v) ≤ longest
 unfolding encode
 encode-length v h = let f = field-lengths v h in simp length-append (omega arith)

@@ -7,6 +7,7 @@ ghost use mathlib.Core.Bool.{cond};
 ghost use Prim.Native.Nat.{_≤_};
 ghost use lib.ListN.{length, drop};
 ghost use Rattle.answers.specs.declared.Answer.the-variants.{Done};
+ghost use Rattle.points.specs.declared.Heights.the-variants.{Whole};
 ghost use Rattle.points.specs.Points.{listOf};
 ghost use Rattle.sets.specs.Sets.{viewOf, channelOf, curveAnswer, channelAnswer, setAnswer};
 ghost use Rattle.tables.specs.Kinds.{LegalKind};
@@ -28,6 +29,7 @@ ghost use Rattle.records.specs.Format.{longest};
 use answers::Answer;
 use answers::room_for;
 use points::Curve;
+use points::Heights;
 use records::kinds::unnamed_kind;
 use sets::Channel;
 use sets::Curves;
@@ -73,7 +75,7 @@ impl Draft {
         self
     }
 
-    // An x and a y for each point.
+    // An x and a y for each point. The y is a level: heights are multiples of 256 here.
     fn pairs(self, curve: Curve) -> Draft
         requires { ⌜ (curve .count ≤ limit) × Room (pairBytes (listOf curve)) self ⌝ }
         ensures { λ r. ⌜ Appended (pairBytes (listOf curve)) self r ⌝ }
@@ -85,7 +87,7 @@ impl Draft {
         while i < n {
             let p = curve.points[i];
             bytes[at] = p.x;
-            bytes[at + 1] = p.y;
+            bytes[at + 1] = (p.y / 256) as u8;
             at += 2;
             i += 1;
         }
@@ -94,7 +96,7 @@ impl Draft {
 
     // A list, where it is present: its count, then its points.
     fn field(self, channel: Channel) -> Draft
-        requires { ⌜ (channelAnswer channel ≡ Done) × Room (fieldBytes (channelOf channel)) self ⌝ }
+        requires { ⌜ (channelAnswer Whole channel ≡ Done) × Room (fieldBytes (channelOf channel)) self ⌝ }
         ensures { λ r. ⌜ Appended (fieldBytes (channelOf channel)) self r ⌝ }
     {
         if channel.present {
@@ -171,8 +173,8 @@ fn mark(present: bool, weight: u8) -> u8
 
 // The master as a field: an empty one is left out.
 fn master_field(curve: Curve) -> Channel
-    requires { ⌜ curveAnswer curve ≡ Done ⌝ }
-    ensures { λ r. ⌜ (channelOf r ≡ masterField (listOf curve)) × (channelAnswer r ≡ Done) ⌝ }
+    requires { ⌜ curveAnswer Whole curve ≡ Done ⌝ }
+    ensures { λ r. ⌜ (channelOf r ≡ masterField (listOf curve)) × (channelAnswer Whole r ≡ Done) ⌝ }
 {
     Channel {
         present: curve.count != 0,
@@ -198,7 +200,7 @@ fn map_byte(master: Channel, set: Curves) -> u8
 
 // The record of a set whose lists are legal.
 fn record_of(set: Curves) -> Draft
-    requires { ⌜ setAnswer set ≡ Done ⌝ }
+    requires { ⌜ setAnswer Whole set ≡ Done ⌝ }
     ensures { λ r. ⌜ Holds (encode (viewOf set)) r × LegalKind (set .interpolation) ⌝ }
 {
     let master = master_field(set.master);
@@ -232,7 +234,7 @@ fn copy_out(draft: Draft, buffer: &mut [u8])
 pub fn write_record(set: Curves, buffer: &mut [u8]) -> Written
     ensures { λ r. ⌜ WriteRecordCall set (now (buffer .entry)) r (now (buffer .exit)) ⌝ }
 {
-    let checked = set.check();
+    let checked = set.check(Heights::Whole);
     if !checked.is_done() {
         return Written {
             answer: checked,

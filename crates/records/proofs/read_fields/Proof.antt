@@ -7,6 +7,7 @@ use mathlib.Core.List.{List}
 use borrow.Author.Needs.{needs}
 use lib.ListN.{drop}
 use Rattle.answers.specs.declared.Answer.the-variants.{Done}
+use Rattle.points.specs.declared.Heights.the-variants.{Whole}
 use Rattle.points.specs.Owned.{owned-length}
 use Rattle.tables.specs.declared.CurveInterpolation.{CurveInterpolation}
 use Rattle.sets.specs.declared.Colour.the-variants.{Red, Green, Blue}
@@ -19,7 +20,7 @@ use Rattle.records.proofs.Members.{empty-set-passes}
 use Rattle.records.proofs.read_fields.Statement.{statement}
 use Rattle.records.proofs.read_fields.Tie as tie
 
-start-passes : (c : tie.After-empty) → setAnswer (c .empty .result) ≡ Done
+start-passes : (c : tie.After-empty) → setAnswer Whole (c .empty .result) ≡ Done
 start-passes c = empty-set-passes (c .empty .result) (search (needs, owned-length)) (c .empty .ensures)
 
 end-requires : tie.Need-end-requires

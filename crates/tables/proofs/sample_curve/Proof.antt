@@ -11,10 +11,9 @@ use Rattle.points.specs.declared.Curve.{Curve}
 use Rattle.points.specs.declared.Knots.{Knots}
 use Rattle.points.specs.Points.{listOf, kept, SortedList}
 use Rattle.points.specs.Knots.{knots, KnotsOf}
-use Rattle.points.specs.Order.{All, Bytes, all-take}
-use Rattle.points.specs.Owned.{owned-length, list-length, owned-bytes}
-use Rattle.points.specs.Kept.{kept-is-kept, kept-length}
-use Rattle.points.specs.Shape.{knots-shape, knots-length}
+use Rattle.points.specs.Owned.{owned-length, list-length}
+use Rattle.points.specs.Kept.{kept-length}
+use Rattle.points.specs.Shape.{knots-two, knots-length}
 use Rattle.tables.specs.declared.CurveInterpolation.{CurveInterpolation}
 use Rattle.sampling.specs.declared.Form.{Form}
 use Rattle.tables.specs.Kinds.{formOf, knotValueRow}
@@ -29,12 +28,12 @@ module _ (given sorted : Curve) {k : Knots}
   rows : KnotsOf (knots (kept (listOf given))) k
   rows = rw (s .list) at r
 
-  count : All Bytes (listOf given) → length (given .points) ≡ 64 → (2 ≤ k .count) × (k .count ≤ 66)
-  count bytes long =
+  count : length (given .points) ≡ 64 → (2 ≤ k .count) × (k .count ≤ 66)
+  count long =
       let l = listOf given in
       let most = list-length given long in
       rw (rows .count) (
-        omega (arith, knots-shape (kept l) (kept-is-kept l bytes) .two),
+        knots-two (kept l),
         omega (arith, knots-length (kept l), kept-length l, most),
       )
 
@@ -52,7 +51,7 @@ knot-values-requires c κs =
     let given = n .before .before in
     let few =
     count (given .args .curve) (n .sorted .result) (n .sorted .ensures) (k .knots .ensures)
-    (search (needs, all-take, owned-bytes)) (search (needs, owned-length)) in
+    (search (needs, owned-length)) in
     (few .0, few .1, refl)
 
 fill-requires : tie.Need-fill-requires
@@ -61,7 +60,7 @@ fill-requires c κs =
     let n = k .before in
     let given = n .before .before in (
       count (given .args .curve) (n .sorted .result) (n .sorted .ensures) (k .knots .ensures)
-          (search (needs, all-take, owned-bytes)) (search (needs, owned-length)),
+          (search (needs, owned-length)),
       given .pre,
     )
 

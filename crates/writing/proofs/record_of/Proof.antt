@@ -3,6 +3,7 @@ use Prim.Native.Nat.{_≤_}
 use native.Mathlib.Omega.{arith}
 use lib.ListN.{length}
 use Rattle.sets.specs.Sets.{viewOf, channelOf}
+use Rattle.points.specs.declared.Heights.the-variants.{Whole}
 use Rattle.sets.specs.Legal.{Passed, passed-set, legal-view}
 use Rattle.writing.specs.Encode.{fieldBytes, encode}
 use Rattle.records.specs.Format.{longestField}
@@ -16,12 +17,12 @@ lengths : (m : tie.After-master-field)
     → (length (fieldBytes (channelOf (m .master-field .result))) ≤ longestField)
     × FieldLengths (viewOf (m .before .args .set))
 lengths m =
-    let f = field-lengths (viewOf (m .before .args .set)) (legal-view (m .before .args .set) (m .before .pre)) in
+    let f = field-lengths (viewOf (m .before .args .set)) (legal-view Whole (m .before .args .set) (m .before .pre)) in
     (rw (m .master-field .ensures .0) (f .master), f)
 
 -- the set's lists pass
-passes : (m : tie.After-master-field) → Passed (m .before .args .set)
-passes m = passed-set (m .before .args .set) (m .before .pre)
+passes : (m : tie.After-master-field) → Passed Whole (m .before .args .set)
+passes m = passed-set Whole (m .before .args .set) (m .before .pre)
 
 field-requires : tie.Need-field-requires
 field-requires c κs =
@@ -65,7 +66,7 @@ returns c =
     let all = appended-then (appended-then lists (k .kind .ensures)) (c .carried .ensures .0) in (
       holds (appended-as all (rw (p .before .map-byte .ensures, m .master-field .ensures .0)))
           (p .before .before .new .ensures)
-          (encode-length (viewOf (m .before .args .set)) (legal-view (m .before .args .set) (m .before .pre))),
+          (encode-length (viewOf (m .before .args .set)) (legal-view Whole (m .before .args .set) (m .before .pre))),
       c .carried .ensures .1,
     )
 
@@ -73,7 +74,7 @@ pub record-of-spec : {M : Type 1} → statement M
 record-of-spec =
     tie.close
     (tie.spec
-    (λ c κs. passed-set (c .args .set) (c .pre) .master)
+    (λ c κs. passed-set Whole (c .args .set) (c .pre) .master)
     (omega arith) (omega arith) (omega arith)
     field-requires
     field-requires-2

@@ -7,6 +7,7 @@ use Rattle.answers.specs.declared.Answer.the-variants.{Done}
 use Rattle.answers.specs.Numbers.{asked-refused, asked-done}
 use Rattle.answers.specs.Checks.{has-room}
 use Rattle.points.specs.Owned.{owned-length}
+use Rattle.points.specs.declared.Heights.the-variants.{Whole}
 use Rattle.sets.specs.Sets.{setAnswer}
 use Rattle.sets.specs.SameLaws.{Full}
 use Rattle.writing.proofs.Laws.{lists-refused, room-refused, wrote-done}
@@ -19,7 +20,7 @@ returns c =
     lists-refused (k .check .ensures) (asked-refused (k .check .result) (c .before .is-done .ensures) (c .if1 .taken))
 
 -- the lists have passed
-passed : (c : tie.Else1) → setAnswer (c .before .before .before .before .args .set) ≡ Done
+passed : (c : tie.Else1) → setAnswer Whole (c .before .before .before .before .args .set) ≡ Done
 passed c =
     sym (c .before .before .check .ensures)
     ∙ asked-done (c .before .before .check .result) (c .before .is-done .ensures) (c .if1 .left)

@@ -12,12 +12,17 @@ use Rattle.lists.specs.Test.{by-test}
 use Rattle.answers.specs.declared.Answer.the-variants.{Done, PointCount, PointsNotRising}
 use Rattle.answers.specs.Numbers.{asked-refused, asked-done}
 use Rattle.answers.specs.Checks.{_when_, firstRefusal}
+use borrow.Author.Needs.{needs}
 use Rattle.points.specs.CheckLaws.{few-points}
+use Rattle.points.specs.Order.{All, Typed, all-take}
+use Rattle.points.specs.Owned.{owned-typed}
 use Rattle.points.specs.Points.{limit, listOf}
 use Rattle.records.specs.Parse.{good, refused, checked}
+use Rattle.records.specs.declared.point_lists.Edition.the-variants.{One}
 use Rattle.records.specs.PointLists.{pointBytes, pairs, countChecks, pairChecks, readPoints, readList}
 use Rattle.records.specs.CheckLaws.{checked-stops, checked-goes-on}
-use Rattle.records.proofs.Lists.{drop-at, rising-passes}
+use Rattle.records.specs.LevelLaws.{pairs-allowed}
+use Rattle.records.proofs.Lists.{drop-at, list-passes}
 use Rattle.records.proofs.point_lists.read_curve.Statement.{statement}
 use Rattle.records.proofs.point_lists.read_curve.Tie as tie
 
@@ -67,7 +72,7 @@ counted : (c : tie.Else2) →
     let n = w .wide .result in
     let s = drop (a .at + 1) (a .s .now) in
     readList (a .least) (drop (a .at) (a .s .now))
-    ≡ checked (pairChecks n s) (good (pairs n s) (drop (n * pointBytes) s))
+    ≡ checked (pairChecks n s) (good (pairs One n s) (drop (n * pointBytes One) s))
 unfolding readList readPoints
 counted c =
     let w = c .before .before .before in
@@ -78,50 +83,57 @@ counted c =
 
 returns-3 : tie.Need-returns-3
 returns-3 c =
-    let w = c .before .before .before .before .before in
+    let b = c .before .before in
+    let w = b .before .before .before .before in
     let a = w .before .before .before .before .args in
+    let size = b .point-bytes .ensures in
     record {
       list =
           rw (c .no-curve3 .ensures .0)
-          (sym (counted (c .before .before) ∙ rw (
+          (sym (counted (b .before) ∙ rw (
             length-drop (a .at + 1) (a .s .now),
-            lt-ltb (length (a .s .now) - (a .at + 1)) (w .wide .result * pointBytes) (omega arith),
+            lt-ltb (length (a .s .now) - (a .at + 1)) (w .wide .result * pointBytes One) (rw size at (c .before .if3 .taken)),
           )));
       legal = c .no-curve3 .ensures .1;
     }
 
 -- all the points are there
 whole : (c : tie.After-is-rising) →
-    let w = c .before .before .before .before .before .before in
+    let b = c .before .before .before in
+    let w = b .before .before .before .before in
     let a = w .before .before .before .before .args in
-    let n = w .wide .result in
     readList (a .least) (drop (a .at) (a .s .now))
     ≡ cond (c .is-rising .result)
-    (good (listOf (c .before .read-points .result)) (drop (a .at + 1 + n * pointBytes) (a .s .now)))
+    (good (listOf (c .before .read-points .result))
+    (drop (a .at + 1 + w .wide .result * b .point-bytes .result) (a .s .now)))
     (refused PointsNotRising)
 whole c =
     let p = c .before .read-points in
     let b = c .before .before .before in
-    let w = b .before .before .before in
+    let w = b .before .before .before .before in
     let a = w .before .before .before .before .args in
     let n = w .wide .result in
-    counted b
+    let size = b .point-bytes .ensures in
+    counted (b .before)
     ∙ rw (
+      size,
       length-drop (a .at + 1) (a .s .now),
-      le-ltb (length (a .s .now) - (a .at + 1)) (n * pointBytes) (omega arith),
-      drop-drop (n * pointBytes) (a .at + 1) (a .s .now),
+      le-ltb (length (a .s .now) - (a .at + 1)) (n * pointBytes One) (rw size at (c .before .before .if3 .left)),
+      drop-drop (n * pointBytes One) (a .at + 1) (a .s .now),
       ← p .ensures .0,
       ← c .is-rising .ensures,
     ) (by-test (c .is-rising .result) (λ t. rw t) (λ t. rw t))
 
 returns-4 : tie.Need-returns-4
 returns-4 c =
+    let p = c .before .before .read-points in
+    let typed : All Typed (listOf (p .result)) = search (needs, all-take, owned-typed) in
     record {
       list = sym (whole (c .before) ∙ rw (c .if4 .taken));
       legal =
-          let p = c .before .before in
-          rising-passes (p .read-points .result) (rw (p .read-points .ensures .1) (few (p .before .before)))
-          (sym (c .before .is-rising .ensures) ∙ c .if4 .taken);
+          list-passes (p .result) (rw (p .ensures .1) (few (c .before .before .before .before .before)))
+          (sym (c .before .is-rising .ensures) ∙ c .if4 .taken)
+          (rw (p .ensures .0) (pairs-allowed _ _ (rw (p .ensures .0) at typed)));
     }
 
 returns-5 : tie.Need-returns-5
@@ -139,9 +151,13 @@ read-curve-spec =
     returns
     (omega arith) (omega arith) (omega arith) (omega arith) (omega arith)
     returns-2
-    (omega arith) (omega arith) (omega arith) (omega arith)
+    (omega arith)
+    (omega arith)
+    (λ c. rw (c .point-bytes .ensures) (omega (arith, few (c .before))))
+    (omega arith)
+    (omega arith)
     returns-3
-    (λ c κs. (few (c .before), omega arith))
-    (omega arith) (omega arith) (omega arith) (omega arith)
+    (λ c κs. (few (c .before .before), omega (arith, rw (c .before .point-bytes .ensures) at (c .if3 .left))))
+    (omega arith) (omega arith) (omega arith)
     returns-4
     returns-5)

@@ -3,11 +3,13 @@
 use Prim.Native.Nat.{ℕ, suc, _≤_, _<_, _-_, _+_, _*_}
 use mathlib.Core.Path.{_≡_, refl, sym, _∙_}
 use mathlib.Core.List.{List, _++_, append-nil}
+use native.Mathlib.Nat.{mul-le-mul-right}
 use native.Mathlib.Numerals.{add-one}
 use native.Mathlib.Omega.{arith}
 use lib.ListN.{length, take, drop, set, length-set}
 use lib.Seq.{take-suc-set, append-snoc, drop-drop}
 use Rattle.points.specs.declared.Point.{Point}
+use Rattle.records.specs.declared.point_lists.Edition.{Edition}
 use Rattle.records.specs.PointLists.{pointBytes, pointOf, pairs}
 use Rattle.records.proofs.point_lists.read_points.Statement.{statement}
 use Rattle.records.proofs.point_lists.read_points.Tie as tie
@@ -15,49 +17,71 @@ use Rattle.records.proofs.point_lists.read_points.Tie as tie
 left-suc : (n i : ℕ) → i < n → n - i ≡ suc (n - (i + 1))
 left-suc n i h = omega arith
 
-pairs-more : (s : List ℕ) (n i at : ℕ) (ps : List Point) (p : Point) → i < n → i < length ps
-    → p ≡ pointOf (drop at s)
-    → take (i + 1) (set ps i p) ++ pairs (n - (i + 1)) (drop (at + pointBytes) s)
-    ≡ take i ps ++ pairs (n - i) (drop at s)
-unfolding pairs
-pairs-more s n i at ps p h room e =
-    rw (left-suc n i h, add-one i, take-suc-set ps i p room, e, drop-drop pointBytes at s) (append-snoc (take i ps) _ _)
+module _ (edition : Edition) where
+  pairs-more : (s : List ℕ) (n i at : ℕ) (ps : List Point) (p : Point) → i < n → i < length ps
+      → p ≡ pointOf edition (drop at s)
+      → take (i + 1) (set ps i p) ++ pairs edition (n - (i + 1)) (drop (at + pointBytes edition) s)
+      ≡ take i ps ++ pairs edition (n - i) (drop at s)
+  unfolding pairs
+  pairs-more s n i at ps p h room e =
+      rw (left-suc n i h, add-one i, take-suc-set ps i p room, e, drop-drop (pointBytes edition) at s)
+      (append-snoc (take i ps) _ _)
 
-pairs-done : (s : List ℕ) (n i at : ℕ) (ps all : List Point) → i ≡ n → take i ps ++ pairs (n - i) (drop at s) ≡ all
-    → take n ps ≡ all
-unfolding pairs
-pairs-done s n i at ps all e inv = let none : n - n ≡ 0 = omega arith in
-    sym (append-nil (take n ps)) ∙ (rw (e, none) at inv)
+  pairs-done : (s : List ℕ) (n i at : ℕ) (ps all : List Point) → i ≡ n
+      → take i ps ++ pairs edition (n - i) (drop at s) ≡ all → take n ps ≡ all
+  unfolding pairs
+  pairs-done s n i at ps all e inv = let none : n - n ≡ 0 = omega arith in
+      sym (append-nil (take n ps)) ∙ (rw (e, none) at inv)
+
+-- the next point ends before the last of n ends
+next-inside : (k n i from at long : ℕ) → i < n → at ≡ from + i * k → from + n * k ≤ long → at + k ≤ long
+next-inside k n i from at long h e room = omega (arith, mul-le-mul-right {m = i + 1} {n = n} k (omega arith))
 
 abbrev Inv-loop : tie.InvT-loop
-Inv-loop s from n points₀ at₀ i₀ points at i =
-    (i ≤ n) × (at ≡ from + i * pointBytes) × (length points ≡ 64)
-    × (take i points ++ pairs (n - i) (drop at s) ≡ pairs n (drop from s))
+Inv-loop edition s from n stride points₀ at₀ i₀ points at i =
+    (i ≤ n) × (at ≡ from + i * pointBytes edition) × (length points ≡ 64)
+    × (take i points ++ pairs edition (n - i) (drop at s) ≡ pairs edition n (drop from s))
 
 abbrev μ-loop : tie.MeasureT-loop
-μ-loop s from n points₀ at₀ i₀ points at i = n - i
+μ-loop edition s from n stride points₀ at₀ i₀ points at i = n - i
 
 loop-holds : tie.Need-loop-holds Inv-loop μ-loop
-loop-holds c = let all : c .before .args .n - 0 ≡ c .before .args .n = omega arith in
+loop-holds c =
+    let n = c .before .before .args .n in
+    let all : n - 0 ≡ n = omega arith in
     (omega arith, omega arith, refl, rw all)
+
+-- the point of a turn is inside
+inside : (c : tie.At-loop Inv-loop μ-loop) → let a = c .before .before .before .args in
+    c .loop .i < a .n → c .loop .at + pointBytes (a .edition) ≤ length (a .s .now)
+inside c h =
+    let start = c .before .before .before in
+    let a = start .args in
+    next-inside (pointBytes (a .edition)) (a .n) (c .loop .i) (a .from) (c .loop .at) (length (a .s .now)) h
+    (c .loop .inv .1) (start .pre .1)
 
 loop-again : tie.Need-loop-again Inv-loop μ-loop
 loop-again c =
     let b = c .before .before in
-    let a = b .before .before .args in (
+    let bytes = b .before .point-bytes .ensures in
+    let a = b .before .before .before .args in (
       omega arith,
-      omega arith,
+      rw bytes (omega (arith, b .loop .inv .1)),
       simp length-set (b .loop .inv .2),
-      pairs-more (a .s .now) (a .n) (b .loop .i) (b .loop .at) (b .loop .points) _ (omega arith) (omega arith)
-          (c .read-point .ensures)
-          ∙ b .loop .inv .3,
+      rw bytes
+          (pairs-more (a .edition) (a .s .now) (a .n) (b .loop .i) (b .loop .at) (b .loop .points) _ (omega arith)
+          (omega arith) (c .read-point .ensures)
+          ∙ b .loop .inv .3),
     )
 
 returns : tie.Need-returns Inv-loop μ-loop
 returns c =
     let b = c .before in
-    let a = b .before .before .args in
-    (pairs-done (a .s .now) (a .n) (b .loop .i) (b .loop .at) (b .loop .points) _ (omega arith) (b .loop .inv .3), refl)
+    let a = b .before .before .before .args in (
+      pairs-done (a .edition) (a .s .now) (a .n) (b .loop .i) (b .loop .at) (b .loop .points) _ (omega arith)
+          (b .loop .inv .3),
+      refl,
+    )
 
 pub read-points-spec : {M : Type 1} → statement M
 read-points-spec =
@@ -65,7 +89,11 @@ read-points-spec =
     (tie.spec
     Inv-loop
     μ-loop
+    (omega arith)
     loop-holds
-    (omega arith) (omega arith) (omega arith) (omega arith) (omega arith) (omega arith)
+    (λ c κs. inside (c .before) (omega arith))
+    (omega arith) (omega arith)
+    (λ c. omega (arith, inside (c .before .before) (omega arith), c .before .before .before .point-bytes .ensures))
+    (omega arith) (omega arith)
     loop-again
     returns)

@@ -8,7 +8,7 @@ returns : tie.Need-returns
 returns c =
     let lists = c .before .before .before in
     rw (
-      set-answer (lists .before .before .before .before .args .«self»),
+      set-answer (lists .before .before .before .before .args .heights) (lists .before .before .before .before .args .«self»),
       c .first-of3 .ensures,
       c .before .first-of2 .ensures,
       c .before .before .first-of .ensures,

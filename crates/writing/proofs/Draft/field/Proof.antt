@@ -8,6 +8,7 @@ use lib.ListN.{length}
 use lib.Seq.{length-take-le}
 use Rattle.points.specs.Points.{listOf}
 use Rattle.points.specs.Owned.{owned-length}
+use Rattle.points.specs.declared.Heights.the-variants.{Whole}
 use Rattle.sets.specs.Sets.{channelOf, curveAnswer, channelAnswer}
 use Rattle.sets.specs.Legal.{passed-count}
 use Rattle.writing.specs.Encode.{pairBytes, fieldBytes}
@@ -27,7 +28,7 @@ use Rattle.writing.proofs.Draft.field.Tie as tie
 module _ (c : tie.Then1) where
   few : c .before .args .channel .curve .count ≤ 64
   unfolding channelAnswer curveAnswer
-  few = passed-count (c .before .args .channel .curve) (rw (c .if1 .taken) at (c .before .pre .0))
+  few = passed-count Whole (c .before .args .channel .curve) (rw (c .if1 .taken) at (c .before .pre .0))
 
   bytes : let m = c .before .args .channel in
       m .curve .count ∷ pairBytes (listOf (m .curve)) ≡ fieldBytes (channelOf m)

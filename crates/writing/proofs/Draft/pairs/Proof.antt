@@ -38,7 +38,7 @@ loop-holds c =
 
 loop-again : tie.Need-loop-again Inv-loop μ-loop
 loop-again c =
-    let b = c .before .before in
+    let b = c .before .before .before in
     let a = b .before .before .args .t2 in
     let n = listed (b .before .before) in
     let next =
@@ -66,5 +66,6 @@ pairs-spec =
     μ-loop
     loop-holds
     (omega arith) (omega arith) (omega arith) (omega arith) (omega arith) (omega arith) (omega arith) (omega arith)
+    (omega arith)
     loop-again
     returns)
