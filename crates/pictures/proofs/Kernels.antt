@@ -3,10 +3,11 @@ use mathlib.Core.Path.{_≡_, refl, sym, _∙_}
 use mathlib.Core.Bool.{Bool, true, false, cond, _&&_, true≢false}
 use mathlib.Core.List.{List}
 use mathlib.Core.Option.{none, some}
-use Prim.Native.Nat.{ℕ, _*_, _≤_}
+use Prim.Native.Nat.{ℕ, _*_}
 use Rattle.answers.specs.declared.Answer.the-variants.{Done}
 use Rattle.lists.specs.Tabulate.{filled}
 use Rattle.points.specs.declared.Point.{Point}
+use Rattle.points.specs.declared.Heights.the-variants.{Fine}
 use Rattle.points.specs.Points.{listOf}
 use Rattle.tables.specs.declared.CurveInterpolation.{CurveInterpolation}
 use Rattle.tables.specs.Tables.{byteTable}
@@ -14,7 +15,6 @@ use Rattle.sets.specs.declared.Channel.{Channel}
 use Rattle.sets.specs.declared.Colour.{Colour}
 use Rattle.sets.specs.declared.Colour.the-variants.{Red, Green, Blue}
 use Rattle.sets.specs.Sets.{View, colourOf, channelOf, curveAnswer, channelAnswer, chosen, ownOrMaster}
-use Rattle.sets.specs.Legal.{passed-count}
 use Rattle.rows.specs.Bytes.{three, rowByte}
 use Rattle.rows.specs.Rows.{tightByte, tightAlpha}
 use Rattle.formats.specs.declared.PixelFormat.{PixelFormat}
@@ -52,7 +52,8 @@ tight-rows-by f v w h step plane out s by-is p-is red-is green-is blue-is e =
     rw (red-is, green-is, blue-is, by-is, p-is, tight f s .1) at e
 
 -- a list that is used has passed
-pub used-count : (by : Bool) (c : Channel) → channelAnswer c ≡ Done → by && c .present ≡ true → c .curve .count ≤ 64
+pub used-passes : (by : Bool) (c : Channel) → channelAnswer Fine c ≡ Done → by && c .present ≡ true
+    → curveAnswer Fine (c .curve) ≡ Done
 unfolding channelAnswer curveAnswer
-used-count false c e present = absurd (true≢false (sym present))
-used-count true c e present = passed-count (c .curve) (rw present at e)
+used-passes false c e present = absurd (true≢false (sym present))
+used-passes true c e present = rw present at e

@@ -13,6 +13,7 @@ use Rattle.answers.specs.declared.Answer.the-variants.{
   Done,
   PointCount,
   PointsNotRising,
+  HeightRange,
   UnsupportedFormat,
   PictureTooLarge,
   MissingPlane,
@@ -27,7 +28,7 @@ use Rattle.floats.specs.Value.{absolute}
 use Rattle.single.specs.Rules.{clamped, byteOf, guardedQuotient}
 use Rattle.points.specs.declared.Curve.{Curve}
 use Rattle.points.specs.declared.Point.{Point}
-use Rattle.points.specs.Points.{pt, risesFrom, firstAt, keptBelow, kept}
+use Rattle.points.specs.Points.{atLevel, risesFrom, allAllowed, firstAt, keptBelow, kept}
 use Rattle.points.specs.Knots.{rest, knots, xAt, yAt, xRow, yRow}
 use Rattle.segments.specs.Segments.{step, sampleAt, seek, segment}
 use Rattle.segments.specs.Straight.{part, straight}
@@ -37,7 +38,7 @@ use Rattle.tables.specs.Tables.{unclampedAt, sampleOf, entryOf}
 use Rattle.sets.specs.declared.Curves.{Curves}
 use Rattle.sets.specs.declared.Channel.{Channel}
 use Rattle.sets.specs.Sets.{presentChannel, viewOf}
-use Rattle.sets.specs.Examples.{stored, line, many, falling}
+use Rattle.sets.specs.Examples.{stored, line, many, falling, high}
 use Rattle.rows.specs.Bytes.{toned, rowByte}
 use Rattle.rows.specs.Rows.{inRow, planeByte, tightByte, needed}
 use Rattle.formats.specs.declared.PixelFormat.{PixelFormat}
@@ -79,7 +80,7 @@ run master f w h planes step len out outCr = record {
 
 -- what an answer opens, named in this one place: a theorem that unfolds `answered` unfolds them too
 unfoldable pub answered : Run → Answer
-unfolding answer risesFrom needed
+unfolding answer risesFrom allAllowed needed
 answered = answer
 
 unfoldable pub lutAnswered : PixelFormat → ℕ → ℕ → ℕ → ℕ → Answer
@@ -165,6 +166,7 @@ refused-plane = (refl, refl)
 pub refusals-in-order :
     (answer (run many Cmyk 4097 2 2 3 7 7 2) ≡ PointCount)
     × (answer (run falling Cmyk 4097 2 2 3 7 7 2) ≡ PointsNotRising)
+    × (answer (run high Cmyk 4097 2 2 3 7 7 2) ≡ HeightRange)
     × (answer (run line Cmyk 4097 2 2 3 7 7 2) ≡ UnsupportedFormat)
     × (answer (run line Yuv420P 4097 2 2 3 7 7 2) ≡ PictureTooLarge)
     × (answer (run line Yuv420P 4 2 2 3 7 7 2) ≡ MissingPlane)
@@ -174,7 +176,7 @@ pub refusals-in-order :
     × (answer (run line Yuv420P 4 2 3 4 8 8 2) ≡ OutputTooSmall)
     × (answer (run line Yuv420P 4 2 3 4 8 8 3) ≡ Done)
 unfolding answered
-refusals-in-order = (refl, refl, refl, refl, refl, refl, refl, refl, refl, refl)
+refusals-in-order = (refl, refl, refl, refl, refl, refl, refl, refl, refl, refl, refl)
 
 -- each chroma plane has an output of its own: a plane of 3 bytes does not fit into 2, though the
 -- other of 2 fits
@@ -208,10 +210,10 @@ entry = entryOf Linear
 
 abbrev redAndBlue : Curves
 redAndBlue = record {
-  master = stored (pt 0 255 ∷ pt 255 0 ∷ []) 2;
-  red = presentChannel (stored (pt 128 200 ∷ []) 1);
+  master = stored (atLevel 0 255 ∷ atLevel 255 0 ∷ []) 2;
+  red = presentChannel (stored (atLevel 128 200 ∷ []) 1);
   green = absent;
-  blue = presentChannel (stored (pt 128 100 ∷ []) 1);
+  blue = presentChannel (stored (atLevel 128 100 ∷ []) 1);
   interpolation = Linear;
 }
 
@@ -282,10 +284,10 @@ one-row-by-set = refl
 -- "In Rgb24 and Rgba the list that tones a byte is its colour's where present; in every other case
 -- it is the master's"
 pub toning-lists :
-    (tonedBy Rgb24 (viewOf redAndBlue) 0 ≡ pt 128 200 ∷ [])
-    × (tonedBy Rgb24 (viewOf redAndBlue) 1 ≡ pt 0 255 ∷ pt 255 0 ∷ [])
-    × (tonedBy Rgb24 (viewOf redAndBlue) 2 ≡ pt 128 100 ∷ [])
-    × (tonedBy Gray8 (viewOf redAndBlue) 0 ≡ pt 0 255 ∷ pt 255 0 ∷ [])
+    (tonedBy Rgb24 (viewOf redAndBlue) 0 ≡ atLevel 128 200 ∷ [])
+    × (tonedBy Rgb24 (viewOf redAndBlue) 1 ≡ atLevel 0 255 ∷ atLevel 255 0 ∷ [])
+    × (tonedBy Rgb24 (viewOf redAndBlue) 2 ≡ atLevel 128 100 ∷ [])
+    × (tonedBy Gray8 (viewOf redAndBlue) 0 ≡ atLevel 0 255 ∷ atLevel 255 0 ∷ [])
 toning-lists = (refl, refl, refl, refl)
 
 -- a step of 1 is below the row bytes of each format that is not refused before

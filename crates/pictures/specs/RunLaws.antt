@@ -9,6 +9,7 @@ use borrow.Author.Tests.{ltb-false, eqb-false}
 use Rattle.answers.specs.declared.Answer.the-variants.{Done}
 use Rattle.answers.specs.Numbers.{isDone}
 use Rattle.answers.specs.Checks.{AllPassed, roomCheck, done-append, all-passed}
+use Rattle.points.specs.declared.Heights.the-variants.{Fine}
 use Rattle.tables.specs.Tables.{byteTable}
 use Rattle.sets.specs.Sets.{View, viewOf, curveChecks, setChecks, setAnswer}
 use Rattle.sets.specs.Legal.{Legal, legal-view}
@@ -40,8 +41,8 @@ tables-of f v (suc (suc j)) = refl
 
 -- what is known of a run of the set call once it is accepted
 pub record Accepted (r : Run) : Type 0 where
-  pub lists : setAnswer (r .job .set) ≡ Done
-  pub legal : Legal (viewOf (r .job .set))
+  pub lists : setAnswer Fine (r .job .set) ≡ Done
+  pub legal : Legal Fine (viewOf (r .job .set))
   pub supported : Supported (r .job .format)
   pub planes : planesRead (r .job .format) ≤ r .job .planes
   pub plane :
@@ -58,7 +59,7 @@ accepted-run r e =
     let j = r .job in
     let l = r .lent in
     let f = j .format in
-    let lists = done-append (setChecks curveChecks (j .set)) (checksOfPicture r) e in
+    let lists = done-append (setChecks (curveChecks Fine) (j .set)) (checksOfPicture r) e in
     let format = all-passed (checksOfPicture r) (lists .1) in
     let size = format .1 in
     let planes = size .1 in
@@ -67,7 +68,7 @@ accepted-run r e =
     let output = plane .1 in
     record {
       lists = lists .0;
-      legal = legal-view (j .set) (lists .0);
+      legal = legal-view Fine (j .set) (lists .0);
       supported = eqb-false (planesRead f) 0 (format .0);
       planes = ltb-false (j .planes) (planesRead f) (planes .0);
       plane =

@@ -11,7 +11,8 @@ use Rattle.answers.specs.Numbers.{isDone}
 use Rattle.answers.specs.Checks.{Check, firstRefusal}
 use Rattle.lists.specs.Tabulate.{filled}
 use Rattle.points.specs.declared.Point.{Point}
-use Rattle.points.specs.Order.{All, Bytes}
+use Rattle.points.specs.declared.Heights.the-variants.{Fine}
+use Rattle.points.specs.Order.{All, Typed}
 use Rattle.tables.specs.Tables.{byteTable}
 use Rattle.sets.specs.declared.Colour.{Colour}
 use Rattle.sets.specs.declared.Colour.the-variants.{Red, Green, Blue}
@@ -61,11 +62,11 @@ held l = record {
   «out_cr» = length (l .outputs .cr);
 }
 
--- what follows from the code's types, although ℕ has larger numbers: the plane, the points and the
--- tension are `u8`; past the plane's end `getD` reads 0
+-- what follows from the code's types, although ℕ has larger numbers: the plane, the points' x and
+-- the tension are `u8`, the points' heights `u16`; past the plane's end `getD` reads 0
 pub record InTypes (r : Run) : Type 0 where
   pub plane : (k : ℕ) → getD (r .lent .plane .bytes) k 0 < 256
-  pub points : EveryList (All Bytes) (viewOf (r .job .set))
+  pub points : EveryList (All Typed) (viewOf (r .job .set))
   pub tension : carriedOf (r .job .set .interpolation) .tension < 256
 
 -- ---- what it is answered
@@ -81,14 +82,14 @@ module _ (r : Run) where
   abbrev pub hasChroma : Bool
   hasChroma = chromaRead (r .job .format)
 
-  -- the checks of the set call: 3 and 4 of the set's lists, then 8 to 13
+  -- the checks of the set call: 3, 4 and 20 of the set's lists, then 8 to 13
   abbrev pub checksOfPicture : List Check
   checksOfPicture =
       pictureChecks (r .job .format) (r .job .width) (r .job .height) (r .job .planes)
       (r .lent .plane .step) (held (r .lent))
 
   abbrev pub runChecks : List Check
-  runChecks = setChecks curveChecks (r .job .set) ++ checksOfPicture
+  runChecks = setChecks (curveChecks Fine) (r .job .set) ++ checksOfPicture
 
   unfoldable pub answer : Answer
   answer = firstRefusal runChecks

@@ -4,9 +4,10 @@ ghost use mathlib.Core.Bool.{true};
 ghost use Prim.Native.Nat.{_*_, _≤_};
 ghost use lib.ListN.{length};
 ghost use Rattle.answers.specs.declared.Answer.the-variants.{Done};
+ghost use Rattle.points.specs.declared.Heights.the-variants.{Fine};
 ghost use Rattle.points.specs.Points.{listOf};
 ghost use Rattle.tables.specs.Tables.{byteTable};
-ghost use Rattle.sets.specs.Sets.{viewOf, setAnswer};
+ghost use Rattle.sets.specs.Sets.{viewOf, curveAnswer, setAnswer};
 ghost use Rattle.rows.specs.Rows.{Rows};
 ghost use Rattle.formats.specs.Formats.{bytesAPixel};
 ghost use Rattle.formats.specs.Checks.{Supported};
@@ -18,6 +19,7 @@ use formats::Lengths;
 use formats::PixelFormat;
 use formats::checks;
 use points::Curve;
+use points::Heights;
 use rows::copy_bytes;
 use rows::tone_rows;
 use rows::tone_rows_into;
@@ -91,7 +93,7 @@ pub fn apply_tone_lut(
 
 // The table of a list, where it is present. Else nothing is built, and nothing reads the zeros.
 fn own_table(present: bool, curve: Curve, kind: CurveInterpolation) -> [u8; 256]
-    requires { ⌜ (present ≡ true → curve .count ≤ 64) ⌝ }
+    requires { ⌜ (present ≡ true → curveAnswer Fine curve ≡ Done) ⌝ }
     ensures { λ r. ⌜ (present ≡ true → r ≡ byteTable kind (listOf curve)) ⌝ }
 {
     if present {
@@ -112,7 +114,7 @@ fn tone_first(
     h: usize,
     out: &mut [u8],
 )
-    requires { ⌜ (setAnswer set ≡ Done) × Supported format ⌝ }
+    requires { ⌜ (setAnswer Fine set ≡ Done) × Supported format ⌝ }
     requires { ⌜ Rows w h (w * bytesAPixel format) step (length (now plane)) ⌝ }
     requires { ⌜ h * (w * bytesAPixel format) ≤ length (now out) ⌝ }
     ensures { λ _. ⌜
@@ -190,7 +192,7 @@ pub fn apply_pixels<'a, 'x, 'y, 'z>(
         out_cr: out_cr.len(),
     };
     let answer = first_of(
-        set.check(),
+        set.check(Heights::Fine),
         checks::picture_answer(format, w, h, job.planes, step, held),
     );
     if !answer.is_done() {

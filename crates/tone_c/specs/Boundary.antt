@@ -1,7 +1,7 @@
 -- The calls for a C or Rust caller, as the page of the C boundary has them: what a caller gives as
--- bytes and numbers, for each call its refusals in document 01's order, and what is in lent memory
+-- bytes and numbers, for each call its refusals in the papers' order, and what is in lent memory
 -- after it. Definitions only.
-use Prim.Native.Nat.{ℕ, _/_}
+use Prim.Native.Nat.{ℕ, _/_, _≤_}
 use mathlib.Core.Path.{_≡_}
 use mathlib.Core.Bool.{cond}
 use mathlib.Core.List.{List, [], _∷_, _++_}
@@ -13,7 +13,8 @@ use Rattle.answers.specs.declared.Answer.the-variants.{Done, UnsupportedFormat}
 use Rattle.answers.specs.Numbers.{numberOf}
 use Rattle.answers.specs.Checks.{Check, _when_, firstRefusal, roomCheck}
 use Rattle.points.specs.declared.Point.{Point}
-use Rattle.points.specs.Points.{countCheck}
+use Rattle.points.specs.declared.Heights.the-variants.{Fine}
+use Rattle.points.specs.Points.{limit, listOf, countCheck, heightCheck}
 use Rattle.tables.specs.Kinds.{kindOf}
 use Rattle.tables.specs.Tables.{byteTable, fineTable, lengthCheck}
 use Rattle.sets.specs.declared.Curves.{Curves}
@@ -21,6 +22,7 @@ use Rattle.sets.specs.Sets.{View}
 use Rattle.formats.specs.Formats.{formatOf, lastFormat}
 use Rattle.formats.specs.Checks.{lutChecks, pictureChecks}
 use Rattle.records.specs.declared.RecordRead.{RecordRead}
+use Rattle.records.specs.declared.point_lists.Edition.the-variants.{Two}
 use Rattle.records.specs.PointLists.{pointBytes, pairs}
 use Rattle.records.specs.Kinds.{kindCheck}
 use Rattle.records.specs.Format.{readRecord}
@@ -31,18 +33,29 @@ use Rattle.pictures.specs.declared.Toned.{Toned}
 use Rattle.pictures.specs.OneTable.{tonedWithin}
 use Rattle.pictures.specs.Runs.{Outputs, Lent, Run, held, SetCall}
 use Rattle.lookup.specs.Lookup.{lookupChecks, lookedUp}
+use Rattle.tone_c.specs.declared.given.Given.{Given}
 
 -- ---- what a caller gives
--- points as x, y pairs; a last odd byte is ignored
+-- points as edition 2 stores them: x, then the height, low byte first; one or two bytes left over
+-- are ignored
 abbrev pub countOf : List ℕ → ℕ
-countOf points = length points / pointBytes
+countOf points = length points / pointBytes Two
 
 abbrev pub pairsOf : List ℕ → List Point
-pairsOf points = pairs (countOf points) points
+pairsOf points = pairs Two (countOf points) points
 
--- a curve: its points and its kind's number
+-- the points' heights, then the kind's number
+abbrev pub heightAndKindChecks : List ℕ → ℕ → List Check
+heightAndKindChecks points kind = heightCheck Fine (pairsOf points) ∷ kindCheck kind ∷ []
+
+-- a curve, its points and its kind's number: 3, then 20, then 5
 abbrev pub givenChecks : List ℕ → ℕ → List Check
-givenChecks points kind = countCheck (countOf points) ∷ kindCheck kind ∷ []
+givenChecks points kind = countCheck (countOf points) ∷ heightAndKindChecks points kind
+
+-- the list that is read of it, where it is not refused
+pub record GivenCall (points : List ℕ) (kind : ℕ) (r : Given) : Type 0 where
+  pub answer : r .answer ≡ firstRefusal (givenChecks points kind)
+  pub list : r .answer ≡ Done → (listOf (r .curve) ≡ pairsOf points) × (r .curve .count ≤ limit)
 
 -- a format's number: 8 where no format has it
 abbrev pub formatCheck : ℕ → Check
@@ -53,7 +66,7 @@ abbrev pub setOf : List ℕ → View
 setOf stored = readRecord stored .set
 
 -- ---- tone_table
--- 3 5 13: the table is 256 bytes
+-- 3 20 5 13: the table is 256 bytes
 abbrev pub toneTableChecks : List ℕ → ℕ → ℕ → List Check
 toneTableChecks points kind held = givenChecks points kind ++ roomCheck 256 held ∷ []
 
@@ -67,7 +80,7 @@ pub record ToneTableCall (points : List ℕ) (kind tension : ℕ) (start end : �
       old
 
 -- ---- tone_fine_table
--- 3 5 14: "A float table's length isn't 256 or 4,096 (build)"
+-- 3 20 5 14: "A float table's length isn't 256 or 4,096 (build)"
 abbrev pub toneFineTableChecks : List ℕ → ℕ → ℕ → List Check
 toneFineTableChecks points kind S = givenChecks points kind ++ lengthCheck S ∷ []
 
@@ -120,8 +133,8 @@ runOf asked set = record {
   lent = asked .lent;
 }
 
--- 2 to 7 of the record, whose lists have then passed 3 and 4; 8 of the format's number, then 8 to
--- 13 of the set call
+-- 2 to 7 of the record, whose lists have then passed 3, 4 and 20; 8 of the format's number, then 8
+-- to 13 of the set call
 abbrev pub tonePictureChecks : PictureAsked → List Check
 tonePictureChecks asked =
     recordChecks (asked .stored) ++ (formatCheck (asked .format) ∷ [])

@@ -1,4 +1,4 @@
--- The definitions where a slip would show: a last odd byte, the numbers of the formats, the order
+-- The definitions where a slip would show: bytes left over, the numbers of the formats, the order
 -- of each call's refusals, the greatest count of points, and arguments that a kind does not read.
 use mathlib.Core.Path.{_≡_, refl, sym, ap, _∙_}
 use mathlib.Core.List.{List, [], _∷_}
@@ -20,9 +20,10 @@ use Rattle.answers.specs.declared.Answer.the-variants.{
   PlaneTooShort,
   OutputTooSmall,
   TableLength,
+  HeightRange,
 }
 use Rattle.answers.specs.Checks.{firstRefusal}
-use Rattle.points.specs.Points.{pt}
+use Rattle.points.specs.Points.{pt, allAllowed}
 use Rattle.tables.specs.declared.Carried.{Carried}
 use Rattle.tables.specs.Kinds.{kindOf, carriesTension, carriesSlopes}
 use Rattle.tables.specs.KindLaws.{kindWith, carriedFor, kind-unread}
@@ -45,27 +46,36 @@ use Rattle.tone_c.specs.Boundary.{
 use Rattle.tone_c.specs.Version.{version}
 
 -- ---- the version
--- the second: the default kind, and bit 7 of a record
-pub this-version : version ≡ 2
+-- the third: points with heights in 256ths, and 20
+pub this-version : version ≡ 3
 this-version = refl
 
 -- ---- a curve that is given
-pub odd-byte : pairsOf (10 ∷ 5 ∷ 0 ∷ 0 ∷ 77 ∷ []) ≡ pt 10 5 ∷ pt 0 0 ∷ []
+-- "low byte first"; one or two bytes left over are no point
+pub bytes-left-over :
+    (pairsOf (10 ∷ 5 ∷ 1 ∷ 0 ∷ 0 ∷ 255 ∷ 77 ∷ []) ≡ pt 10 261 ∷ pt 0 65280 ∷ [])
+    × (pairsOf (10 ∷ 5 ∷ 1 ∷ 0 ∷ 0 ∷ 255 ∷ 77 ∷ 78 ∷ []) ≡ pt 10 261 ∷ pt 0 65280 ∷ [])
+    × (pairsOf (10 ∷ 5 ∷ 1 ∷ 0 ∷ 0 ∷ 255 ∷ 77 ∷ 78 ∷ 79 ∷ []) ≡ pt 10 261 ∷ pt 0 65280 ∷ pt 77 20302 ∷ [])
 unfolding pairs
-odd-byte = refl
+bytes-left-over = (refl, refl, refl)
 
--- 65 pairs, then kind 10, then an output one byte too short; 64 pairs and an odd byte pass
-pub table-order : (firstRefusal (toneTableChecks (replicate 130 7) 10 255) ≡ PointCount)
-    × (firstRefusal (toneTableChecks (replicate 129 7) 10 255) ≡ UnknownKind)
-    × (firstRefusal (toneTableChecks (replicate 129 7) 9 255) ≡ OutputTooSmall)
-    × (firstRefusal (toneTableChecks (replicate 129 7) 9 256) ≡ Done)
-table-order = (refl, refl, refl, refl)
+-- 65 points, then a height of 65,535, then kind 10, then an output one byte too short; 64 points and
+-- two bytes left over pass
+pub table-order : (firstRefusal (toneTableChecks (replicate 195 255) 10 255) ≡ PointCount)
+    × (firstRefusal (toneTableChecks (replicate 194 255) 10 255) ≡ HeightRange)
+    × (firstRefusal (toneTableChecks (replicate 194 7) 10 255) ≡ UnknownKind)
+    × (firstRefusal (toneTableChecks (replicate 194 7) 9 255) ≡ OutputTooSmall)
+    × (firstRefusal (toneTableChecks (replicate 194 7) 9 256) ≡ Done)
+unfolding pairs allAllowed
+table-order = (refl, refl, refl, refl, refl)
 
-pub fine-table-order : (firstRefusal (toneFineTableChecks (replicate 130 7) 10 257) ≡ PointCount)
-    × (firstRefusal (toneFineTableChecks (replicate 129 7) 10 257) ≡ UnknownKind)
-    × (firstRefusal (toneFineTableChecks (replicate 129 7) 9 257) ≡ TableLength)
-    × (firstRefusal (toneFineTableChecks (replicate 129 7) 9 4096) ≡ Done)
-fine-table-order = (refl, refl, refl, refl)
+pub fine-table-order : (firstRefusal (toneFineTableChecks (replicate 195 255) 10 257) ≡ PointCount)
+    × (firstRefusal (toneFineTableChecks (replicate 194 255) 10 257) ≡ HeightRange)
+    × (firstRefusal (toneFineTableChecks (replicate 194 7) 10 257) ≡ UnknownKind)
+    × (firstRefusal (toneFineTableChecks (replicate 194 7) 9 257) ≡ TableLength)
+    × (firstRefusal (toneFineTableChecks (replicate 194 7) 9 4096) ≡ Done)
+unfolding pairs allAllowed
+fine-table-order = (refl, refl, refl, refl, refl)
 
 -- the tension matters to kind 7 only, the slopes to kind 8 only
 pub unread : (k q r : ℕ) (s t e f : ℤ) → (k ≡ 7 → q ≡ r) → (k ≡ 8 → (s ≡ t) × (e ≡ f))

@@ -32,11 +32,12 @@ mod given;
 pub extern "C" fn tone_version() -> u32
     ensures { λ r. ⌜ r ≡ version ⌝ }
 {
-    2
+    3
 }
 
-// Writes the byte table of the curve through the points, x, y pairs in any order, to the front of
-// table. A last odd byte of points is ignored.
+// Writes the byte table of the curve through the points, in any order, to the front of table. A
+// point is three bytes: x, then the height in 256ths of a level, low byte first. One or two bytes
+// left over are ignored.
 // The tension is read for kind 7 only, the slopes for kind 8 only.
 #[no_mangle]
 pub extern "C" fn tone_table(
@@ -52,12 +53,13 @@ pub extern "C" fn tone_table(
         (now (table .entry)) r (now (table .exit))
         ⌝ }
 {
-    let answer = first_of(given::check(points, kind), room_for(256, table.len()));
+    let given = given::read(points, kind);
+    let of_given = given.answer;
+    let answer = first_of(of_given, room_for(256, table.len()));
     if !answer.is_done() {
         return answer.number();
     }
-    let curve = given::curve_of(points);
-    let bytes = byte_table(curve, kind_of(kind, tension, start_slope, end_slope));
+    let bytes = byte_table(given.curve, kind_of(kind, tension, start_slope, end_slope));
     copy_bytes(&bytes, table);
     answer.number()
 }
@@ -77,12 +79,13 @@ pub extern "C" fn tone_fine_table(
         (now (table .entry)) r (now (table .exit))
         ⌝ }
 {
-    let answer = given::check(points, kind);
+    let given = given::read(points, kind);
+    let answer = given.answer;
     if !answer.is_done() {
         return answer.number();
     }
-    let curve = given::curve_of(points);
-    let built = build_table(curve, kind_of(kind, tension, start_slope, end_slope), table);
+    let kind = kind_of(kind, tension, start_slope, end_slope);
+    let built = build_table(given.curve, kind, table);
     built.number()
 }
 

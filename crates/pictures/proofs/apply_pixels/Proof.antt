@@ -5,6 +5,7 @@ use native.Mathlib.Omega.{arith}
 use borrow.Author.Tests.{eq-eqb, ne-eqb, not-true, not-false}
 use Rattle.answers.specs.Numbers.{isDone, done-is}
 use Rattle.answers.specs.Checks.{first-then}
+use Rattle.points.specs.declared.Heights.the-variants.{Fine}
 use Rattle.sets.specs.Sets.{curveChecks, setChecks, setAnswer}
 use Rattle.formats.specs.Checks.{pictureAnswer}
 use Rattle.pictures.specs.Runs.{Run, InTypes, hasChroma, checksOfPicture, answer}
@@ -32,7 +33,7 @@ answered : (c : tie.After-first-of) → c .first-of .result ≡ answer (run c)
 unfolding answer setAnswer pictureAnswer
 answered c =
     let r = run c in
-    first-then (setChecks curveChecks (r .job .set)) (checksOfPicture r)
+    first-then (setChecks (curveChecks Fine) (r .job .set)) (checksOfPicture r)
     (c .before .before .check .ensures) (c .before .picture-answer .ensures) (c .first-of .ensures)
 
 -- what follows from the types

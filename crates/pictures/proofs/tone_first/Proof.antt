@@ -1,29 +1,29 @@
 -- `tone_first`: the kernel is given the table of each channel.
 use native.Mathlib.Omega.{arith}
 use mathlib.Core.Path.{_∙_}
-use Rattle.tables.specs.TableLaws.{table-of-few}
+use Rattle.points.specs.declared.Heights.the-variants.{Fine}
 use Rattle.sets.specs.Sets.{viewOf}
-use Rattle.sets.specs.Legal.{Passed, passed-set, passed-count}
+use Rattle.sets.specs.Legal.{Passed, passed-set, passed-table}
 use Rattle.formats.specs.FormatLaws.{tight}
-use Rattle.pictures.proofs.Kernels.{used-count, chosen-is, tight-rows-by}
+use Rattle.pictures.proofs.Kernels.{used-passes, chosen-is, tight-rows-by}
 use Rattle.pictures.proofs.tone_first.Statement.{statement}
 use Rattle.pictures.proofs.tone_first.Tie as tie
 
 -- the set's lists have passed
-passed : (c : tie.After-by-colour) → Passed (c .before .before .before .args .set)
-passed c = passed-set _ (c .before .before .before .pre .0 .0)
+passed : (c : tie.After-by-colour) → Passed Fine (c .before .before .before .args .set)
+passed c = passed-set Fine _ (c .before .before .before .pre .0 .0)
 
 own-table-requires : tie.Need-own-table-requires
 own-table-requires c κs = let by = c .before .before .before .before in
-    used-count (by .by-colour .result) _ (passed by .red)
+    used-passes (by .by-colour .result) _ (passed by .red)
 
 own-table-requires-2 : tie.Need-own-table-requires-2
 own-table-requires-2 c κs = let by = c .before .before .before .before .before in
-    used-count (by .by-colour .result) _ (passed by .green)
+    used-passes (by .by-colour .result) _ (passed by .green)
 
 own-table-requires-3 : tie.Need-own-table-requires-3
 own-table-requires-3 c κs = let by = c .before .before .before .before .before .before in
-    used-count (by .by-colour .result) _ (passed by .blue)
+    used-passes (by .by-colour .result) _ (passed by .blue)
 
 tone-rows-into-requires : tie.Need-tone-rows-into-requires
 tone-rows-into-requires c κs =
@@ -46,8 +46,7 @@ returns c =
     let by = master .before .before .before .before in
     let start = by .before .before .before in
     let set = start .args .set in
-    let few = passed-count _ (passed by .master) in
-    let built = master .byte-table .ensures ∙ table-of-few _ _ few in
+    let built = master .byte-table .ensures ∙ passed-table Fine _ _ (passed by .master) in
     tight-rows-by (start .args .format) (viewOf set) _ _ _ _ _ (start .pre .0 .1) (by .by-colour .ensures)
     (k .bytes-a-pixel .ensures)
     (chosen-is _ (set .red) _ built (by .by-colour .result) (own-red .own-table .ensures) (red .chosen-table .ensures))

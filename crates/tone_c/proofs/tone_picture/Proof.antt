@@ -10,7 +10,9 @@ use Rattle.answers.specs.declared.Answer.{Answer}
 use Rattle.answers.specs.declared.Answer.the-variants.{Done}
 use Rattle.answers.specs.Numbers.{numberOf, isDone, asked-refused, asked-done, number-unique}
 use Rattle.answers.specs.Checks.{Check, firstRefusal, first-then, first-stops, first-goes-on}
+use Rattle.points.specs.declared.Heights.the-variants.{Fine, Whole}
 use Rattle.sets.specs.Sets.{curveChecks, setChecks, setAnswer}
+use Rattle.sets.specs.Legal.{fine-set}
 use Rattle.records.specs.declared.RecordRead.{RecordRead}
 use Rattle.records.specs.Checks.{recordChecks}
 use Rattle.records.specs.CheckLaws.{read-answer}
@@ -27,9 +29,9 @@ abbrev front : List ℕ → ℕ → List Check
 front stored format = recordChecks stored ++ (formatCheck format ∷ [])
 
 -- the set call answers for the picture, on a set that has passed
-of-picture : (r : Run) → setAnswer (r .job .set) ≡ Done → answer r ≡ firstRefusal (checksOfPicture r)
+of-picture : (r : Run) → setAnswer Fine (r .job .set) ≡ Done → answer r ≡ firstRefusal (checksOfPicture r)
 unfolding answer setAnswer
-of-picture r passed = sym (first-goes-on (setChecks curveChecks (r .job .set)) _ passed refl)
+of-picture r passed = sym (first-goes-on (setChecks (curveChecks Fine) (r .job .set)) _ passed refl)
 
 -- the ends of the call
 module _ (asked : PictureAsked) {r : ℕ} where
@@ -54,7 +56,7 @@ module _ (asked : PictureAsked) {r : ℕ} where
             e
             ∙ ap numberOf
             (first-goes-on (front (asked .stored) (asked .format)) (checksOfPicture run) passed
-            (call .answer ∙ of-picture run (read .legal)));
+            (call .answer ∙ of-picture run (fine-set Whole (handed .set) (read .legal))));
         unchanged = λ other. refused-outputs call (ne-eqb _ 0 (λ zero. other (e ∙ zero)));
         run = λ zero. record {
           handed = handed;

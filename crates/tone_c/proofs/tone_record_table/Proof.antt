@@ -8,9 +8,9 @@ use lib.ListN.{length}
 use Rattle.answers.specs.Numbers.{numberOf, asked-refused, asked-done}
 use Rattle.answers.specs.Checks.{firstRefusal, roomCheck, first-then, done-append, has-room}
 use Rattle.tables.specs.Tables.{byteTable}
-use Rattle.tables.specs.TableLaws.{table-of-few}
+use Rattle.points.specs.declared.Heights.the-variants.{Whole}
 use Rattle.sets.specs.Sets.{View}
-use Rattle.sets.specs.Legal.{passed-set, passed-count}
+use Rattle.sets.specs.Legal.{passed-set, passed-table}
 use Rattle.records.specs.Checks.{recordChecks}
 use Rattle.records.specs.CheckLaws.{read-answer}
 use Rattle.tone_c.specs.Boundary.{toneRecordTableChecks}
@@ -54,8 +54,8 @@ returns-2 c =
     let k = b .before .before in
     let read = k .before .before .before .before .read-record .ensures in
     let master = ap (λ (set : View). byteTable (set .kind) (set .master)) (read .set) in
-    let few = table-of-few _ _ (passed-count _ (passed-set _ (read .legal) .master)) in
     let long : length (b .byte-table .result) ≡ 256 = search needs in
+    let table = passed-table Whole _ _ (passed-set Whole _ (read .legal) .master) in
     record {
       number = c .number2 .ensures ∙ ap numberOf (answered (k .before .before));
       table =
@@ -63,7 +63,7 @@ returns-2 c =
             c .number2 .ensures,
             asked-done (k .before .before .first-of .result) (k .before .is-done .ensures) (k .if1 .left),
           )
-          (rw (long, b .byte-table .ensures ∙ few ∙ master) at (t .copy-bytes .ensures));
+          (rw (long, b .byte-table .ensures ∙ table ∙ master) at (t .copy-bytes .ensures));
     }
 
 pub tone-record-table-spec : {M : Type 1} → statement M

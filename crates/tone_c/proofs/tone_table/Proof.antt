@@ -8,10 +8,8 @@ use mir.Facts.{toZ-ofZ}
 use Rattle.answers.specs.declared.Answer.the-variants.{Done}
 use Rattle.answers.specs.Numbers.{numberOf, asked-refused, asked-done}
 use Rattle.answers.specs.Checks.{firstRefusal, roomCheck, first-then, done-append, has-room}
-use Rattle.tables.specs.TableLaws.{table-of-few}
-use Rattle.points.specs.CheckLaws.{few-points}
-use Rattle.records.specs.Kinds.{kindCheck}
-use Rattle.tone_c.specs.Boundary.{countOf, givenChecks, toneTableChecks}
+use Rattle.tone_c.specs.Boundary.{givenChecks, toneTableChecks}
+use Rattle.tone_c.proofs.GivenList.{list-table}
 use Rattle.tone_c.proofs.tone_table.Statement.{statement}
 use Rattle.tone_c.proofs.tone_table.Tie as tie
 
@@ -21,7 +19,7 @@ answered : (c : tie.After-first-of)
 answered c =
     let A = c .before .before .before .before .before .args in
     first-then (givenChecks (A .points .now) (A .kind)) (roomCheck 256 (length (A .table .now)) ∷ [])
-    (c .before .before .check .ensures) (c .before .room-for .ensures) (c .first-of .ensures)
+    (c .before .before .read .ensures .answer) (c .before .room-for .ensures) (c .first-of .ensures)
 
 -- past the refusal
 accepted : (c : tie.Else1)
@@ -44,26 +42,22 @@ returns c =
       );
     }
 
-curve-of-requires : tie.Need-curve-of-requires
-curve-of-requires c κs =
-    let A = c .before .before .before .before .before .before .before .args in
-    few-points (countOf (A .points .now)) (kindCheck (A .kind) ∷ []) (accepted c .0)
-
 copy-bytes-requires : tie.Need-copy-bytes-requires
 copy-bytes-requires c κs =
     let long : length (c .before .before .byte-table .result) ≡ 256 = search needs in
-    rw long (has-room 256 _ (accepted (c .before .before .before .before .before) .1))
+    rw long (has-room 256 _ (accepted (c .before .before .before .before) .1))
 
 returns-2 : tie.Need-returns-2
 returns-2 c =
     let t = c .before .before .before in
     let b = t .before .before .before in
-    let k = b .before .before .before in
-    let s = k .before .before .before .before .before .before .before in
+    let k = b .before .before in
+    let read = k .before .before .before .before in
+    let s = read .before .before .before in
     let start = toZ-ofZ (s .fits .start-slope) in
     let end = toZ-ofZ (s .fits .end-slope) in
-    let few = table-of-few _ _ (b .before .before .curve-of .ensures .1) in
     let long : length (b .byte-table .result) ≡ 256 = search needs in
+    let table = list-table (read .read .ensures) (read .read .ensures .answer ∙ accepted k .0) _ in
     record {
       number = c .number2 .ensures ∙ ap numberOf (answered (k .before .before));
       table =
@@ -71,14 +65,7 @@ returns-2 c =
             c .number2 .ensures,
             asked-done (k .before .before .first-of .result) (k .before .is-done .ensures) (k .if1 .left),
           )
-          (rw (
-            long,
-            b .byte-table .ensures ∙ few,
-            b .before .kind-of .ensures,
-            b .before .before .curve-of .ensures .0,
-            start,
-            end,
-          )
+          (rw (long, b .byte-table .ensures ∙ table, b .before .kind-of .ensures, start, end)
           at (t .copy-bytes .ensures));
     }
 
@@ -88,7 +75,6 @@ tone-table-spec =
     (tie.spec
     (omega arith) (omega arith) (omega arith) (omega arith) (omega arith)
     returns
-    curve-of-requires
     (omega arith) (omega arith) (omega arith)
     copy-bytes-requires
     (omega arith) (omega arith)
