@@ -14,7 +14,7 @@ use Rattle.answers.specs.declared.Answer.the-variants.{Done}
 use Rattle.answers.specs.Numbers.{numberOf}
 use Rattle.single.specs.Constants.{𝟏/𝟐𝟓𝟔, 𝟐}
 use Rattle.single.specs.Root.{rootOf}
-use Rattle.points.specs.Points.{pt, straightCurve}
+use Rattle.points.specs.Points.{atLevel, straightCurve}
 use Rattle.spline.specs.Segments.{slopeOf}
 use Rattle.tables.specs.declared.CurveInterpolation.the-variants.{
   Linear,
@@ -39,17 +39,17 @@ unfolding Computed.entry
 P1 = refl
 
 -- "P2 (128,200), Linear: all 200."
-pub P2 : byteTable Linear (pt 128 200 ∷ []) ≡ replicate 256 200
+pub P2 : byteTable Linear (atLevel 128 200 ∷ []) ≡ replicate 256 200
 unfolding Computed.entry
 P2 = refl
 
 -- "P3 (10,5),(10,9),(0,0), Linear: entry 10 is 5."
-pub P3 : entryOf Linear (pt 10 5 ∷ pt 10 9 ∷ pt 0 0 ∷ []) 10 ≡ 5
+pub P3 : entryOf Linear (atLevel 10 5 ∷ atLevel 10 9 ∷ atLevel 0 0 ∷ []) 10 ≡ 5
 unfolding Computed.entry
 P3 = refl
 
 -- "P4 (0,0),(2,1), Linear: entry 1 is 1."
-pub P4 : entryOf Linear (pt 0 0 ∷ pt 2 1 ∷ []) 1 ≡ 1
+pub P4 : entryOf Linear (atLevel 0 0 ∷ atLevel 2 1 ∷ []) 1 ≡ 1
 unfolding Computed.entry
 P4 = refl
 

@@ -11,7 +11,7 @@ use Rattle.lists.specs.Test.{by-test}
 use Rattle.points.specs.declared.Point.{Point}
 use Rattle.points.specs.declared.Heights.{Heights}
 use Rattle.points.specs.declared.Heights.the-variants.{Fine, Whole}
-use Rattle.points.specs.Points.{highest, allowed, allAllowed}
+use Rattle.points.specs.Points.{level, rounded, highest, allowed, allAllowed}
 use Rattle.points.specs.Order.{All, Typed, Proper, WholeHeight}
 
 -- ---- of one height
@@ -70,3 +70,7 @@ proper-passes = every-allowed Fine Proper (λ p h. le-leb (p .y) highest (h .1))
 pub passed-fine : (heights : Heights) (l : List Point) → allAllowed heights l ≡ true
     → allAllowed Fine l ≡ true
 passed-fine heights l e = high-passes l (high-points heights l e)
+
+-- ---- a level rounded is that level
+pub rounded-level : (n : ℕ) → rounded (level n) ≡ n
+rounded-level n = omega arith

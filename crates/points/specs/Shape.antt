@@ -13,8 +13,8 @@ use lib.ListN.{length}
 use Rattle.points.specs.declared.Point.{Point}
 use Rattle.points.specs.Points.{pt}
 use Rattle.points.specs.Knots.{rest, knots, xOf}
-use Rattle.points.specs.Order.{All, Nexts, Before, NoLower, Proper, WholeHeight}
-use Rattle.points.specs.Order.{Rising, NeverFalls, IsKept}
+use Rattle.points.specs.Order.{All, Nexts, Before, NoLower, Typed, Proper, WholeHeight}
+use Rattle.points.specs.Order.{Rising, NeverFalls, IsKept, proper-typed}
 
 -- ---- p and what is behind it
 -- what holds both of none and of one at 255 holds of what is behind the last point
@@ -35,7 +35,7 @@ rest-all P end p (q ∷ l) a = (a .0, rest-all P end q l (a .1))
 
 rest-nexts : (R : Point → Point → Type 0) → ((p : Point) → p .x < 255 → R p (pt 255 (p .y)))
     → (p : Point) (l : List Point)
-    → All Proper (p ∷ l) → Nexts R (p ∷ l) → Nexts R (p ∷ rest p l)
+    → All Typed (p ∷ l) → Nexts R (p ∷ l) → Nexts R (p ∷ rest p l)
 unfolding rest
 rest-nexts R end p [] a n =
     by-end (λ t. Nexts R (p ∷ t)) p (λ here. tt) (λ other. (end p (omega (arith, a .0 .0)), tt))
@@ -83,42 +83,56 @@ knots-two (p ∷ l) =
     (λ above. omega arith)
 
 -- from 0 to 255, strictly rising
-pub record Shape (ks : List Point) : Type 0 where
+pub record Span (ks : List Point) : Type 0 where
   pub two : 1 < length ks
   pub start : xOf ks 0 ≡ 0
   pub end : xOf ks (length ks - 1) ≡ 255
   pub rising : Rising ks
-  pub proper : All Proper ks
 
-pub knots-shape : (l : List Point) → IsKept l → Shape (knots l)
+pub knots-span : (l : List Point) → All Typed l → Rising l → Span (knots l)
 unfolding knots
-knots-shape [] k = record {
+knots-span [] typed rising = record {
   two = lit< tt;
   start = refl;
   end = refl;
   rising = (lit< tt, tt);
-  proper = ((lit< tt, lit≤ tt), ((lit< tt, lit≤ tt), tt));
 }
-knots-shape (p ∷ l) k =
-    let proper = rest-all Proper (λ q h. (lit< tt, h .1)) p l (k .proper) in
-    let rising = rest-nexts Before (λ q h. h) p l (k .proper) (k .rising) in
-    by-front Shape p l
+knots-span (p ∷ l) typed rising =
+    let rises = rest-nexts Before (λ q h. h) p l typed rising in
+    by-front Span p l
     (λ zero.
     record {
       two = omega (arith, rest-some p l zero);
       start = zero;
       end = rw sub-one (rest-last p l);
-      rising = rising;
-      proper = proper;
+      rising = rises;
     })
     (λ above.
     record {
       two = omega arith;
       start = refl;
       end = rw sub-one (rest-last p l);
-      rising = (above, rising);
-      proper = ((lit< tt, k .proper .0 .1), proper);
+      rising = (above, rises);
     })
+
+-- of proper points
+knots-proper : (l : List Point) → All Proper l → All Proper (knots l)
+unfolding knots
+knots-proper [] a = ((lit< tt, lit≤ tt), ((lit< tt, lit≤ tt), tt))
+knots-proper (p ∷ l) a =
+    let proper = rest-all Proper (λ q h. (lit< tt, h .1)) p l a in
+    by-front (All Proper) p l (λ zero. proper) (λ above. ((lit< tt, a .0 .1), proper))
+
+pub record Shape (ks : List Point) : Type 0 where
+  pub span : Span ks
+  pub proper : All Proper ks
+
+pub knots-shape : (l : List Point) → IsKept l → Shape (knots l)
+knots-shape l k =
+    record {
+      span = knots-span l (proper-typed l (k .proper)) (k .rising);
+      proper = knots-proper l (k .proper);
+    }
 
 -- whole heights stay whole
 pub knots-whole : (l : List Point) → All WholeHeight l → All WholeHeight (knots l)
@@ -148,5 +162,5 @@ pub knots-never-fall : (l : List Point) → IsKept l → NeverFalls l → NeverF
 unfolding knots
 knots-never-fall [] k f = (le-refl 0, tt)
 knots-never-fall (p ∷ l) k f =
-    let n = rest-nexts NoLower (λ q h. le-refl (q .y)) p l (k .proper) f in
+    let n = rest-nexts NoLower (λ q h. le-refl (q .y)) p l (proper-typed (p ∷ l) (k .proper)) f in
     by-front NeverFalls p l (λ zero. n) (λ above. (le-refl (p .y), n))

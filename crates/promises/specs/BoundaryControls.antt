@@ -12,7 +12,7 @@ use Rattle.answers.specs.declared.Answer.the-variants.{Done}
 use Rattle.answers.specs.Numbers.{numberOf}
 use Rattle.answers.specs.Checks.{firstRefusal}
 use Rattle.points.specs.declared.Curve.{Curve}
-use Rattle.points.specs.Points.{pt}
+use Rattle.points.specs.Points.{pt, allAllowed}
 use Rattle.tables.specs.declared.CurveInterpolation.{CurveInterpolation}
 use Rattle.tables.specs.declared.CurveInterpolation.the-variants.{Linear, MonotoneCubic}
 use Rattle.sets.specs.declared.Channel.{Channel}
@@ -123,7 +123,7 @@ module _ (kind : CurveInterpolation) (tension : carriedOf kind .tension < 256) w
 -- ---- kind 2 left out, and named
 pub two-records-one-set :
     (a b : AcceptedCall) × Share a b × (a .asked .stored ≡ b .asked .stored → ⊥)
-unfolding Computed.read setAnswer formatOf needed
+unfolding Computed.read setAnswer allAllowed formatOf needed
 two-records-one-set =
     let byte : carriedOf MonotoneCubic .tension < 256 = lit< tt in
     let short : List ℕ = 0x01 ∷ 1 ∷ 0 ∷ 0 ∷ [] in
@@ -140,7 +140,7 @@ two-records-one-set =
 
 -- ---- what the clauses ask is met: a Linear set, of which no list falls, tones a byte
 pub premises-met : (a : AcceptedCall) × IsLinear a × NoListFalls a × TonedAt a here
-unfolding Computed.read setAnswer formatOf needed
+unfolding Computed.read setAnswer allAllowed formatOf needed
 premises-met =
     let byte : carriedOf Linear .tension < 256 = lit< tt in
     let stored : List ℕ = 0x11 ∷ 1 ∷ 0 ∷ 0 ∷ 0 ∷ [] in

@@ -6,17 +6,22 @@ use Prim.Native.Nat.{ℕ, _≤_}
 use mathlib.Core.Path.{_≡_, refl, sym, ap, _∙_}
 use mathlib.Core.List.{List, List·Memᴰ}
 use Rattle.points.specs.declared.Point.{Point}
+use Rattle.points.specs.declared.Heights.the-variants.{Whole}
+use Rattle.points.specs.Points.{atLevel}
+use Rattle.points.specs.HeightLaws.{passed-whole}
 use Rattle.points.specs.Knots.{OnLine}
 use Rattle.points.specs.Order.{NeverFalls}
 use Rattle.tables.specs.declared.CurveInterpolation.the-variants.{Linear}
 use Rattle.sets.specs.Sets.{View, viewOf}
 use Rattle.sets.specs.Lists.{EveryList}
+use Rattle.sets.specs.Legal.{LegalList, legal-view}
 use Rattle.sets.specs.SameLaws.{view-same}
 use Rattle.formats.specs.Formats.{formatOf}
 use Rattle.pictures.specs.Runs.{Outputs, tonedBy}
 use Rattle.tone_c.specs.Boundary.{setOf, PictureAsked, runOf, TonePictureCall}
 use Rattle.promises.specs.Words as Run
-use Rattle.promises.specs.Words.{Place, IsSpline, Nearest, HasLine}
+use Rattle.promises.specs.Words.{Place, IsSpline, WholeHeights, Nearest, HasLine}
+use Rattle.promises.specs.ListFacts.{of-toning-list}
 use Rattle.promises.specs.Demand3 as Demand
 
 -- ---- words
@@ -95,6 +100,15 @@ module _ (c : AcceptedCall) where
   same-kind : Run.kindIn (run c .given) ≡ setIn c .kind
   same-kind = ap (λ (v : View). v .kind) holds
 
+  -- a record of today holds whole heights only
+  whole-heights : (p : Place) → WholeHeights (Run.listThatTones (run c .given) p)
+  whole-heights p =
+      let r = c .contract .run refl in
+      let legal =
+      of-toning-list (LegalList Whole) (formatOf (c .asked .format)) (viewOf (r .handed .set))
+      (legal-view Whole (r .handed .set) (r .read .legal)) (p .channel) in
+      passed-whole (Run.listThatTones (run c .given) p) (legal .high)
+
 -- records that hold one set are read as the same set
 pub same-runs : (a b : AcceptedCall) → Share a b → Run.Share (run a) (run b)
 same-runs a b share =
@@ -102,7 +116,7 @@ same-runs a b share =
     let s = b .contract .run refl in
     record {
       set =
-          view-same (r .handed .set) (s .handed .set) (r .read .full) (s .read .full)
+          view-same Whole (r .handed .set) (s .handed .set) (r .read .full) (s .read .full)
           (r .read .legal) (s .read .legal) (r .read .set ∙ share .set ∙ sym (s .read .set));
       format = ap formatOf (share .format);
       width = share .width;
@@ -129,7 +143,8 @@ order a b share linear rising =
 pub near : (a : AcceptedCall) → IsLinear a → (p : Place) → TonedAt a p
     → (n d : ℕ) → OnLine (listThatTones a p) (input a p) n d → Nearest n d (output a p)
 near a linear p toned n d on =
-    Demand.near (run a) (not-refused a) (same-kind a ∙ linear) p toned n d (rw (same-list a p) on)
+    Demand.near (run a) (not-refused a) (same-kind a ∙ linear) p toned (whole-heights a p) n d
+    (rw (same-list a p) on)
 
 -- where that line is there, and has one height
 pub line : (a : AcceptedCall) (p : Place) → HasLine (listThatTones a p) (input a p)
@@ -139,9 +154,9 @@ line a p = rw (same-list a p) at (Demand.line (run a) p)
 -- tones it comes out as that point's y."
 pub through-points : (a : AcceptedCall) → (IsSpline (setIn a .kind) → ⊥)
     → (p : Place) → TonedAt a p
-    → (q : Point) → List·Memᴰ q (listThatTones a p) → input a p ≡ q .x → output a p ≡ q .y
-through-points a other p toned q member =
-    Demand.through-points (run a) (not-refused a) (rw (same-kind a) other) p toned q
+    → (x y : ℕ) → List·Memᴰ (atLevel x y) (listThatTones a p) → input a p ≡ x → output a p ≡ y
+through-points a other p toned x y member =
+    Demand.through-points (run a) (not-refused a) (rw (same-kind a) other) p toned x y
     (rw (same-list a p) member)
 
 -- "Runs alike in their rows and chroma write the same bytes, whatever the padding holds and

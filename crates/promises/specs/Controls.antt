@@ -13,7 +13,7 @@ use lib.Dec.{lit<, lit≤}
 use lib.ListN.{getD}
 use lib.Seq.{getD-take}
 use Rattle.points.specs.declared.Point.{Point}
-use Rattle.points.specs.Points.{pt, straightCurve, firstAt, keptBelow, kept}
+use Rattle.points.specs.Points.{pt, atLevel, straightCurve, firstAt, keptBelow, kept}
 use Rattle.points.specs.Knots.{rest, knots, OnLine}
 use Rattle.points.specs.Order.{NeverFalls}
 use Rattle.segments.specs.Straight.{slope}
@@ -46,6 +46,7 @@ use Rattle.promises.specs.Words.{
   IsPadding,
   IsLinear,
   NoListFalls,
+  WholeHeights,
   Nearest,
   AlikeInRows,
   AlikeInChroma,
@@ -83,7 +84,7 @@ abbrev straightLine : Toning
 straightLine = record {
   list = straightCurve;
   kind = Linear;
-  bytes = ((lit< tt, lit< tt), ((lit< tt, lit< tt), tt));
+  typed = ((lit< tt, lit< tt), ((lit< tt, lit< tt), tt));
   tension = lit< tt;
 }
 
@@ -121,9 +122,9 @@ order-refuted P s v w v-byte w-byte le lower v-ok w-ok holds order =
 abbrev falling : Toning
 falling =
     record {
-      list = pt 0 9 ∷ pt 255 0 ∷ [];
+      list = atLevel 0 9 ∷ atLevel 255 0 ∷ [];
       kind = Linear;
-      bytes = ((lit< tt, lit< tt), ((lit< tt, lit< tt), tt));
+      typed = ((lit< tt, lit< tt), ((lit< tt, lit< tt), tt));
       tension = lit< tt;
     }
 
@@ -144,9 +145,9 @@ order-wants-no-list-to-fall =
 -- .. and a list that never falls breaks it under another kind
 abbrev steep : Toning
 steep = record {
-  list = pt 0 0 ∷ pt 1 50 ∷ pt 66 51 ∷ pt 255 255 ∷ [];
+  list = atLevel 0 0 ∷ atLevel 1 50 ∷ atLevel 66 51 ∷ atLevel 255 255 ∷ [];
   kind = MonotoneCubicBox;
-  bytes = (
+  typed = (
     (lit< tt, lit< tt),
     ((lit< tt, lit< tt), ((lit< tt, lit< tt), ((lit< tt, lit< tt), tt))),
   );
@@ -190,7 +191,7 @@ reddened v = record {
 reddened-types : (v : ℕ) → v < 256 → InTypes (reddened v)
 reddened-types v byte = record {
   plane = byte-at (v ∷ 0 ∷ 0 ∷ []) (byte, (lit< tt, (lit< tt, tt)));
-  points = record { master = straightLine .bytes; red = falling .bytes; green = tt; blue = tt };
+  points = record { master = straightLine .typed; red = falling .typed; green = tt; blue = tt };
   tension = lit< tt;
 }
 
@@ -218,31 +219,40 @@ order-wants-no-colour-to-fall order =
       arith,
       order a b share refl refl (refl, (lit≤ tt, tt))
           (λ p t. reddened-below (p .row * 3 + (p .column * 3 + p .channel))) here (red-toned 0),
-      through-points a refl linear-is-no-spline here (red-toned 0) (pt 0 9)
+      through-points a refl linear-is-no-spline here (red-toned 0) 0 9
           (List·Memᴰ·head refl) refl,
-      through-points b refl linear-is-no-spline here (red-toned 255) (pt 255 0)
+      through-points b refl linear-is-no-spline here (red-toned 255) 255 0
           (List·Memᴰ·tail (List·Memᴰ·head refl)) refl,
     )
 
--- ---- "near", with P for its premise on the kind, and IsNear for what it says of an
--- output byte and the line n / d
-abbrev NearUnder : (Run → Type 0) → (ℕ → ℕ → ℕ → Type 0) → Type 0
-NearUnder P IsNear =
+-- ---- "near", with P for its premise on the kind, H for that on heights, and IsNear for what it says
+-- of an output byte and the line n / d
+abbrev NearUnder : (Run → Type 0) → (List Point → Type 0) → (ℕ → ℕ → ℕ → Type 0) → Type 0
+NearUnder P H IsNear =
     (a : Call) → Accepted a → P (a .given) → (p : Place) → TonedAt (a .given) p
+    → H (listThatTones (a .given) p)
     → (n d : ℕ) → OnLine (listThatTones (a .given) p) (input a p) n d → IsNear n d (output a p)
 
--- the line of the steep list is 3,283 / 65 at 34, to which 51 is nearest, and not 50
-pub steep-line-at-34 : OnLine (steep .list) 34 3283 65
+-- the line of the steep list is 3,283 / 65 at 34, here in 256ths, to which 51 is nearest, and not 50
+pub steep-line-at-34 : OnLine (steep .list) 34 840448 16640
 unfolding kept keptBelow firstAt knots rest
-steep-line-at-34 =
-    record { i = 1; inside = lit< tt; left = lit≤ tt; right = lit≤ tt; width = refl; height = refl }
+steep-line-at-34 = record {
+  divisor = lit< tt;
+  i = 1;
+  inside = lit< tt;
+  left = lit≤ tt;
+  right = lit≤ tt;
+  width = refl;
+  height = refl;
+}
 
-pub near-wants-linear : NearUnder (λ r. Unit {0}) Nearest → ⊥
+pub near-wants-linear : NearUnder (λ r. Unit {0}) WholeHeights Nearest → ⊥
 unfolding answered
 near-wants-linear near =
     let byte : 34 < 256 = lit< tt in
     let claim =
-    near (ranGrey steep 34 byte) refl tt here (grey-toned steep 34) 3283 65 steep-line-at-34 in
+    near (ranGrey steep 34 byte) refl tt here (grey-toned steep 34)
+    (refl, (refl, (refl, (refl, tt)))) 840448 16640 steep-line-at-34 in
     omega (arith, claim .0, claim .1, grey-output steep 34 byte refl, steep-at-34)
 
 -- 31 and 32 are both nearest to 378 / 12 = 31.5, 30 and 33 are not ..
@@ -258,38 +268,81 @@ nearest-half = (
 -- .. which is the line of (0,0),(12,54) at 7. This half goes down: not every half goes up
 abbrev ramp : Toning
 ramp = record {
-  list = pt 0 0 ∷ pt 12 54 ∷ [];
+  list = atLevel 0 0 ∷ atLevel 12 54 ∷ [];
   kind = Linear;
-  bytes = ((lit< tt, lit< tt), ((lit< tt, lit< tt), tt));
+  typed = ((lit< tt, lit< tt), ((lit< tt, lit< tt), tt));
   tension = lit< tt;
 }
 
-pub ramp-line-at-7 : OnLine (ramp .list) 7 378 12
+pub ramp-line-at-7 : OnLine (ramp .list) 7 96768 3072
 unfolding kept keptBelow firstAt knots rest
-ramp-line-at-7 =
-    record { i = 0; inside = lit< tt; left = lit≤ tt; right = lit≤ tt; width = refl; height = refl }
+ramp-line-at-7 = record {
+  divisor = lit< tt;
+  i = 0;
+  inside = lit< tt;
+  left = lit≤ tt;
+  right = lit≤ tt;
+  width = refl;
+  height = refl;
+}
 
 pub ramp-at-7 : entryOf Linear (ramp .list) 7 ≡ 31
 unfolding computed
 ramp-at-7 = refl
 
-pub near-goes-either-way : NearUnder IsLinear (λ n d b. 2 * n < 2 * (b * d) + d) → ⊥
+pub near-goes-either-way : NearUnder IsLinear WholeHeights (λ n d b. 2 * n < 2 * (b * d) + d) → ⊥
 unfolding answered
 near-goes-either-way up =
     let byte : 7 < 256 = lit< tt in
     omega (
       arith,
-      up (ranGrey ramp 7 byte) refl refl here (grey-toned ramp 7) 378 12 ramp-line-at-7,
+      up (ranGrey ramp 7 byte) refl refl here (grey-toned ramp 7) (refl, (refl, tt)) 96768 3072
+          ramp-line-at-7,
       grey-output ramp 7 byte refl,
       ramp-at-7,
     )
 
+-- and where heights are finer, a byte may miss the nearest: the line of this list is
+-- 9,470,335 / 61,696 at 121, which is 153.499984, and out comes 154
+abbrev finer : Toning
+finer = record {
+  list = pt 0 15218 ∷ pt 241 63175 ∷ [];
+  kind = Linear;
+  typed = ((lit< tt, lit< tt), ((lit< tt, lit< tt), tt));
+  tension = lit< tt;
+}
+
+pub finer-line-at-121 : OnLine (finer .list) 121 9470335 61696
+unfolding kept keptBelow firstAt knots rest
+finer-line-at-121 = record {
+  divisor = lit< tt;
+  i = 0;
+  inside = lit< tt;
+  left = lit≤ tt;
+  right = lit≤ tt;
+  width = refl;
+  height = refl;
+}
+
+pub finer-at-121 : entryOf Linear (finer .list) 121 ≡ 154
+unfolding computed
+finer-at-121 = refl
+
+pub near-wants-whole-heights : NearUnder IsLinear (λ l. Unit {0}) Nearest → ⊥
+unfolding answered
+near-wants-whole-heights near =
+    let byte : 121 < 256 = lit< tt in
+    let claim =
+    near (ranGrey finer 121 byte) refl refl here (grey-toned finer 121) tt 9470335 61696
+    finer-line-at-121 in
+    omega (arith, claim .0, claim .1, grey-output finer 121 byte refl, finer-at-121)
+
 -- ---- "through points": NotAKnotCubic misses (163,230) by 1
 abbrev narrow : Toning
 narrow = record {
-  list = pt 163 230 ∷ pt 164 84 ∷ pt 165 185 ∷ [];
+  list = atLevel 163 230 ∷ atLevel 164 84 ∷ atLevel 165 185 ∷ [];
   kind = NotAKnotCubic;
-  bytes = ((lit< tt, lit< tt), ((lit< tt, lit< tt), ((lit< tt, lit< tt), tt)));
+  typed = ((lit< tt, lit< tt), ((lit< tt, lit< tt), ((lit< tt, lit< tt), tt)));
   tension = lit< tt;
 }
 
@@ -299,14 +352,15 @@ narrow-at-163 = refl
 
 pub through-points-wants-no-spline :
     ((a : Call) → Accepted a → (p : Place) → TonedAt (a .given) p
-    → (q : Point) → List·Memᴰ q (listThatTones (a .given) p) → input a p ≡ q .x → output a p ≡ q .y)
+    → (x y : ℕ) → List·Memᴰ (atLevel x y) (listThatTones (a .given) p) → input a p ≡ x
+    → output a p ≡ y)
     → ⊥
 unfolding answered
 through-points-wants-no-spline through =
     let byte : 163 < 256 = lit< tt in
     omega (
       arith,
-      through (ranGrey narrow 163 byte) refl here (grey-toned narrow 163) (pt 163 230)
+      through (ranGrey narrow 163 byte) refl here (grey-toned narrow 163) 163 230
           (List·Memᴰ·head refl) refl,
       grey-output narrow 163 byte refl,
       narrow-at-163,
@@ -391,8 +445,8 @@ tinted-types : (cb cr : ℕ) → InTypes (tinted cb cr)
 tinted-types cb cr = record {
   plane = byte-at (5 ∷ []) (lit< tt, tt);
   points = record {
-    master = straightLine .bytes;
-    red = straightLine .bytes;
+    master = straightLine .typed;
+    red = straightLine .typed;
     green = tt;
     blue = tt;
   };
@@ -517,16 +571,16 @@ no-flat-table t flat =
       arith,
       flat a refl here a-here,
       flat b refl here b-here,
-      through-points a refl linear-is-no-spline here a-here (pt 0 0) (List·Memᴰ·head refl) refl,
-      through-points b refl linear-is-no-spline here b-here (pt 255 255)
+      through-points a refl linear-is-no-spline here a-here 0 0 (List·Memᴰ·head refl) refl,
+      through-points b refl linear-is-no-spline here b-here 255 255
           (List·Memᴰ·tail (List·Memᴰ·head refl)) refl,
     )
 
 abbrev lifted : Toning
 lifted = record {
-  list = pt 128 200 ∷ [];
+  list = atLevel 128 200 ∷ [];
   kind = Linear;
-  bytes = ((lit< tt, lit< tt), tt);
+  typed = ((lit< tt, lit< tt), tt);
   tension = lit< tt;
 }
 
@@ -539,5 +593,5 @@ no-copy copied =
     omega (
       arith,
       copied a refl here a-here,
-      through-points a refl linear-is-no-spline here a-here (pt 128 200) (List·Memᴰ·head refl) refl,
+      through-points a refl linear-is-no-spline here a-here 128 200 (List·Memᴰ·head refl) refl,
     )

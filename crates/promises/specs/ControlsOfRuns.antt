@@ -11,9 +11,9 @@ use lib.Dec.{lit<, lit≤}
 use lib.ListN.{getD, take}
 use lib.Seq.{getD-take, take-length}
 use Rattle.points.specs.declared.Point.{Point}
-use Rattle.points.specs.Points.{pt, straightCurve}
+use Rattle.points.specs.Points.{atLevel, straightCurve}
 use Rattle.points.specs.Knots.{OnLine}
-use Rattle.points.specs.Order.{All, Bytes}
+use Rattle.points.specs.Order.{All, Typed}
 use Rattle.sets.specs.Same.{Same}
 use Rattle.sets.specs.SameLaws.{same-refl}
 use Rattle.formats.specs.declared.PixelFormat.{PixelFormat}
@@ -34,6 +34,7 @@ use Rattle.promises.specs.Words.{
   IsLinear,
   IsSpline,
   NoListFalls,
+  WholeHeights,
   Nearest,
   PassedThrough,
   AlikeInRows,
@@ -48,13 +49,13 @@ use Rattle.promises.specs.Pixels.{own, linear, noBytes, byte-at, ranOn, 
 -- ---- runs
 -- the straight master with a red list of zeros; and zeros for master
 abbrev zeros : List Point
-zeros = pt 0 0 ∷ pt 255 0 ∷ []
+zeros = atLevel 0 0 ∷ atLevel 255 0 ∷ []
 
-zeros-bytes : All Bytes zeros
-zeros-bytes = ((lit< tt, lit< tt), ((lit< tt, lit< tt), tt))
+zeros-typed : All Typed zeros
+zeros-typed = ((lit< tt, lit< tt), ((lit< tt, lit< tt), tt))
 
-straight-bytes : All Bytes straightCurve
-straight-bytes = ((lit< tt, lit< tt), ((lit< tt, lit< tt), tt))
+straight-typed : All Typed straightCurve
+straight-typed = ((lit< tt, lit< tt), ((lit< tt, lit< tt), tt))
 
 -- a picture of one pixel at most, whose red or grey is v, with 9 where the output's first byte was
 abbrev pixel : List Point → PixelFormat → ℕ → ℕ → ℕ → ℕ → Run
@@ -74,14 +75,14 @@ pixel master format width height step v = record {
   };
 }
 
-module _ (master : List Point) (bytes : All Bytes master) (format : PixelFormat)
+module _ (master : List Point) (typed : All Typed master) (format : PixelFormat)
     (width height step v : ℕ) (byte : v < 256) where
   pixel-types : InTypes (pixel master format width height step v)
   pixel-types = record {
     plane = byte-at (v ∷ 0 ∷ 0 ∷ 7 ∷ []) (byte, (lit< tt, (lit< tt, (lit< tt, tt))));
     points = record {
-      master = rw (take-length master) bytes;
-      red = zeros-bytes;
+      master = rw (take-length master) typed;
+      red = zeros-typed;
       green = tt;
       blue = tt;
     };
@@ -98,7 +99,7 @@ no-list-falls format width height step v =
 
 -- white by the straight master: 255 stays
 abbrev white : Call
-white = ranPixel straightCurve straight-bytes Gray8 1 1 1 255 (lit< tt)
+white = ranPixel straightCurve straight-typed Gray8 1 1 1 255 (lit< tt)
 
 grey-toned : (master : List Point) (step v : ℕ) → TonedAt (pixel master Gray8 1 1 step v) here
 grey-toned master step v = record {
@@ -110,7 +111,7 @@ white-output : output white here ≡ 255
 unfolding answered
 white-output =
     through-points white refl linear-is-no-spline here (grey-toned straightCurve 1 255)
-    (pt 255 255) (List·Memᴰ·tail (List·Memᴰ·head refl)) refl
+    255 255 (List·Memᴰ·tail (List·Memᴰ·head refl)) refl
 
 -- its only place
 place-is : {r c k : ℕ} → r ≡ 0 → c ≡ 0 → k ≡ 0
@@ -147,22 +148,22 @@ sharing-refuted S b share ok is-linear rising white-in dark order =
     )
 
 abbrev otherSet : Call
-otherSet = ranPixel zeros zeros-bytes Gray8 1 1 1 255 (lit< tt)
+otherSet = ranPixel zeros zeros-typed Gray8 1 1 1 255 (lit< tt)
 
 other-set-output : output otherSet here ≡ 0
 unfolding answered
 other-set-output =
-    through-points otherSet refl linear-is-no-spline here (grey-toned zeros 1 255) (pt 255 0)
+    through-points otherSet refl linear-is-no-spline here (grey-toned zeros 1 255) 255 0
     (List·Memᴰ·tail (List·Memᴰ·head refl)) refl
 
 abbrev otherFormat : Call
-otherFormat = ranPixel straightCurve straight-bytes Rgb24 1 1 3 255 (lit< tt)
+otherFormat = ranPixel straightCurve straight-typed Rgb24 1 1 3 255 (lit< tt)
 
 abbrev noColumns : Call
-noColumns = ranPixel straightCurve straight-bytes Gray8 0 1 1 255 (lit< tt)
+noColumns = ranPixel straightCurve straight-typed Gray8 0 1 1 255 (lit< tt)
 
 abbrev noRows : Call
-noRows = ranPixel straightCurve straight-bytes Gray8 1 0 1 255 (lit< tt)
+noRows = ranPixel straightCurve straight-typed Gray8 1 0 1 255 (lit< tt)
 
 abbrev SameSet : Call → Call → Type 0
 SameSet a b = Same (a .given .job .set) (b .given .job .set)
@@ -197,7 +198,7 @@ order-wants-one-format =
             within = record { row = lit< tt; column = lit< tt; channel = lit< tt };
             not-alpha = λ e. omega (arith, e);
           })
-          (pt 255 0) (List·Memᴰ·tail (List·Memᴰ·head refl)) refl,
+          255 0 (List·Memᴰ·tail (List·Memᴰ·head refl)) refl,
     ))
 
 pub order-wants-one-width : OrderSharing (λ a b. SameSet a b × SameFormat a b × SameHeight a b) → ⊥
@@ -216,19 +217,19 @@ order-wants-one-height =
 
 -- ---- "neither of which the documents refuse": a row step of 0 is refused, and the output stays 9
 abbrev refused : (v : ℕ) → v < 256 → Call
-refused v byte = ranPixel straightCurve straight-bytes Gray8 1 1 0 v byte
+refused v byte = ranPixel straightCurve straight-typed Gray8 1 1 0 v byte
 
 refused-output : (v : ℕ) (byte : v < 256) → output (refused v byte) here ≡ 9
 unfolding answered first
 refused-output v byte = refl
 
 abbrev black : Call
-black = ranPixel straightCurve straight-bytes Gray8 1 1 1 0 (lit< tt)
+black = ranPixel straightCurve straight-typed Gray8 1 1 1 0 (lit< tt)
 
 -- of the same set, format and size
 shares : (step other v w : ℕ) (v-byte : v < 256) (w-byte : w < 256)
-    → Share (ranPixel straightCurve straight-bytes Gray8 1 1 step v v-byte)
-    (ranPixel straightCurve straight-bytes Gray8 1 1 other w w-byte)
+    → Share (ranPixel straightCurve straight-typed Gray8 1 1 step v v-byte)
+    (ranPixel straightCurve straight-typed Gray8 1 1 other w w-byte)
 shares step other v w v-byte w-byte =
     record { set = same-refl (white .given .job .set); format = refl; width = refl; height = refl }
 
@@ -256,7 +257,7 @@ order-wants-both-accepted = (
             (λ p t. rw (only-here straightCurve 0 0 p t) (lit≤ tt)) here
             (grey-toned straightCurve 0 0),
         refused-output 0 (lit< tt),
-        through-points black refl linear-is-no-spline here (grey-toned straightCurve 1 0) (pt 0 0)
+        through-points black refl linear-is-no-spline here (grey-toned straightCurve 1 0) 0 0
             (List·Memᴰ·head refl) refl,
       ),
   λ order.
@@ -313,12 +314,15 @@ rows-alone-wants-one-set claim =
 
 pub near-wants-accepted :
     ((a : Call) → IsLinear (a .given) → (p : Place) → TonedAt (a .given) p
+    → WholeHeights (listThatTones (a .given) p)
     → (n d : ℕ) → OnLine (listThatTones (a .given) p) (input a p) n d → Nearest n d (output a p))
     → ⊥
 unfolding Computed.entry
 near-wants-accepted claim =
-    let near = claim (refused 255 (lit< tt)) refl here (grey-toned straightCurve 0 255) 65025 255
+    let near = claim (refused 255 (lit< tt)) refl here (grey-toned straightCurve 0 255)
+    (refl, (refl, tt)) 16646400 65280
     (record {
+      divisor = lit< tt;
       i = 0;
       inside = lit< tt;
       left = lit≤ tt;
@@ -330,13 +334,14 @@ near-wants-accepted claim =
 
 pub through-points-wants-accepted :
     ((a : Call) → (IsSpline (kindIn (a .given)) → ⊥) → (p : Place) → TonedAt (a .given) p
-    → (q : Point) → List·Memᴰ q (listThatTones (a .given) p) → input a p ≡ q .x → output a p ≡ q .y)
+    → (x y : ℕ) → List·Memᴰ (atLevel x y) (listThatTones (a .given) p) → input a p ≡ x
+    → output a p ≡ y)
     → ⊥
 through-points-wants-accepted claim =
     omega (
       arith,
       claim (refused 255 (lit< tt)) linear-is-no-spline here (grey-toned straightCurve 0 255)
-          (pt 255 255) (List·Memᴰ·tail (List·Memᴰ·head refl)) refl,
+          255 255 (List·Memᴰ·tail (List·Memᴰ·head refl)) refl,
       refused-output 255 (lit< tt),
     )
 
@@ -361,7 +366,7 @@ no-dithering-wants-accepted claim =
 pub passed-through-wants-accepted : ((a : Call) → PassedThrough a) → ⊥
 unfolding answered first
 passed-through-wants-accepted claim =
-    let a = ranPixel straightCurve straight-bytes Rgba 1 1 0 255 (lit< tt) in
+    let a = ranPixel straightCurve straight-typed Rgba 1 1 0 255 (lit< tt) in
     let alpha : Place = record { row = 0; column = 0; channel = 3 } in
     let z : _≡_ {A = ℕ} 8 7 =
     claim a .alpha alpha (record { row = lit< tt; column = lit< tt; channel = lit< tt })

@@ -15,7 +15,7 @@ use lib.ListN.{length, getD}
 use Rattle.answers.specs.declared.Answer.the-variants.{RecordTruncated, PointCount}
 use Rattle.answers.specs.Checks.{_when_}
 use Rattle.points.specs.declared.Point.{Point}
-use Rattle.points.specs.Points.{pt}
+use Rattle.points.specs.Points.{pt, atLevel}
 use Rattle.points.specs.Knots.{xOf, OnLine}
 use Rattle.tables.specs.declared.CurveInterpolation.the-variants.{
   Linear,
@@ -34,7 +34,8 @@ use Rattle.formats.specs.declared.PixelFormat.the-variants.{Gray8, Ya8, Rgb24}
 use Rattle.examples.specs.Computed as Computed
 use Rattle.promises.specs.Checks.{Answers}
 use Rattle.promises.specs.Results.{ExactPlane}
-use Rattle.promises.specs.Words.{IsSpline, Nearest, HasLine, Copied}
+use Rattle.promises.specs.Words.{IsSpline, WholeHeights, Nearest, NearlyNearest}
+use Rattle.promises.specs.Words.{HasLine, Copied}
 
 -- ---- the first demand
 -- 0 where nothing is refused, which asks nothing of what was lent; not a number that no check
@@ -90,12 +91,28 @@ nearest-third = (
   λ h. omega (arith, h .0, h .1),
 )
 
+-- "within 1/2 + 1/16,384": 8,191 / 16,384 is so far below 1, and 24,577 / 16,384 so far above it
+pub nearly-at-edges : NearlyNearest 8191 16384 1 × (NearlyNearest 8190 16384 1 → ⊥)
+    × NearlyNearest 24577 16384 1 × (NearlyNearest 24578 16384 1 → ⊥)
+nearly-at-edges = (
+  (lit≤ tt, lit≤ tt),
+  λ h. omega (arith, h .0, h .1),
+  (lit≤ tt, lit≤ tt),
+  λ h. omega (arith, h .0, h .1),
+)
+
+-- whole heights: every point's
+pub whole-heights-at-edges : WholeHeights (pt 0 0 ∷ pt 1 256 ∷ pt 2 65280 ∷ [])
+    × (WholeHeights (pt 0 0 ∷ pt 1 257 ∷ []) → ⊥) × (WholeHeights (pt 0 255 ∷ pt 1 0 ∷ []) → ⊥)
+whole-heights-at-edges =
+    ((refl, (refl, (refl, tt))), λ w. omega (arith, w .1 .0), λ w. omega (arith, w .0))
+
 -- the line of (0,0),(12,54) ends at 255: there is none at 256
 abbrev slanting : List Point
-slanting = pt 0 0 ∷ pt 12 54 ∷ []
+slanting = atLevel 0 0 ∷ atLevel 12 54 ∷ []
 
 abbrev itsKnots : List Point
-itsKnots = pt 0 0 ∷ pt 12 54 ∷ pt 255 54 ∷ []
+itsKnots = atLevel 0 0 ∷ atLevel 12 54 ∷ atLevel 255 54 ∷ []
 
 past-the-end : (i : ℕ) → suc i < length itsKnots → 256 ≤ xOf itsKnots (suc i) → ⊥
 past-the-end zero h r = omega (arith, r)
@@ -104,7 +121,7 @@ past-the-end (suc (suc i)) h r = omega (arith, h)
 
 pub line-ends : HasLine slanting 256 → ⊥
 unfolding Computed.entry
-line-ends h = let o = h .there .2 in past-the-end (o .i) (o .inside) (o .right)
+line-ends h = let o = h .there .2 in past-the-end (o .i) (o .inside) (omega (arith, o .right))
 
 -- bytes nearest one line, be it by two of its pieces, are one or neighbours
 pub nearest-one-line : {l : List Point} {v n d m e : ℕ} (b c : ℕ) → HasLine l v → OnLine l v n d

@@ -18,6 +18,7 @@ use Rattle.answers.specs.declared.Answer.{Answer}
 use Rattle.answers.specs.Numbers.{numberOf, isDone}
 use Rattle.answers.specs.Checks.{firstRefusal}
 use Rattle.points.specs.declared.Curve.{Curve}
+use Rattle.points.specs.declared.Heights.{Heights}
 use Rattle.points.specs.declared.Sorted.{Sorted}
 use Rattle.points.specs.Points.{listOf, listChecks, NewCall}
 use Rattle.tables.specs.declared.CurveInterpolation.{CurveInterpolation}
@@ -64,10 +65,10 @@ build-table call = answers (ap numberOf (call .answer)) (λ no. rw no at (call .
 
 -- ---- "set"
 -- `Curves::check`, which is lent nothing
-pub check : (set : Curves) {r : Answer} → r ≡ setAnswer set
-    → Answers (setChecks curveChecks set) (numberOf r) (Unit {0})
+pub check : (heights : Heights) (set : Curves) {r : Answer} → r ≡ setAnswer heights set
+    → Answers (setChecks (curveChecks heights) set) (numberOf r) (Unit {0})
 unfolding setAnswer
-check set call = answers (ap numberOf call) (λ no. tt)
+check heights set call = answers (ap numberOf call) (λ no. tt)
 
 -- `write_record`
 pub write-record : {set : Curves} {old new : List ℕ} {r : Written} → WriteRecordCall set old r new

@@ -21,8 +21,9 @@ use Rattle.single.specs.Rules.{byteOf}
 use Rattle.points.specs.declared.Point.{Point}
 use Rattle.points.specs.declared.Curve.{Curve}
 use Rattle.points.specs.declared.Sorted.{Sorted}
+use Rattle.points.specs.declared.Heights.the-variants.{Whole}
 use Rattle.points.specs.Points.{listOf, kept, NewCall}
-use Rattle.points.specs.Order.{All, Bytes}
+use Rattle.points.specs.Order.{All, Proper}
 use Rattle.tangents.specs.CatmullRom.{catmullRomAt, cardinalAt}
 use Rattle.monotone.specs.Monotone.{circleAt, boxAt}
 use Rattle.chords.specs.Alpha.{centripetalAt, chordalAt}
@@ -92,11 +93,11 @@ build-table = Fact.build-table-builds
 
 -- each of these samples is finite, under every kind, and so none is NaN: of 256, and of 4,096
 pub samples-finite : (kind : CurveInterpolation) → LegalKind kind
-    → (l : List Point) → All Bytes l
+    → (l : List Point) → All Proper l
     → ((v : ℕ) → v < 256 → T (finite (sampleOf kind l 256 v)))
     × ((v : ℕ) → v < 4096 → T (finite (sampleOf kind l 4096 v)))
-samples-finite kind legal l bytes =
-    (byte-sample-finite l bytes kind legal, fine-sample-finite l bytes kind legal)
+samples-finite kind legal l proper =
+    (byte-sample-finite l proper kind legal, fine-sample-finite l proper kind legal)
 
 -- `lookup`: each value replaced
 pub lookup : {table old new : List Float} {r : Answer} → LookupCall table old r new → numberOf r ≡ 0
@@ -187,7 +188,7 @@ written-then-read = Writing.written-then-read
 
 -- on the definitions: the record of every set that passes its check, with a tension of a byte or
 -- slopes of 16 bits, is read as that set
-pub round-trip : (v : View) → Legal v → LegalKind (v .kind)
+pub round-trip : (v : View) → Legal Whole v → LegalKind (v .kind)
     → readRecord (encode v) ≡ record { answer = Done; set = v }
 round-trip = RoundTrip.round-trip
 
@@ -212,7 +213,7 @@ accepted-fits = Writing.accepted-fits
 -- .. nor any set whose lists pass the check in 522 bytes: they always suffice
 pub always-fits : {set : Curves} {old new : List ℕ} {w : Written} → WriteRecordCall set old w new
     → 522 ≤ length old
-    → (w .answer ≡ setAnswer set) × (w .answer ≡ OutputTooSmall → ⊥)
+    → (w .answer ≡ setAnswer Whole set) × (w .answer ≡ OutputTooSmall → ⊥)
 always-fits = Writing.always-fits
 
 -- records are canonical: the same sets are written as the same bytes ..

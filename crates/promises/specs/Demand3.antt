@@ -1,11 +1,15 @@
 -- The third demand, clause by clause, in the mission's order and words. "For every two runs of the
 -- set call, A and B, that share one set, format and size, and neither of which the documents
 -- refuse": a clause that speaks of one run holds of each of the two, and asks nothing of the other.
+-- "Heights written in document 01 are levels": where a clause of the mission names a point's y, it is
+-- a level here. What document 02's U9 says of other heights is Request9's; the order asks nothing of
+-- heights.
 use Prim.Native.Nat.{ℕ, _≤_}
-use mathlib.Core.Path.{_≡_}
+use mathlib.Core.Path.{_≡_, _∙_}
 use mathlib.Core.List.{List·Memᴰ}
 use lib.ListN.{getD}
-use Rattle.points.specs.declared.Point.{Point}
+use Rattle.points.specs.Points.{atLevel}
+use Rattle.points.specs.HeightLaws.{rounded-level}
 use Rattle.points.specs.Knots.{OnLine}
 use Rattle.promises.specs.Words.{
   Call,
@@ -21,6 +25,7 @@ use Rattle.promises.specs.Words.{
   IsSpline,
   IsPadding,
   NoListFalls,
+  WholeHeights,
   Nearest,
   HasLine,
   ExactPicture,
@@ -56,6 +61,7 @@ order a b share a-ok b-ok linear rising below p toned =
 -- "Under Linear each toned output byte is the whole number nearest the exact broken line of the
 -- list that tones it, at its input byte; at an exact half it is one of the two nearest."
 pub near : (a : Call) → Accepted a → IsLinear (a .given) → (p : Place) → TonedAt (a .given) p
+    → WholeHeights (listThatTones (a .given) p)
     → (n d : ℕ) → OnLine (listThatTones (a .given) p) (input a p) n d → Nearest n d (output a p)
 near = toned-nearest
 
@@ -67,8 +73,10 @@ line = has-line
 -- tones it comes out as that point's y."
 pub through-points : (a : Call) → Accepted a → (IsSpline (kindIn (a .given)) → ⊥) → (p : Place)
     → TonedAt (a .given) p
-    → (q : Point) → List·Memᴰ q (listThatTones (a .given) p) → input a p ≡ q .x → output a p ≡ q .y
-through-points = through-point
+    → (x y : ℕ) → List·Memᴰ (atLevel x y) (listThatTones (a .given) p) → input a p ≡ x
+    → output a p ≡ y
+through-points a ok other p toned x y member here =
+    through-point a ok other p toned (atLevel x y) member here ∙ rounded-level y
 
 -- "Runs alike in their rows and chroma write the same bytes, whatever the padding holds and
 -- whatever the row steps are."

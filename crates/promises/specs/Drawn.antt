@@ -15,6 +15,7 @@ use Rattle.single.specs.Rules.{clamped}
 use Rattle.points.specs.declared.Point.{Point}
 use Rattle.points.specs.Points.{kept}
 use Rattle.points.specs.Knots.{rest, knots, at}
+use Rattle.points.specs.Shape.{knots-two}
 use Rattle.segments.specs.Segments.{seek, segment}
 use Rattle.sampling.specs.Pieces.{pieceHeight, heightAt, sampled}
 use Rattle.tables.specs.declared.CurveInterpolation.{CurveInterpolation}
@@ -22,15 +23,7 @@ use Rattle.tables.specs.Kinds.{formOf, knotValueAt, knotValueRow}
 use Rattle.tables.specs.Tables.{unclampedAt, sampleOf}
 use Rattle.promises.specs.Results.{sampleIn}
 
--- ---- every list has two knots, and every segment both its ends
-two-knots : (l : List Point) → 1 < length (knots l)
-unfolding knots rest
-two-knots [] = lit< tt
-two-knots (p ∷ []) =
-    by-test (eqb (p .x) 0) (λ t. let e = eqb-true (p .x) 0 t in rw e (lit< tt))
-    (λ t. rw t (omega arith))
-two-knots (p ∷ q ∷ l) = by-test (eqb (p .x) 0) (λ t. rw t (omega arith)) (λ t. rw t (omega arith))
-
+-- ---- every segment has both its ends
 seek-most : (xs : List Float) (x : Float) (k i : ℕ) → seek xs x k i ≤ i + k
 unfolding seek
 seek-most xs x zero i = omega arith
@@ -49,7 +42,7 @@ module _ (l : List Point) (S v : ℕ) where
   unfolding segment
   right-end =
       let s = sampleIn l S v in
-      omega (arith, seek-most (s .xs) (s .position) (s .count - 2) 0, two-knots (kept l))
+      omega (arith, seek-most (s .xs) (s .position) (s .count - 2) 0, knots-two (kept l))
 
   pub drawn : (kind : CurveInterpolation)
       → let s = sampleIn l S v in

@@ -10,7 +10,7 @@ use lib.ListN.{length, getD}
 use lib.Seq.{take-length}
 use Rattle.points.specs.declared.Point.{Point}
 use Rattle.points.specs.declared.Curve.{Curve}
-use Rattle.points.specs.Order.{All, Bytes}
+use Rattle.points.specs.Order.{All, Typed}
 use Rattle.tables.specs.declared.CurveInterpolation.{CurveInterpolation}
 use Rattle.tables.specs.Kinds.{carriedOf}
 use Rattle.tables.specs.declared.CurveInterpolation.the-variants.{Linear}
@@ -34,11 +34,11 @@ use Rattle.pictures.specs.Runs.{
 use Rattle.promises.specs.Words.{Call, Accepted, Share, Place, TonedAt, input, output}
 use Rattle.promises.specs.Demand3.{exact}
 
--- a list of bytes and a kind
+-- a list and a kind, as the types have them
 pub record Toning : Type 0 where
   pub list : List Point
   pub kind : CurveInterpolation
-  pub bytes : All Bytes list
+  pub typed : All Typed list
   pub tension : carriedOf kind .tension < 256
 
 -- a picture one pixel wide, with one chroma plane
@@ -111,7 +111,7 @@ pub types-of : (g : Strip) → AreBytes (g .plane) → InTypes (runOf g)
 types-of g bytes = record {
   plane = byte-at (g .plane) bytes;
   points = record {
-    master = rw (take-length (g .by .list)) (g .by .bytes);
+    master = rw (take-length (g .by .list)) (g .by .typed);
     red = tt;
     green = tt;
     blue = tt;

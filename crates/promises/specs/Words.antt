@@ -1,4 +1,5 @@
--- The words of the third demand, with document 01's terms. Definitions only.
+-- The words of the third demand, with document 01's terms, and of document 02's U9, which restates
+-- it for finer heights. Definitions only.
 use Prim.Native.Nat.{ℕ, _+_, _*_, _≤_, _<_}
 use mathlib.Core.Path.{_≡_}
 use mathlib.Core.Logic.{_⊎_}
@@ -8,7 +9,7 @@ use lib.ListN.{length, getD, take}
 use Rattle.answers.specs.declared.Answer.the-variants.{Done}
 use Rattle.points.specs.declared.Point.{Point}
 use Rattle.points.specs.Knots.{OnLine}
-use Rattle.points.specs.Order.{NeverFalls}
+use Rattle.points.specs.Order.{All, WholeHeight, NeverFalls}
 use Rattle.tables.specs.declared.CurveInterpolation.{CurveInterpolation}
 use Rattle.tables.specs.declared.CurveInterpolation.the-variants.{Linear}
 use Rattle.tables.specs.Kinds.{kindNumber}
@@ -123,6 +124,15 @@ NoListFalls r = EveryList NeverFalls (viewOf (r .job .set))
 -- nearest": 2 × |b × d − n| ≤ d
 abbrev pub Nearest : ℕ → ℕ → ℕ → Type 0
 Nearest n d b = (2 * (b * d) ≤ 2 * n + d) × (2 * n ≤ 2 * (b * d) + d)
+
+-- "whole heights": those of document 01, of every point
+abbrev pub WholeHeights : List Point → Type 0
+WholeHeights l = All WholeHeight l
+
+-- b is "within 1/2 + 1/16,384" of n / d: 16,384 × |b × d − n| ≤ 8,193 × d
+abbrev pub NearlyNearest : ℕ → ℕ → ℕ → Type 0
+NearlyNearest n d b =
+    (16384 * (b * d) ≤ 16384 * n + 8193 * d) × (16384 * n ≤ 16384 * (b * d) + 8193 * d)
 
 -- "The exact broken line" of l is there at v, of a width above 0, and where two pieces
 -- meet both give one height

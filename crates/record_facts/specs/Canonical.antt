@@ -14,6 +14,7 @@ use Rattle.lists.specs.Test.{by-test}
 use Rattle.answers.specs.declared.Answer.the-variants.{Done}
 use Rattle.answers.specs.Numbers.{isDone}
 use Rattle.answers.specs.Checks.{first-append}
+use Rattle.points.specs.declared.Heights.the-variants.{Whole}
 use Rattle.tables.specs.declared.CurveInterpolation.{CurveInterpolation}
 use Rattle.tables.specs.Kinds.{kindNumber}
 use Rattle.sets.specs.declared.Curves.{Curves}
@@ -55,9 +56,9 @@ unfolding writeRecord setAnswer
 same-written a b buffer e =
     rw (
       same-bytes a b e,
-      first-append (setChecks curveChecks a) _,
-      first-append (setChecks curveChecks b) _,
-      checked-same a b e,
+      first-append (setChecks (curveChecks Whole) a) _,
+      first-append (setChecks (curveChecks Whole) b) _,
+      checked-same Whole a b e,
     )
 
 -- ---- the forms of a record
@@ -141,7 +142,8 @@ in-full m s v e unnamed =
     omega (arith, first, full-map (bit 128 m) (bit 16 m) v) in
     let body : s ++ byteLeftOut m ≡ bodyNaming true v =
     ap (λ (l : List ℕ). l ++ byteLeftOut m) rest ∙ full-body (bit 128 m) (bit 16 m) v unnamed in
-    ap (λ (n : ℕ). n ∷ (s ++ byteLeftOut m)) map ∙ ap (λ (l : List ℕ). mapNaming true true v ∷ l) body
+    ap (λ (n : ℕ). n ∷ (s ++ byteLeftOut m)) map
+    ∙ ap (λ (l : List ℕ). mapNaming true true v ∷ l) body
 
 written-in-full : (v : View) → namedInFull (encode v) ≡ recordNaming true true v
 unfolding encode recordNaming

@@ -6,17 +6,29 @@ use native.Mathlib.Omega.{arith}
 use mathlib.Core.Path.{_≡_, refl}
 use mathlib.Core.Bool.{true, false, false≢true}
 use mathlib.Core.List.{List, [], _∷_, _++_}
-use lib.Dec.{lit<}
+use mathlib.Core.Option.{some}
+use lib.Dec.{lit<, lit≤}
 use lib.IntN.{pos}
 use lib.ListN.{length, take, getD}
 use Rattle.answers.specs.declared.Answer.the-variants.{Done, OutputTooSmall, TrailingBytes}
 use Rattle.answers.specs.Checks.{firstRefusal}
 use Rattle.lists.specs.Tabulate.{tabulate}
 use Rattle.points.specs.declared.Curve.{Curve}
-use Rattle.points.specs.Points.{pt, risesFrom}
+use Rattle.points.specs.declared.Heights.the-variants.{Whole}
+use Rattle.points.specs.Points.{pt, allowed, allAllowed, risesFrom}
 use Rattle.tables.specs.declared.CurveInterpolation.the-variants.{Cardinal, ClampedCubic}
+use Rattle.sets.specs.declared.Colour.{Colour}
+use Rattle.sets.specs.declared.Colour.the-variants.{Red, Green, Blue}
 use Rattle.sets.specs.declared.Curves.{Curves}
-use Rattle.sets.specs.Sets.{viewOf, emptyView, masterOnly, withKind, presentChannel}
+use Rattle.sets.specs.Sets.{
+  View,
+  viewOf,
+  emptyView,
+  masterOnly,
+  withColour,
+  withKind,
+  presentChannel,
+}
 use Rattle.tables.specs.Kinds.{kindOf}
 use Rattle.records.specs.PointLists.{pairs, readPoints, readList}
 use Rattle.records.specs.Kinds.{readNumber, readTension, readSlopes, readCarried, readKind}
@@ -24,6 +36,7 @@ use Rattle.records.specs.Format.{longest, readFields, readRecord}
 use Rattle.writing.specs.Contracts.{Held}
 use Rattle.writing.specs.Encode.{pairBytes, bitsUnder, encode, writeChecks}
 use Rattle.record_facts.specs.Found.{AllBytes}
+use Rattle.record_facts.specs.Levels.{HoldsLevels}
 use Rattle.record_facts.specs.ReadLegal.{LegalSet}
 use Rattle.record_facts.specs.Canonical.{
   namesThree,
@@ -116,6 +129,77 @@ pub falling-list : LegalSet (masterOnly (pt 9 0 ∷ pt 9 0 ∷ [])) → ⊥
 unfolding risesFrom
 falling-list h = false≢true (h .lists .master .rising)
 
+-- ---- heights: 256 is a whole one, 255 and 257 are none; 65,280 is the highest, and 65,536 the next
+-- whole one
+module _ (y : ℕ) where
+  abbrev pub onePoint : View
+  onePoint = masterOnly (pt 7 y ∷ [])
+
+  legal-height : allowed Whole y ≡ true → LegalSet onePoint
+  unfolding risesFrom allAllowed
+  legal-height e = record {
+    lists = record {
+      master = record { few = lit≤ tt; rising = refl; high = rw e };
+      red = tt;
+      green = tt;
+      blue = tt;
+    };
+    kind = record { tension = lit< tt; start = lit< tt; end = lit< tt };
+  }
+
+  no-height : allowed Whole y ≡ false → LegalSet onePoint → ⊥
+  unfolding allAllowed
+  no-height e h = false≢true (rw e at (h .lists .master .high))
+
+pub height-256 : LegalSet (onePoint 256)
+height-256 = legal-height 256 refl
+
+pub height-255 : LegalSet (onePoint 255) → ⊥
+height-255 = no-height 255 refl
+
+pub height-257 : LegalSet (onePoint 257) → ⊥
+height-257 = no-height 257 refl
+
+pub height-65280 : LegalSet (onePoint 65280)
+height-65280 = legal-height 65280 refl
+
+pub height-65536 : LegalSet (onePoint 65536) → ⊥
+height-65536 = no-height 65536 refl
+
+-- in any list
+abbrev fineColour : Colour → View
+fineColour c = withColour c (some (pt 7 257 ∷ [])) emptyView
+
+pub whole-heights : HoldsLevels (onePoint 256)
+whole-heights = record { master = (refl, tt); red = tt; green = tt; blue = tt }
+
+pub not-whole : (HoldsLevels (onePoint 257) → ⊥) × (HoldsLevels (fineColour Red) → ⊥)
+    × (HoldsLevels (fineColour Green) → ⊥) × (HoldsLevels (fineColour Blue) → ⊥)
+not-whole = (
+  λ h. omega (arith, h .master .0),
+  λ h. omega (arith, h .red .0),
+  λ h. omega (arith, h .green .0),
+  λ h. omega (arith, h .blue .0),
+)
+
+-- a stored 255 is the height 65,280; 256, which is no byte, would be 65,536
+pub stored-255 : readRecord (0x81 ∷ 1 ∷ 7 ∷ 255 ∷ [])
+    ≡ record { answer = Done; set = onePoint 65280 }
+unfolding readRecord readFields readList readPoints pairs risesFrom readKind readNumber readCarried
+    kindOf
+stored-255 = refl
+
+pub stored-256 : readRecord (0x81 ∷ 1 ∷ 7 ∷ 256 ∷ [])
+    ≡ record { answer = Done; set = onePoint 65536 }
+unfolding readRecord readFields readList readPoints pairs risesFrom readKind readNumber readCarried
+    kindOf
+stored-256 = refl
+
+-- without the writer's test of heights 257 would come back as 256
+pub same-record : encode (onePoint 257) ≡ encode (onePoint 256)
+unfolding encode bitsUnder pairBytes
+same-record = refl
+
 -- ---- the longest record: four lists of 64 points and two slopes
 abbrev longestCurve : Curve
 longestCurve = record { points = tabulate 64 (λ i. pt i 0); count = 64 }
@@ -146,11 +230,11 @@ longest-reached = refl
 
 -- 522 bytes of room suffice, 521 do not
 pub just-enough : firstRefusal (writeChecks longestSet longest) ≡ Done
-unfolding risesFrom encode bitsUnder pairBytes tabulate
+unfolding risesFrom allAllowed encode bitsUnder pairBytes tabulate
 just-enough = refl
 
 pub one-less : firstRefusal (writeChecks longestSet (longest - 1)) ≡ OutputTooSmall
-unfolding risesFrom encode bitsUnder pairBytes tabulate
+unfolding risesFrom allAllowed encode bitsUnder pairBytes tabulate
 one-less = refl
 
 -- with a byte behind it, it is refused, and cut to 522 bytes it would not be

@@ -1,5 +1,5 @@
--- What the reader finds in a record: of each value the bytes that spell it, and that a writer takes
--- it. One walk over the fields tells both; ReadLegal and Spelling say what comes of it.
+-- What the reader finds in a record: of each value the bytes that spell it, and what a writer asks
+-- of it. One walk over the fields tells both; Levels, ReadLegal and Spelling say what comes of it.
 use Prim.Native.Nat.{ℕ, zero, suc, _+_, _*_, _/_, _%_, _≤_, _<_}
 use native.Mathlib.Omega.{arith}
 use mathlib.Core.Path.{_≡_, refl, sym, ap, _∙_}
@@ -8,16 +8,17 @@ use mathlib.Core.Bool.{Bool, true, false, cond, true≢false}
 use mathlib.Core.Option.{Option, some}
 use lib.Dec.{ltb, lit<, lit≤}
 use lib.IntN.{ℤ}
-use lib.ListN.{length, getD, drop}
+use lib.ListN.{length, getD, drop, List·getD-eq-default, List·getD-append}
 use lib.Seq.{getD-append-add}
 use lib.Signed.{mag}
 use borrow.Author.Tests.{ltb-true, ltb-false, le-ltb, eqb-true, not-false}
 use Rattle.lists.specs.Test.{by-test}
 use Rattle.answers.specs.declared.Answer.{Answer}
 use Rattle.answers.specs.declared.Answer.the-variants.{Done, RecordTruncated, UnknownKind}
-use Rattle.answers.specs.Numbers.{isDone}
+use Rattle.answers.specs.Numbers.{isDone, done-is}
 use Rattle.points.specs.declared.Point.{Point}
-use Rattle.points.specs.Points.{limit, risesFrom}
+use Rattle.points.specs.Points.{limit, rises, risesFrom}
+use Rattle.points.specs.Order.{All, WholeHeight}
 use Rattle.tables.specs.declared.CurveInterpolation.{CurveInterpolation}
 use Rattle.tables.specs.declared.Carried.{Carried}
 use Rattle.tables.specs.Kinds.{nothing, aTension, twoSlopes, kindNumber, lastKind}
@@ -27,8 +28,9 @@ use Rattle.tables.specs.KindLaws.{number-known, kindWith, number-back, carried-
 use Rattle.tables.specs.KindLaws.{kind-legal}
 use Rattle.sets.specs.declared.Colour.{Colour}
 use Rattle.sets.specs.declared.Colour.the-variants.{Red, Green, Blue}
-use Rattle.sets.specs.Legal.{LegalList, LegalColour, Legal}
+use Rattle.sets.specs.Lists.{OfColour, EveryList}
 use Rattle.sets.specs.Sets.{View, emptyView, colourOf, withMaster, withColour, withKind}
+use Rattle.records.specs.declared.point_lists.Edition.the-variants.{One}
 use Rattle.records.specs.Parse.{Parse, good, refused, _▷_}
 use Rattle.records.specs.Map.{bit, carriedBits, colourBit}
 use Rattle.records.specs.PointLists.{
@@ -39,6 +41,7 @@ use Rattle.records.specs.PointLists.{
   readList,
   readField,
 }
+use Rattle.records.specs.LevelLaws.{pairs-whole}
 use Rattle.records.specs.Kinds.{
   unnamedKind,
   storedSlope,
@@ -60,7 +63,7 @@ use Rattle.records.specs.Format.{
   result,
   readRecord,
 }
-use Rattle.records.specs.CheckLaws.{checked-has}
+use Rattle.records.specs.CheckLaws.{checked-has, read-empty}
 use Rattle.writing.specs.Encode.{
   pairBytes,
   fieldBytes,
@@ -75,8 +78,16 @@ use Rattle.writing.specs.Encode.{
 pub record AllBytes (s : List ℕ) : Type 0 where
   pub byte : (i : ℕ) → getD s i 0 < 256
 
-bytes-behind : (a b : List ℕ) → AllBytes (a ++ b) → AllBytes b
+pub bytes-behind : (a b : List ℕ) → AllBytes (a ++ b) → AllBytes b
 bytes-behind a b h = record { byte = λ i. rw (← getD-append-add a b i 0) (h .byte (length a + i)) }
+
+pub bytes-before : (a b : List ℕ) → AllBytes (a ++ b) → AllBytes a
+bytes-before a b h = record {
+  byte = λ i.
+      by-test (ltb i (length a))
+      (λ t. rw (← List·getD-append a b 0 i (ltb-true i (length a) t)) (h .byte i))
+      (λ t. rw (List·getD-eq-default a 0 (ltb-false i (length a) t)) (lit< tt));
+}
 
 pub bytes-rest : (a : ℕ) (s : List ℕ) → AllBytes (a ∷ s) → AllBytes s
 bytes-rest a s b = bytes-behind (a ∷ []) s b
@@ -100,55 +111,70 @@ either F true p q f g = f refl
 either F false p q f g = g refl
 
 -- ---- lists
-pub pairs-length : (n : ℕ) (s : List ℕ) → length (pairs n s) ≡ n
+pub pairs-length : (n : ℕ) (s : List ℕ) → length (pairs One n s) ≡ n
 unfolding pairs
 pairs-length zero s = refl
-pairs-length (suc n) s = rw (pairs-length n (drop pointBytes s))
+pairs-length (suc n) s = rw (pairs-length n (drop (pointBytes One) s))
+
+-- the level that is stored, from the height that is read
+level-back : (n : ℕ) → n * 256 / 256 ≡ n
+level-back n = omega arith
 
 pairs-spelled : (n : ℕ) (s : List ℕ) → n * 2 ≤ length s
-    → s ≡ pairBytes (pairs n s) ++ drop (n * 2) s
+    → s ≡ pairBytes (pairs One n s) ++ drop (n * 2) s
 unfolding pairs pairBytes
 pairs-spelled zero s h = refl
 pairs-spelled (suc n) [] h = absurd (omega arith)
 pairs-spelled (suc n) (x ∷ []) h = absurd (omega arith)
 pairs-spelled (suc n) (x ∷ y ∷ s) h =
     let e : suc n * 2 ≡ suc (suc (n * 2)) = omega arith in
-    rw e (ap (λ (t : List ℕ). x ∷ y ∷ t) (pairs-spelled n s (omega arith)))
+    rw (e, level-back y) (ap (λ (t : List ℕ). x ∷ y ∷ t) (pairs-spelled n s (omega arith)))
+
+-- what every list is that was read: at most 64 points, which rise in x and are at levels
+pub record StoredList (l : List Point) : Type 0 where
+  pub few : length l ≤ limit
+  pub rising : rises l ≡ true
+  pub whole : All WholeHeight l
 
 -- a list that is there, of at least so many points
 abbrev ListOf : ℕ → List Point → List ℕ → Type 0
-ListOf least l c = LegalList l × (least ≤ length l) × (c ≡ fieldBytes (some l))
+ListOf least l c = StoredList l × (least ≤ length l) × (c ≡ fieldBytes (some l))
 
 list-spelled : (least : ℕ) (s : List ℕ) → Spelled (ListOf least) s (readList least s)
 unfolding readList readPoints
 list-spelled least [] = none-found RecordTruncated refl
 list-spelled least (n ∷ s) =
+    let l = pairs One n s in
     let long = pairs-length n s in
     checked-has (Spelled (ListOf least) (n ∷ s)) none-found (pointChecks least n s) _
     (λ passed.
     let few = ltb-false limit n (passed .0) in
     let enough = ltb-false n least (passed .1 .0) in
-    let whole = ltb-false (length s) (n * 2) (passed .1 .1 .0) in
-    found (pairs n s) (fieldBytes (some (pairs n s))) (drop (n * 2) s) (
-      record { few = omega arith; rising = not-false _ (passed .1 .1 .1 .0) },
+    let room = ltb-false (length s) (n * 2) (passed .1 .1 .0) in
+    found l (fieldBytes (some l)) (drop (n * 2) s) (
+      record {
+        few = omega arith;
+        rising = not-false _ (passed .1 .1 .1 .0);
+        whole = pairs-whole n s;
+      },
       omega arith,
       refl,
     )
-    (rw (long, ← pairs-spelled n s whole)))
+    (rw (long, ← pairs-spelled n s room)))
 
 -- a field, and whether it is marked
 abbrev FieldOf : Bool → Option (List Point) → List ℕ → Type 0
-FieldOf marked o c = (there o ≡ marked) × LegalColour o × (c ≡ fieldBytes o)
+FieldOf marked o c = (there o ≡ marked) × OfColour StoredList o × (c ≡ fieldBytes o)
 
 not-empty : (l : List Point) → 1 ≤ length l → masterField l ≡ some l
 not-empty [] h = absurd (omega arith)
 not-empty (p ∷ l) h = refl
 
--- a legal field is a legal list, empty or not
-pub legal-master : (l : List Point) → LegalColour (masterField l) → LegalList l
+-- a master that is there, or the empty one
+stored-master : (l : List Point) → OfColour StoredList (masterField l) → StoredList l
 unfolding risesFrom
-legal-master [] h = record { few = lit≤ tt; rising = refl }
-legal-master (p ∷ l) h = h
+stored-master [] h = record { few = lit≤ tt; rising = refl; whole = tt }
+stored-master (p ∷ l) h = h
 
 master-spelled : (marked : Bool) (s : List ℕ)
     → Spelled (λ l. FieldOf marked (masterField l)) s (readField marked 1 s)
@@ -338,7 +364,7 @@ pub record Fields (m : ℕ) (v : View) (c : List ℕ) : Type 0 where
   pub front : List ℕ
   pub behind : List ℕ
   pub lists : Lists m v front
-  pub legal : Legal v
+  pub stored : EveryList StoredList v
   pub kind : KindOf (bit 16 m) m (v .kind) behind
   pub bytes : c ≡ front ++ behind
 
@@ -346,12 +372,12 @@ module _ (m : ℕ) where
   abbrev Master : View → List ℕ → Type 0
   Master v = FieldOf (bit 1 m) (masterField (v .master))
 
-  abbrev OfColour : Colour → View → List ℕ → Type 0
-  OfColour colour v = FieldOf (bit (colourBit colour) m) (colourOf colour v)
+  abbrev OneColour : Colour → View → List ℕ → Type 0
+  OneColour colour v = FieldOf (bit (colourBit colour) m) (colourOf colour v)
 
   abbrev InOrder : View → List ℕ → Type 0
   InOrder =
-      Both (Both (Both (Both Master (OfColour Red)) (OfColour Green)) (OfColour Blue))
+      Both (Both (Both (Both Master (OneColour Red)) (OneColour Green)) (OneColour Blue))
       (λ v. KindOf (bit 16 m) m (v .kind))
 
   in-order : (s : List ℕ)
@@ -394,8 +420,8 @@ fields-of m v c kind =
               blue .second .2,
             );
       };
-      legal = record {
-        master = legal-master (v .master) (red .first .1);
+      stored = record {
+        master = stored-master (v .master) (red .first .1);
         red = red .second .1;
         green = green .second .1;
         blue = blue .second .1;
@@ -416,6 +442,14 @@ pub accepted : (m : ℕ) (s : List ℕ) → readRecord (m ∷ s) .answer ≡ Don
     → Fields m (readRecord (m ∷ s) .set) s
 unfolding readRecord readFields
 accepted m s e = fields-of m _ s (end-found (in-order m s) e)
+
+-- what the empty set has and every set that was found, that has every set that is handed back
+pub handed-has : (P : View → Type 0) → P emptyView → (m : ℕ) (s : List ℕ)
+    → ((v : View) → Fields m v s → P v) → P (readRecord (m ∷ s) .set)
+handed-has P empty m s f =
+    let answer = readRecord (m ∷ s) .answer in
+    by-test (isDone answer) (λ t. f _ (accepted m s (done-is answer t)))
+    (λ t. rw (read-empty (m ∷ s) t) empty)
 
 -- what the kind of a record of bytes carries
 pub carried-same : {m : ℕ} {v : View} {s : List ℕ} (f : Fields m v s) → AllBytes s

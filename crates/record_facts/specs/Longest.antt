@@ -20,6 +20,7 @@ use Rattle.tables.specs.Kinds.{carriesTension, carriesSlopes}
 use Rattle.sets.specs.declared.Colour.{Colour}
 use Rattle.sets.specs.declared.Colour.the-variants.{Red, Green, Blue}
 use Rattle.sets.specs.Sets.{View, emptyView}
+use Rattle.records.specs.declared.point_lists.Edition.the-variants.{One}
 use Rattle.records.specs.Parse.{Parse, good, refused, _▷_, checked}
 use Rattle.records.specs.Map.{bit, colourBit}
 use Rattle.records.specs.PointLists.{pointOf, pairs, pointChecks, readPoints, readList, readField}
@@ -84,12 +85,12 @@ short-take k m s h =
     rw (t, le-ltb (length (take m s)) k long))
 
 -- ---- a list
-pairs-take : (c m : ℕ) (s : List ℕ) → c * 2 ≤ m → pairs c (take m s) ≡ pairs c s
+pairs-take : (c m : ℕ) (s : List ℕ) → c * 2 ≤ m → pairs One c (take m s) ≡ pairs One c s
 unfolding pairs
 pairs-take zero m s h = refl
 pairs-take (suc c) m s h =
     rw (getD-take m s 0 0 (omega arith), getD-take m s 1 0 (omega arith), drop-take 2 m s)
-    (ap (λ (ps : List Point). pointOf s ∷ ps) (pairs-take c (m - 2) (drop 2 s) (omega arith)))
+    (ap (λ (ps : List Point). pointOf One s ∷ ps) (pairs-take c (m - 2) (drop 2 s) (omega arith)))
 
 points-take : (least c : ℕ) → Takes 128 (readPoints least c)
 unfolding readPoints
@@ -103,7 +104,7 @@ points-take least c n s m h =
       drop-take (c * 2) m s,
     )
     (checked-fronts (pointChecks least c s)
-    (read (pairs c s) (drop (c * 2) s) (m - c * 2) (omega arith))))
+    (read (pairs One c s) (drop (c * 2) s) (m - c * 2) (omega arith))))
 
 list-takes : (least : ℕ) → Takes 129 (readList least)
 unfolding readList

@@ -1,5 +1,5 @@
--- Reading what the writer wrote gives the same set back, for every set that the writer takes
--- and every buffer with room.
+-- Reading what the writer wrote gives the same set back, for every set that the writer takes, and
+-- so with whole heights, and every buffer with room.
 use Prim.Native.Nat.{ℕ, _+_, _-_, _*_, _/_, _%_, _≤_, _<_}
 use native.Mathlib.Omega.{arith}
 use mathlib.Core.Path.{_≡_, refl, sym, ap, _∙_}
@@ -14,6 +14,9 @@ use lib.Dec.{eqb}
 use borrow.Author.Tests.{le-ltb, lt-ltb, eqb-true, eq-eqb}
 use Rattle.lists.specs.Test.{by-test}
 use Rattle.points.specs.declared.Point.{Point}
+use Rattle.points.specs.declared.Heights.the-variants.{Whole}
+use Rattle.points.specs.HeightLaws.{passed-whole}
+use Rattle.points.specs.Order.{All, WholeHeight}
 use Rattle.tables.specs.declared.CurveInterpolation.{CurveInterpolation}
 use Rattle.tables.specs.Kinds.{
   kindNumber,
@@ -30,6 +33,7 @@ use Rattle.sets.specs.declared.Curves.{Curves}
 use Rattle.sets.specs.Legal.{LegalList, LegalColour, Legal, legal-view}
 use Rattle.sets.specs.Sets.{View, viewOf}
 use Rattle.points.specs.Points.{limit}
+use Rattle.records.specs.declared.point_lists.Edition.the-variants.{One}
 use Rattle.records.specs.Parse.{good}
 use Rattle.records.specs.Map.{bit, carriedBits}
 use Rattle.records.specs.PointLists.{pointBytes, pairs, readPoints, readList, readField}
@@ -61,24 +65,28 @@ use Rattle.writing.specs.Lengths.{pairs-length}
 use Rattle.writing.specs.Map.{map-back}
 
 -- ---- a list
-pairs-back : (l : List Point) (t : List ℕ) → pairs (length l) (pairBytes l ++ t) ≡ l
+-- of whole heights the level is stored, and a level is all that is read
+pairs-back : (l : List Point) (t : List ℕ) → All WholeHeight l
+    → pairs One (length l) (pairBytes l ++ t) ≡ l
 unfolding pairs pairBytes
-pairs-back [] t = refl
-pairs-back (p ∷ l) t = ap (λ (m : List Point). p ∷ m) (pairs-back l t)
+pairs-back [] t h = refl
+pairs-back (p ∷ l) t h =
+    let level : p .y / 256 * 256 ≡ p .y = omega (arith, h .0) in
+    rw level (ap (λ (m : List Point). p ∷ m) (pairs-back l t (h .1)))
 
-list-back : (least : ℕ) (l : List Point) (t : List ℕ) → LegalList l → least ≤ length l
+list-back : (least : ℕ) (l : List Point) (t : List ℕ) → LegalList Whole l → least ≤ length l
     → readList least (length l ∷ (pairBytes l ++ t)) ≡ good l t
 unfolding readList readPoints
 list-back least l t h enough =
-    let room : length l * pointBytes ≤ length (pairBytes l ++ t) =
+    let room : length l * pointBytes One ≤ length (pairBytes l ++ t) =
     simp (length-append, pairs-length) (omega arith) in
     rw (
       le-ltb limit (length l) (h .few),
       le-ltb (length l) least enough,
-      le-ltb (length (pairBytes l ++ t)) (length l * pointBytes) room,
-      pairs-back l t,
+      le-ltb (length (pairBytes l ++ t)) (length l * pointBytes One) room,
+      pairs-back l t (passed-whole l (h .high)),
       h .rising,
-      drop-at (pairBytes l) t (length l * pointBytes) (pairs-length l),
+      drop-at (pairBytes l) t (length l * pointBytes One) (pairs-length l),
     )
 
 -- ---- a field
@@ -87,7 +95,7 @@ abbrev listOr : Option (List Point) → List Point
 listOr none = []
 listOr (some l) = l
 
-field-back : (o : Option (List Point)) (t : List ℕ) → LegalColour o
+field-back : (o : Option (List Point)) (t : List ℕ) → LegalColour Whole o
     → readField (there o) 0 (fieldBytes o ++ t) ≡ good (listOr o) t
 field-back none t h = refl
 field-back (some l) t h = list-back 0 l t h (omega arith)
@@ -96,7 +104,7 @@ colour-back : (o : Option (List Point)) → colourList (there o) (listOr o) ≡ 
 colour-back none = refl
 colour-back (some l) = refl
 
-master-back : (l : List Point) (t : List ℕ) → LegalList l
+master-back : (l : List Point) (t : List ℕ) → LegalList Whole l
     → readField (there (masterField l)) 1 (fieldBytes (masterField l) ++ t) ≡ good l t
 master-back [] t h = refl
 master-back (p ∷ l) t h = list-back 1 (p ∷ l) t h (omega arith)
@@ -145,8 +153,8 @@ kind-back k m h named carried =
 regroup : (a b c d e f : List ℕ) → a ++ b ++ c ++ d ++ e ++ f ≡ a ++ (b ++ (c ++ (d ++ (e ++ f))))
 regroup a b c d e f = simp append-assoc
 
--- for every set whose lists and kind are legal
-pub round-trip : (v : View) → Legal v → LegalKind (v .kind)
+-- for every set whose lists, with whole heights, and kind are legal
+pub round-trip : (v : View) → Legal Whole v → LegalKind (v .kind)
     → readRecord (encode v) ≡ record { answer = Done; set = v }
 unfolding readRecord encode readFields
 round-trip v h legal =
@@ -183,4 +191,4 @@ written-back s buffer legal done =
     let d = done-case s buffer done in
     let e = encode (viewOf s) in
     rw (write-done s buffer (d .0) (d .1), take-append-seam e (drop (length e) buffer))
-    (round-trip (viewOf s) (legal-view s (d .0)) legal)
+    (round-trip (viewOf s) (legal-view Whole s (d .0)) legal)

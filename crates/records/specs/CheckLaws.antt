@@ -149,7 +149,7 @@ list-read : (least : ℕ) (s : List ℕ)
 unfolding readList readPoints
 list-read least [] = record { answer = refl; goes-on = refl }
 list-read least (n ∷ s) =
-    checked-read (storedListChecks least (n ∷ s)) 
+    checked-read (storedListChecks least (n ∷ s))
     (reads-on (pairs One n s) (drop (n * pointBytes One) s))
 
 field-read : (present : Bool) (least : ℕ) (s : List ℕ)

@@ -1,7 +1,8 @@
-// Replays a stored sample of the Rust original's answers: the questions are in the file stdin, and
-// stdout holds what the original answered.
-// Both were written by the program `store` of bindings/rust from the original alone (cargo run
-// --release --bin store), which says how they read.
+// Replays a stored sample of answers: the questions are in the file stdin, and stdout holds what
+// was answered, by the Rust original where heights are levels, and by a model written from the papers
+// where they are finer.
+// Both were written by the program `store` of bindings/rust without the port (cargo run --release
+// --bin store), which says how they read.
 ghost use Prim.Native.Nat.{_<_, _≤_};
 use points::Curve;
 use points::Point;
@@ -27,33 +28,38 @@ fn digit(c: u8) -> u8
 }
 
 // Byte i of a question.
-fn byte_at(line: &[u8; 271], i: usize) -> u8
-    requires { ⌜ i < 135 ⌝ }
+fn byte_at(line: &[u8; 399], i: usize) -> u8
+    requires { ⌜ i < 199 ⌝ }
 {
     16 * digit(line[2 * i]) + digit(line[2 * i + 1])
 }
 
+// A number from its two bytes, low byte first.
+fn word(low: u8, high: u8) -> u16 {
+    low as u16 + high as u16 * 256
+}
+
 // A slope from its two bytes, two's complement.
 fn slope(low: u8, high: u8) -> i16 {
-    let bits = low as u16 + high as u16 * 256;
+    let bits = word(low, high);
     if bits < 32768 {
         return bits as i16;
     }
     !((65535 - bits) as i16)
 }
 
-fn kind_of(line: &[u8; 271]) -> CurveInterpolation {
+fn kind_of(line: &[u8; 399]) -> CurveInterpolation {
     let start = slope(byte_at(line, 2), byte_at(line, 3));
     let end = slope(byte_at(line, 4), byte_at(line, 5));
     tables::kind_of(byte_at(line, 0), byte_at(line, 1), start, end)
 }
 
-fn curve_of(line: &[u8; 271]) -> Curve {
+fn curve_of(line: &[u8; 399]) -> Curve {
     let mut points = [Point { x: 0, y: 0 }; 64];
     let mut i: usize = 0;
     while i < 64 {
-        let x = byte_at(line, 7 + 2 * i);
-        let y = byte_at(line, 8 + 2 * i);
+        let x = byte_at(line, 7 + 3 * i);
+        let y = word(byte_at(line, 8 + 3 * i), byte_at(line, 9 + 3 * i));
         points[i] = Point { x, y };
         i += 1;
     }
@@ -132,7 +138,7 @@ fn print_digest(floats: &[f32]) {
 }
 
 // Prints what the question of a line is answered.
-fn answer(line: &[u8; 271]) {
+fn answer(line: &[u8; 399]) {
     let curve = curve_of(line);
     let kind = kind_of(line);
     let lut = tables::build_lut(curve, kind);
@@ -152,8 +158,8 @@ fn answer(line: &[u8; 271]) {
 
 // Answers the next question, if there is one.
 fn next() -> bool {
-    let mut line = [0u8; 271];
-    if io::read_full(0, &mut line) < 271 {
+    let mut line = [0u8; 399];
+    if io::read_full(0, &mut line) < 399 {
         return false;
     }
     answer(&line);

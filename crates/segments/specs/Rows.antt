@@ -35,10 +35,10 @@ pub record Rows (xs ys : List Float) (n : ℕ) (a h : ℕ → ℕ) : Type 0 wher
 pub rows-of : (ks : List Point) → Shape ks
     → Rows (xRow ks) (yRow ks) (length ks) (xOf ks) (yOf ks)
 rows-of ks s = record {
-  two = s .two;
-  start = s .start;
-  end = s .end;
-  rising = rising-to ks (s .rising);
+  two = s .span .two;
+  start = s .span .start;
+  end = s .span .end;
+  rising = rising-to ks (s .span .rising);
   high = λ i l. all-at Proper ks (s .proper) i l .1;
   x-is = λ i l. x-is ks i l (s .proper);
   y-is = λ i l. y-is ks i l (s .proper);

@@ -18,9 +18,9 @@ use lib.ListN.{length}
 use Rattle.points.specs.declared.Point.{Point}
 use Rattle.points.specs.Points.{kept}
 use Rattle.points.specs.Knots.{givenKnots, xOf, yOf, LineAt}
-use Rattle.points.specs.Order.{All, Proper, rising-to}
-use Rattle.points.specs.Kept.{kept-is-kept}
-use Rattle.points.specs.Shape.{Shape, knots-shape}
+use Rattle.points.specs.Order.{All, Typed, rising-to}
+use Rattle.points.specs.Kept.{kept-all, kept-rises}
+use Rattle.points.specs.Shape.{Span, knots-span}
 
 -- some neighbours among f 0, .., f (n + 1) have v between them
 between : (f : ℕ → ℕ) (v n : ℕ) → f 0 ≤ v → v ≤ f (suc n)
@@ -36,15 +36,15 @@ inside-piece : (m0 m1 k g : ℕ) → (m0 * g + m1 * k) + m0 * k ≡ m0 * (k + g)
 inside-piece m0 m1 k g = omega arith
 
 -- ---- the line at the position p / c
-module _ (l : List Point) (proper : All Proper l) (p c : ℕ) where
+module _ (l : List Point) (typed : All Typed l) (p c : ℕ) where
   abbrev ks : List Point
   ks = givenKnots l
 
-  shape : Shape ks
-  shape = knots-shape (kept l) (kept-is-kept l proper)
+  span : Span ks
+  span = knots-span (kept l) (kept-all Typed l typed) (kept-rises l)
 
   rise : (i j : ℕ) → i < j → j < length ks → xOf ks i < xOf ks j
-  rise = rising-to ks (shape .rising)
+  rise = rising-to ks (span .rising)
 
   -- the width of a piece, in parts of c
   abbrev wide : ℕ → ℕ
@@ -84,11 +84,11 @@ module _ (l : List Point) (proper : All Proper l) (p c : ℕ) where
 
   pub on-line : 0 < c → p ≤ 255 * c → (n d : ℕ) × LineAt l p c n d
   on-line some h =
-      let last : suc (length ks - 2) ≡ length ks - 1 = omega (arith, shape .two) in
+      let last : suc (length ks - 2) ≡ length ks - 1 = omega (arith, span .two) in
       let r =
-      between (λ i. xOf ks i * c) p (length ks - 2) (rw (shape .start) (omega arith))
-      (rw (last, shape .end) h) in
-      piece (r .0) some (omega (arith, shape .two)) (r .2) (r .3)
+      between (λ i. xOf ks i * c) p (length ks - 2) (rw (span .start) (omega arith))
+      (rw (last, span .end) h) in
+      piece (r .0) some (omega (arith, span .two)) (r .2) (r .3)
 
   -- at a knot's x it is the knot's height
   pub line-at-knot : (n d : ℕ) → LineAt l p c n d
