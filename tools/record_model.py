@@ -1,11 +1,11 @@
 #!/usr/bin/env python3
 """A second reading of document 01's "Stored record" and "When a call says no", as document 02's U1
-changes them, and the lists of records that hold the engine to it.
+and U9 change them, and the lists of records that hold the engine to it.
 
 The model of document 01 was written from that paper alone, without a look at the engine's code; U1
-was added to it when the engine had it already. `read` and `write` below follow the papers'
-sentences, which stand beside them, and share no code with the engine. From it come the two files of
-the test program crates/replay_records:
+and U9 were added to it when the engine had them already. `read` and `write` below follow the
+papers' sentences, which stand beside them, and share no code with the engine. From it come the two
+files of the test program crates/replay_records:
 
   stdin   the stored list: for each record its length in two bytes, low byte first, then its bytes
   stdout  what the program must print, a line for each record of the list and one for each map byte
@@ -15,7 +15,8 @@ A record's line is its number in the list and its text (`text`). A walk's line h
 record that is the map byte alone, how often each answer 0 to 7 comes among the 256 records of two
 bytes, and a digest of their texts, so that the set and the written record of each are compared too.
 "Refusal 1 therefore never occurs any more": its count is 0. The program reads each written record
-again and marks it if that is not the same set.
+again and marks it if that is not the same set. 20, which no reader of these records answers, is the
+writer's answer for a set that was read, with one height made fine.
 
   python3 tools/record_model.py            writes both files anew, the same on every machine
   python3 tools/record_model.py --check    says whether they are as the model has them
@@ -37,9 +38,18 @@ DEFAULT = 3
 UNNAMED = {False: 2, True: 3}
 
 
+# "A point's height becomes a 16-bit number of 256ths of a level, 0 to 65,280"
+LEVEL, HIGHEST = 256, 65280
+
+
+# "Heights written in document 01 are levels."
+def at_levels(points):
+    return [(x, y * LEVEL) for x, y in points]
+
+
 class Set:
     """A master, three optional colours and a kind with what it carries: nothing, a tension or two
-    slopes.
+    slopes. A list has an x and a height for each point.
     """
 
     def __init__(self, master=(), colours=(None, None, None), kind=DEFAULT, carried=()):
@@ -72,16 +82,20 @@ class Bytes:
         return taken
 
 
-# "a missing count, 3, missing points, 4"
+def rises(points):
+    return all(a[0] < b[0] for a, b in zip(points, points[1:]))
+
+
+# "a missing count, 3, missing points, 4"; "Today's stored record holds whole heights only."
 def read_list(record, is_master):
     (count,) = record.take(1)
     # "3. A count of points is above 64, or a record's master count is 0."
     if count > LIMIT or (is_master and count == 0):
         raise Refused(3)
     pairs = record.take(2 * count)
-    points = list(zip(pairs[0::2], pairs[1::2]))
+    points = at_levels(zip(pairs[0::2], pairs[1::2]))
     # "4. A record's or set's points don't strictly rise in x."
-    if any(b[0] <= a[0] for a, b in zip(points, points[1:])):
+    if not rises(points):
         raise Refused(4)
     return points
 
@@ -136,7 +150,7 @@ def read(record):
 
 
 def list_field(points):
-    return [len(points)] + [byte for point in points for byte in point]
+    return [len(points)] + [byte for x, height in points for byte in (x, height // LEVEL)]
 
 
 def carried_field(kind, carried):
@@ -169,8 +183,31 @@ def parts(s):
     return found + [(7, [])]
 
 
+# "A set's present lists go master, red, green, blue, used or not, each with 3 and then 4"; "20 a
+# height above 65,280 in a list or set, or, when today's record is written, one that isn't a
+# multiple of 256; it is tested in each list after 3 and 4, before the next list and all later
+# checks."
+def check_written(s):
+    for points in [s.master] + [colour for colour in s.colours if colour is not None]:
+        if len(points) > LIMIT:
+            raise Refused(3)
+        if not rises(points):
+            raise Refused(4)
+        if any(height > HIGHEST or height % LEVEL for _, height in points):
+            raise Refused(20)
+
+
 def write(s):
+    check_written(s)
     return record_of(parts(s))
+
+
+def write_answer(s):
+    try:
+        write(s)
+        return 0
+    except Refused as refused:
+        return refused.number
 
 
 # ---- what the program prints ---------------------------------------------------------------------
@@ -180,24 +217,33 @@ def hexadecimal(data):
     return "".join("%02x" % byte for byte in data)
 
 
+def list_text(points):
+    """The x and the height of each point, or `-` for an absent colour."""
+    return "-" if points is None else "".join("%02x%04x" % point for point in points)
+
+
+def with_fine_height(s):
+    """The set with the master's first point one 256th above its level; an empty master stays."""
+    first = [(x, height // LEVEL * LEVEL + 1) for x, height in s.master[:1]]
+    return Set(first + s.master[1:], s.colours, s.kind, s.carried)
+
+
 def text(record):
     """The answer's number, the set member by member, and unless it is refused the record that the
-    writer makes of the set.
+    writer makes of the set, and what it answers for the same set with a fine height.
 
-    The set: M, R, G, B with the x and y of each point, `-` for an absent colour; K with the kind's
-    number and the tension or the slopes.
+    The set: M, R, G, B with their points; K with the kind's number and the tension or the slopes.
     """
     answer, s = read(record)
     lists = zip("MRGB", [s.master] + s.colours)
-    words = ["%d" % answer] + [
-        name + ("-" if points is None else hexadecimal(list_field(points)[1:]))
-        for name, points in lists
-    ]
+    words = ["%d" % answer] + [name + list_text(points) for name, points in lists]
     words += ["K%d" % s.kind] + ["%d" % number for number in s.carried]
     if answer:
         return " ".join(words)
     assert read(write(s))[1].members() == s.members(), record
-    return " ".join(words + ["=", hexadecimal(write(s))])
+    fine = write_answer(with_fine_height(s))
+    assert fine == (20 if s.master else 0), record
+    return " ".join(words + ["=", hexadecimal(write(s)), "^", "%d" % fine])
 
 
 def digest(texts):
@@ -239,7 +285,7 @@ class Chance:
         xs = set()
         while len(xs) < n:
             xs.add(self.below(256))
-        return [(x, self.below(256)) for x in sorted(xs)]
+        return at_levels((x, self.below(256)) for x in sorted(xs))
 
     def carried(self, kind):
         count = {CARDINAL: 1, CLAMPED: 2}.get(kind, 0)
@@ -289,7 +335,7 @@ def cases():
         yield record
 
 
-STRAIGHT = [(0, 0), (255, 255)]
+STRAIGHT = at_levels([(0, 0), (255, 255)])
 EDGE_SLOPES = [-32768, -32767, -257, -256, -255, -1, 0, 1, 127, 128, 255, 256, 257, 32767]
 EDGE_TENSIONS = [0, 1, 127, 128, 254, 255]
 
@@ -311,11 +357,11 @@ def good_sets(chance):
             yield Set(STRAIGHT, [chance.points(n) if j == i else None for j in range(3)])
     yield Set(chance.points(64), [chance.points(64) for _ in range(3)], CLAMPED, [-2, 258])
     # the ends of x, neighbouring x
-    yield Set([(0, 255)])
+    yield Set(at_levels([(0, 255)]))
     yield Set([(255, 0)])
     yield Set(
-        [(x, 255 - x) for x in range(64)],
-        [[(x, x) for x in range(192, 256)], [], [(127, 0), (128, 0)]],
+        at_levels((x, 255 - x) for x in range(64)),
+        [at_levels((x, x) for x in range(192, 256)), [], [(127, 0), (128, 0)]],
     )
     for tension in EDGE_TENSIONS:
         yield Set(STRAIGHT, kind=CARDINAL, carried=[tension])

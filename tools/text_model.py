@@ -1,11 +1,11 @@
 #!/usr/bin/env python3
 """A second reading of document 01's program `tonetable`, and the inputs that hold its texts to it.
 
-The record is read by record_model.py, which knows document 02's U1. The table follows document 01's
-"Points", "Arithmetic" and "Kinds and tables", for the kinds that the inputs use: Linear;
-MonotoneCubic and MonotoneCubicBox, which are meant where a record names none; and ClampedCubic,
-without which there is no longest record. h00 to h11 and the splines' equations are those of source
-document 000. From it come
+The record is read by record_model.py, which knows document 02's U1 and U9. The table follows
+document 01's "Points", "Arithmetic" and "Kinds and tables", for the kinds that the inputs use:
+Linear; MonotoneCubic and MonotoneCubicBox, which are meant where a record names none; and
+ClampedCubic, without which there is no longest record. h00 to h11 and the splines' equations are
+those of source document 000. From it come
 
   crates/tonetable/stdin, stdout      the longest record with a byte behind it, and its text
   crates/replay_text/stdin, stdout    a list of inputs, each with its length in two bytes in front,
@@ -21,7 +21,8 @@ import sys
 from pathlib import Path
 
 sys.dont_write_bytecode = True
-from record_model import CLAMPED, LIMIT, UNNAMED, Chance, Set, list_field, read, record_of, write
+from record_model import CLAMPED, LEVEL, LIMIT, UNNAMED, Chance, Set
+from record_model import at_levels, list_field, read, record_of, write
 
 LINEAR, MONOTONE, BOX = 0, 2, 3
 
@@ -70,14 +71,15 @@ ZERO, HALF, ONE, TWO, THREE, SIX = map(Single, (0, 0.5, 1, 2, 3, 6))
 
 
 # "Knots: the kept points; if none stands at x = 0, one with the first y goes in front; if none at
-# 255, one with the last y behind. An empty list gives (0,0),(255,0)."
+# 255, one with the last y behind. An empty list gives (0,0),(255,0)." Of a height: "as a float it
+# is that number over 256".
 def knots(points):
     found = list(points) or [(0, 0)]
     if found[0][0] != 0:
         found.insert(0, (0, found[0][1]))
     if found[-1][0] != 255:
         found.append((255, found[-1][1]))
-    return [(Single(x), Single(y)) for x, y in found]
+    return [(Single(x), Single(height) / Single(LEVEL)) for x, height in found]
 
 
 # "The segment advances only while the next knot's x is less than x"
@@ -213,7 +215,7 @@ def longest(chance):
 FLAT = [0x11, 1, 0, 7, 0], [0x01, 1, 0, 7], [0x81, 1, 0, 7]
 
 # Kinds 2 and 3 part here.
-STEEP = [(0, 0), (50, 50), (70, 210), (255, 255)]
+STEEP = at_levels([(0, 0), (50, 50), (70, 210), (255, 255)])
 
 
 def of_both_kinds(points):
@@ -258,7 +260,7 @@ def inputs(chance):
     # an input without end is no table either
     yield [0] * 1024
     # an empty master, a colour beside it, lists of some points
-    yield write(Set([], [None, [(3, 4)], None], LINEAR))
+    yield write(Set([], [None, at_levels([(3, 4)]), None], LINEAR))
     for n in (1, 2, 3, 7, 64):
         yield write(Set(chance.points(n), kind=LINEAR))
         yield write(Set(chance.points(n), kind=CLAMPED, carried=chance.carried(CLAMPED)))

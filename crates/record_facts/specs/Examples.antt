@@ -1,6 +1,6 @@
 -- The facts about records at their edges: which records have the writer's form, and in what the
--- others differ from it; which numbers are bytes, which sets are legal; a set with the longest
--- record, and one byte less of room or input.
+-- others differ from it; which numbers are bytes, which sets are legal, which heights whole; a set
+-- with the longest record, and one byte less of room or input.
 use Prim.Native.Nat.{ℕ, zero, suc, _-_, _<_}
 use native.Mathlib.Omega.{arith}
 use mathlib.Core.Path.{_≡_, refl}
@@ -129,8 +129,8 @@ pub falling-list : LegalSet (masterOnly (pt 9 0 ∷ pt 9 0 ∷ [])) → ⊥
 unfolding risesFrom
 falling-list h = false≢true (h .lists .master .rising)
 
--- ---- heights: 256 is a whole one, 255 and 257 are none; 65,280 is the highest, and 65,536 the next
--- whole one
+-- ---- heights: 256 is a whole one, 255 and 257 are none; 65,280 is the highest, and 65,536 the
+-- next whole one
 module _ (y : ℕ) where
   abbrev pub onePoint : View
   onePoint = masterOnly (pt 7 y ∷ [])

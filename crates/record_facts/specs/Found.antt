@@ -443,7 +443,7 @@ pub accepted : (m : ℕ) (s : List ℕ) → readRecord (m ∷ s) .answer ≡ Don
 unfolding readRecord readFields
 accepted m s e = fields-of m _ s (end-found (in-order m s) e)
 
--- what the empty set has and every set that was found, that has every set that is handed back
+-- a set that is handed back has what the empty set has and every set that was found
 pub handed-has : (P : View → Type 0) → P emptyView → (m : ℕ) (s : List ℕ)
     → ((v : View) → Fields m v s → P v) → P (readRecord (m ∷ s) .set)
 handed-has P empty m s f =

@@ -1,11 +1,15 @@
-// Holds the reader and the writer of records to a second reading of document 01, the model
+// Holds the reader and the writer of records to a second reading of documents 01 and 02, the model
 // in tools/record_model.py.
 // The model wrote the files stdin, a list of good and damaged records, and stdout, what this
 // program must print. It says how both read.
 use points::Curve;
+use points::Point;
 use sets::Channel;
 use sets::Curves;
 use tables::CurveInterpolation;
+
+// Room for the text of every record.
+const LINE: usize = 3000;
 
 // The first n of some bytes, or all.
 fn front(bytes: &[u8], n: usize) -> &[u8] {
@@ -87,6 +91,7 @@ fn put_slope(line: &mut [u8], at: usize, slope: i16) -> usize {
     put_decimal(line, at, size(slope))
 }
 
+// An x of two digits and a height of four for each point.
 fn put_points(line: &mut [u8], at: usize, curve: Curve) -> usize {
     let mut at = at;
     let mut i: usize = 0;
@@ -96,7 +101,7 @@ fn put_points(line: &mut [u8], at: usize, curve: Curve) -> usize {
         }
         let p = curve.points[i];
         at = put_byte(line, at, p.x);
-        at = put_byte(line, at, p.y);
+        at = put_hexadecimal(line, at, wide(p.y), 4);
         i += 1;
     }
     at
@@ -156,7 +161,40 @@ fn put_written(line: &mut [u8], at: usize, set: Curves) -> usize {
     put_all(line, at, b" differs")
 }
 
-// The text of a record: the answer, the set, and what the writer makes of it unless it is refused.
+// One 256th above the level of a height.
+fn fine(height: u16) -> u16 {
+    height / 256 * 256 + 1
+}
+
+// The set with the height of the master's first point made fine; an empty master stays.
+fn with_fine_height(set: Curves) -> Curves {
+    let master = set.master;
+    if master.count == 0 {
+        return set;
+    }
+    let mut points = master.points;
+    let p = points[0];
+    points[0] = Point {
+        x: p.x,
+        y: fine(p.y),
+    };
+    set.with_master(Curve {
+        points,
+        count: master.count,
+    })
+}
+
+// What the writer answers for a set with a fine height.
+fn put_fine(line: &mut [u8], at: usize, set: Curves) -> usize {
+    let mut buffer = [0u8; 600];
+    let written = writing::write_record(with_fine_height(set), &mut buffer);
+    let answer = written.answer;
+    let at = put_all(line, at, b" ^ ");
+    put_decimal(line, at, answer.number() as u64)
+}
+
+// The text of a record: the answer, the set, and unless it is refused what the writer makes of it
+// and answers for it with a fine height.
 fn put_text(line: &mut [u8], at: usize, record: &[u8]) -> usize {
     let read = records::read_record(record);
     let answer = read.answer;
@@ -164,7 +202,8 @@ fn put_text(line: &mut [u8], at: usize, record: &[u8]) -> usize {
     let at = put_decimal(line, at, answer.number() as u64);
     let at = put_set(line, at, set);
     if answer.is_done() {
-        return put_written(line, at, set);
+        let at = put_written(line, at, set);
+        return put_fine(line, at, set);
     }
     at
 }
@@ -199,7 +238,7 @@ fn next(i: usize) -> bool {
     if !fetch(&mut record, n) {
         return false;
     }
-    let mut line = [0u8; 2400];
+    let mut line = [0u8; LINE];
     let at = put_decimal(&mut line, 0, i as u64);
     let at = put_all(&mut line, at, b": ");
     let at = put_text(&mut line, at, front(&record, n));
@@ -254,7 +293,7 @@ fn counted(counts: [u64; 256], first: u8) -> [u64; 256] {
 
 // A tally with one record more.
 fn with_record(tally: Tally, record: &[u8]) -> Tally {
-    let mut line = [0u8; 2400];
+    let mut line = [0u8; LINE];
     let at = put_text(&mut line, 0, record);
     let n = put(&mut line, at, b'\n');
     let before = tally.counts;
@@ -290,7 +329,7 @@ fn put_counts(line: &mut [u8], at: usize, counts: &[u64; 256]) -> usize {
 
 // Prints the line of the records of one and two bytes that begin with this map.
 fn print_map(map: u8) {
-    let mut line = [0u8; 2400];
+    let mut line = [0u8; LINE];
     let at = put_all(&mut line, 0, b"map ");
     let at = put_byte(&mut line, at, map);
     let at = put_all(&mut line, at, b": ");
@@ -305,7 +344,7 @@ fn print_map(map: u8) {
 
 // All records of up to two bytes.
 fn walk() {
-    let mut line = [0u8; 2400];
+    let mut line = [0u8; LINE];
     let at = put_all(&mut line, 0, b"no bytes: ");
     let at = put_text(&mut line, at, b"");
     print(&mut line, at);

@@ -20,4 +20,4 @@ put-points-spec =
     μ-loop
     (omega arith) (omega arith) (omega arith) (omega arith) (omega arith) (omega arith) (omega arith) (omega arith)
     (omega arith) (omega arith)
-    (omega arith) (omega arith))
+    (omega arith) (omega arith) (omega arith))
