@@ -25,6 +25,7 @@ use Rattle.points.specs.Points.{
   keptBelow,
   kept,
 }
+use Rattle.points.specs.Joined.{curveOf}
 use Rattle.points.specs.Knots.{rest, knots, givenKnots, xOf, OnLine}
 use Rattle.points.specs.Order.{All, Typed, Proper, WholeHeight, Rising, NeverFalls}
 
@@ -81,7 +82,7 @@ heights-at-edges = (refl, refl, refl, refl, refl, refl, refl, refl)
 
 -- a given list: 3, then 20, also of a point that sorting drops; what is past the count is not asked
 abbrev claiming : ℕ → Curve
-claiming n = record { points = pt 7 0 ∷ pt 7 65281 ∷ []; count = n }
+claiming n = curveOf (pt 7 0 ∷ pt 7 65281 ∷ []) n
 
 pub given-at-edges : (firstRefusal (listChecks (claiming 65)) ≡ PointCount)
     × (firstRefusal (listChecks (claiming 64)) ≡ HeightRange)

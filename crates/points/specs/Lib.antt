@@ -16,6 +16,8 @@ pub mod Kept
 pub mod Shape
 -- laws of their rows
 pub mod Rows
+-- two rows as a list of points
+pub mod Joined
 -- what follows from owning a list
 pub mod Owned
 -- lists, knots and lines at their edges, computed

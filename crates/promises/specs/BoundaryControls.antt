@@ -50,7 +50,7 @@ plain-bytes c p = (refl, refl)
 
 -- ---- what a reader hands back: the master (0,0) alone, of a kind, in lists of 64 places
 abbrev sixtyFour : ℕ → Curve
-sixtyFour n = record { points = replicate 64 (pt 0 0); count = n }
+sixtyFour n = record { xs = replicate 64 0; ys = replicate 64 0; count = n }
 
 abbrev none : Channel
 none = record { present = false; curve = sixtyFour 0 }

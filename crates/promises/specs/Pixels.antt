@@ -8,6 +8,7 @@ use mathlib.Core.List.{List, [], _∷_}
 use lib.Dec.{lit<}
 use lib.ListN.{length, getD}
 use lib.Seq.{take-length}
+use Rattle.points.specs.Joined.{curveOf, joined-back}
 use Rattle.points.specs.declared.Point.{Point}
 use Rattle.points.specs.declared.Curve.{Curve}
 use Rattle.points.specs.Order.{All, Typed}
@@ -52,7 +53,7 @@ pub record Strip : Type 0 where
 
 -- a list as a curve holds it, and as a colour that is present
 abbrev stored : List Point → Curve
-stored l = record { points = l; count = length l }
+stored l = curveOf l (length l)
 
 abbrev pub own : List Point → Channel
 own l = record { present = true; curve = stored l }
@@ -111,7 +112,7 @@ pub types-of : (g : Strip) → AreBytes (g .plane) → InTypes (runOf g)
 types-of g bytes = record {
   plane = byte-at (g .plane) bytes;
   points = record {
-    master = rw (take-length (g .by .list)) (g .by .typed);
+    master = rw (joined-back (g .by .list) 0, take-length (g .by .list)) (g .by .typed);
     red = tt;
     green = tt;
     blue = tt;
@@ -186,4 +187,4 @@ module _ (s : Toning) (v : ℕ) (byte : v < 256) where
   pub grey-output : Accepted (ranGrey s v byte)
       → output (ranGrey s v byte) here ≡ entryOf (s .kind) (s .list) v
   grey-output ok =
-      exact (ranGrey s v byte) ok .toned here (grey-toned s v) ∙ rw (take-length (s .list))
+      exact (ranGrey s v byte) ok .toned here (grey-toned s v) ∙ rw (joined-back (s .list) 0, take-length (s .list))

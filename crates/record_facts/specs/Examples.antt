@@ -10,6 +10,7 @@ use mathlib.Core.Option.{some}
 use lib.Dec.{lit<, lit≤}
 use lib.IntN.{pos}
 use lib.ListN.{length, take, getD}
+use Rattle.points.specs.Joined.{curveOf}
 use Rattle.answers.specs.declared.Answer.the-variants.{Done, OutputTooSmall, TrailingBytes}
 use Rattle.answers.specs.Checks.{firstRefusal}
 use Rattle.lists.specs.Tabulate.{tabulate}
@@ -202,7 +203,7 @@ same-record = refl
 
 -- ---- the longest record: four lists of 64 points and two slopes
 abbrev longestCurve : Curve
-longestCurve = record { points = tabulate 64 (λ i. pt i 0); count = 64 }
+longestCurve = curveOf (tabulate 64 (λ i. pt i 0)) 64
 
 abbrev pub longestSet : Curves
 longestSet = record {

@@ -12,6 +12,7 @@ use Rattle.answers.specs.declared.Answer.the-variants.{Done}
 use Rattle.points.specs.declared.Curve.{Curve}
 use Rattle.points.specs.Owned.{list-length}
 use Rattle.points.specs.declared.Heights.the-variants.{Whole}
+use Rattle.points.specs.Joined.{FullRows, places-long}
 use Rattle.points.specs.Points.{limit, listOf, rises, risesFrom, allAllowed}
 use Rattle.sets.specs.Sets.{curveAnswer}
 
@@ -23,6 +24,6 @@ pub list-passes : (c : Curve) → c .count ≤ limit → rises (listOf c) ≡ tr
 unfolding curveAnswer
 list-passes c few rising whole = rw (le-ltb limit (c .count) few, rising, whole)
 
-pub empty-passes : (c : Curve) → length (c .points) ≡ limit → listOf c ≡ [] → curveAnswer Whole c ≡ Done
+pub empty-passes : (c : Curve) → FullRows c → listOf c ≡ [] → curveAnswer Whole c ≡ Done
 unfolding risesFrom allAllowed
-empty-passes c long e = list-passes c (omega (arith, list-length c long, ap length e)) (rw e) (rw e)
+empty-passes c long e = list-passes c (omega (arith, list-length c (places-long c long), ap length e)) (rw e) (rw e)

@@ -12,6 +12,7 @@ use Rattle.answers.specs.declared.Answer.{Answer}
 use Rattle.answers.specs.declared.Answer.the-variants.{Done}
 use Rattle.answers.specs.Numbers.{isDone}
 use Rattle.points.specs.declared.Heights.the-variants.{Whole}
+use Rattle.points.specs.Joined.{FullRows}
 use Rattle.points.specs.Points.{limit}
 use Rattle.sets.specs.declared.Channel.{Channel}
 use Rattle.sets.specs.declared.Colour.{Colour}
@@ -63,7 +64,7 @@ unfolding channelAnswer
 absent-passes c e =
     by-test (c .present) (λ t. let z : _≡_ {A = ℕ} 0 1 = cc (rw t at e) in absurd (omega arith)) (λ t. rw t)
 
-pub empty-set-passes : (s : Curves) → length (s .master .points) ≡ limit → viewOf s ≡ emptyView → setAnswer Whole s ≡ Done
+pub empty-set-passes : (s : Curves) → FullRows (s .master) → viewOf s ≡ emptyView → setAnswer Whole s ≡ Done
 empty-set-passes s long e =
     set-passes s
     (record {

@@ -77,15 +77,18 @@ pub fn read_points(edition: Edition, s: &[u8], from: usize, n: usize) -> Curve
         (listOf r ≡ pairs edition n (drop from (now (s .entry)))) × (r .count ≡ n) ⌝ }
 {
     let stride = point_bytes(edition);
-    let mut points = [Point { x: 0, y: 0 }; 64];
+    let mut xs = [0; 64];
+    let mut ys = [0; 64];
     let mut at = from;
     let mut i: usize = 0;
     while i < n {
-        points[i] = read_point(edition, s, at);
+        let p = read_point(edition, s, at);
+        xs[i] = p.x;
+        ys[i] = p.y;
         at += stride;
         i += 1;
     }
-    Curve { points, count: n }
+    Curve { xs, ys, count: n }
 }
 
 fn no_curve(refusal: Answer) -> CurveRead

@@ -5,7 +5,6 @@
 // --bin store), which says how they read.
 ghost use Prim.Native.Nat.{_<_, _≤_};
 use points::Curve;
-use points::Point;
 use tables::CurveInterpolation;
 
 // What a hexadecimal digit in lower case means.
@@ -55,16 +54,17 @@ fn kind_of(line: &[u8; 399]) -> CurveInterpolation {
 }
 
 fn curve_of(line: &[u8; 399]) -> Curve {
-    let mut points = [Point { x: 0, y: 0 }; 64];
+    let mut xs = [0; 64];
+    let mut ys = [0; 64];
     let mut i: usize = 0;
     while i < 64 {
-        let x = byte_at(line, 7 + 3 * i);
-        let y = word(byte_at(line, 8 + 3 * i), byte_at(line, 9 + 3 * i));
-        points[i] = Point { x, y };
+        xs[i] = byte_at(line, 7 + 3 * i);
+        ys[i] = word(byte_at(line, 8 + 3 * i), byte_at(line, 9 + 3 * i));
         i += 1;
     }
     Curve {
-        points,
+        xs,
+        ys,
         count: byte_at(line, 6) as usize,
     }
 }

@@ -3,7 +3,6 @@
 // The model wrote the files stdin, a list of good and damaged records, and stdout, what this
 // program must print. It says how both read.
 use points::Curve;
-use points::Point;
 use sets::Channel;
 use sets::Curves;
 use tables::CurveInterpolation;
@@ -99,9 +98,8 @@ fn put_points(line: &mut [u8], at: usize, curve: Curve) -> usize {
         if i == curve.count {
             return at;
         }
-        let p = curve.points[i];
-        at = put_byte(line, at, p.x);
-        at = put_hexadecimal(line, at, wide(p.y), 4);
+        at = put_byte(line, at, curve.xs[i]);
+        at = put_hexadecimal(line, at, wide(curve.ys[i]), 4);
         i += 1;
     }
     at
@@ -172,14 +170,12 @@ fn with_fine_height(set: Curves) -> Curves {
     if master.count == 0 {
         return set;
     }
-    let mut points = master.points;
-    let p = points[0];
-    points[0] = Point {
-        x: p.x,
-        y: fine(p.y),
-    };
+    let mut ys = master.ys;
+    ys[0] = fine(ys[0]);
+    let xs = master.xs;
     set.with_master(Curve {
-        points,
+        xs,
+        ys,
         count: master.count,
     })
 }

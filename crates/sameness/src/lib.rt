@@ -3,6 +3,7 @@
 ghost use mathlib.Core.Path.{_≡_};
 ghost use Prim.Native.Nat.{_≤_};
 ghost use lib.ListN.{take};
+ghost use Rattle.points.specs.Points.{placesOf};
 ghost use Rattle.sets.specs.Same.{Same, SameCurve, SameChannel};
 ghost use Rattle.sameness.specs.Decides.{Decides};
 use points::Curve;
@@ -23,11 +24,19 @@ fn same_point(p: Point, q: Point) -> bool
 // The first n points of two lists.
 fn same_points(a: Curve, b: Curve, n: usize) -> bool
     requires { ⌜ n ≤ 64 ⌝ }
-    ensures { λ r. ⌜ Decides (take n (a .points) ≡ take n (b .points)) r ⌝ }
+    ensures { λ r. ⌜ Decides (take n (placesOf a) ≡ take n (placesOf b)) r ⌝ }
 {
     let mut i: usize = 0;
     while i < n {
-        if !same_point(a.points[i], b.points[i]) {
+        let p = Point {
+            x: a.xs[i],
+            y: a.ys[i],
+        };
+        let q = Point {
+            x: b.xs[i],
+            y: b.ys[i],
+        };
+        if !same_point(p, q) {
             return false;
         }
         i += 1;

@@ -5,6 +5,7 @@ use Prim.Native.Nat.{ℕ, _-_}
 use mathlib.Core.Path.{_≡_, refl}
 use mathlib.Core.List.{List, [], _∷_, _++_}
 use lib.ListN.{length, replicate}
+use Rattle.points.specs.Joined.{curveOf}
 use Rattle.answers.specs.declared.Answer.the-variants.{
   Done,
   PointCount,
@@ -19,9 +20,9 @@ use Rattle.tables.specs.declared.CurveInterpolation.the-variants.{Linear}
 use Rattle.sets.specs.declared.Curves.{Curves}
 use Rattle.sets.specs.Sets.{presentChannel, curveAnswer, setAnswer}
 
--- a list as a `Curve` stores it: 64 points, zeros behind the list
+-- a list as a `Curve` stores it: in 64 places, zeros behind the list
 abbrev pub stored : List Point → ℕ → Curve
-stored l n = record { points = l ++ replicate (64 - length l) (pt 0 0); count = n }
+stored l n = curveOf (l ++ replicate (64 - length l) (pt 0 0)) n
 
 abbrev pub line : Curve
 line = stored straightCurve 2

@@ -18,7 +18,7 @@ use Rattle.points.specs.declared.Curve.{Curve}
 use Rattle.points.specs.declared.Heights.{Heights}
 use Rattle.points.specs.declared.Heights.the-variants.{Fine}
 use Rattle.points.specs.HeightLaws.{passed-fine}
-use Rattle.points.specs.Points.{listOf, rises, allAllowed}
+use Rattle.points.specs.Points.{placesOf, listOf, rises, allAllowed}
 use Rattle.tables.specs.declared.CurveInterpolation.{CurveInterpolation}
 use Rattle.tables.specs.Tables.{byteTable, tableOf}
 use Rattle.tables.specs.TableLaws.{table-of-passed}
@@ -147,7 +147,7 @@ module _ (heights : Heights) where
   legal-list c e =
       let p = passed-list c e in
       record {
-        few = omega (arith, p .few, length-take (c .count) (c .points));
+        few = omega (arith, p .few, length-take (c .count) (placesOf c));
         rising = p .rising;
         high = p .high;
       }

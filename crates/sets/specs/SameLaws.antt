@@ -11,6 +11,7 @@ use Rattle.answers.specs.declared.Answer.the-variants.{Done}
 use Rattle.points.specs.declared.Curve.{Curve}
 use Rattle.points.specs.declared.Heights.{Heights}
 use Rattle.points.specs.Points.{listOf}
+use Rattle.points.specs.Joined.{FullRows, places-long}
 use Rattle.points.specs.Owned.{list-length}
 use Rattle.sets.specs.declared.Channel.{Channel}
 use Rattle.sets.specs.declared.Curves.{Curves}
@@ -75,22 +76,17 @@ module _ (heights : Heights) where
       )
 
 -- ---- sets that pass the check and hold the same are the same
--- each list is stored in 64 places: so it is of every set that code holds, although the type of the
--- points is that of all lists.
--- A function's need c tells it of a parameter `set`, with `own = c .good .0 .1 .1` and
--- `owned-length` of points:
--- record { master = search (own .0, owned-length); red = search (own .1 .0
--- .1 .1 .1 .0, owned-length);
--- green = search (own .1 .1 .0 .1 .1 .1 .0, owned-length); blue = search (own .1 .1 .1 .0 .1
--- .1 .1 .0, owned-length) }
+-- each list is stored in 64 places: so it is of every set that code holds.
+-- A function's need c tells it of a parameter `set`, with `own = c .good .0 .1 .1`:
+-- record { master = search (own .0, length-unmapped); red = search (own .1 .0, length-unmapped); .. }
 pub record Full (s : Curves) : Type 0 where
-  pub master : length (s .master .points) ≡ 64
-  pub red : length (s .red .curve .points) ≡ 64
-  pub green : length (s .green .curve .points) ≡ 64
-  pub blue : length (s .blue .curve .points) ≡ 64
+  pub master : FullRows (s .master)
+  pub red : FullRows (s .red .curve)
+  pub green : FullRows (s .green .curve)
+  pub blue : FullRows (s .blue .curve)
 
 module _ (heights : Heights) where
-  curve-same : (a b : Curve) → length (a .points) ≡ 64 → length (b .points) ≡ 64
+  curve-same : (a b : Curve) → FullRows a → FullRows b
       → curveAnswer heights a ≡ Done → curveAnswer heights b ≡ Done
       → listOf a ≡ listOf b → SameCurve a b
   curve-same a b a-long b-long a-done b-done e = record {
@@ -98,14 +94,14 @@ module _ (heights : Heights) where
       arith,
       passed-count heights a a-done,
       passed-count heights b b-done,
-      list-length a a-long,
-      list-length b b-long,
+      list-length a (places-long a a-long),
+      list-length b (places-long b b-long),
       ap length e,
     );
     points = e;
   }
 
-  channel-same : (a b : Channel) → length (a .curve .points) ≡ 64 → length (b .curve .points) ≡ 64
+  channel-same : (a b : Channel) → FullRows (a .curve) → FullRows (b .curve)
       → channelAnswer heights a ≡ Done → channelAnswer heights b ≡ Done
       → channelOf a ≡ channelOf b → SameChannel a b
   unfolding channelAnswer curveAnswer

@@ -8,6 +8,7 @@ use lib.IntN.{ℤ, pos}
 use Rattle.answers.specs.Numbers.{numberOf}
 use Rattle.answers.specs.Checks.{firstRefusal}
 use Rattle.points.specs.Points.{pt, allAllowed}
+use Rattle.points.specs.Joined.{curveOf}
 use Rattle.sampling.specs.declared.Form.the-variants.{Straight, Cubic, Spline}
 use Rattle.tables.specs.declared.CurveInterpolation.the-variants.{
   Linear,
@@ -75,10 +76,7 @@ forms q start end = refl
 abbrev build : ℕ → ℕ → ℕ → ℕ
 build count height S =
     numberOf
-    (firstRefusal (tableChecks (record {
-      points = pt 0 0 ∷ pt 255 height ∷ [];
-      count = count;
-    }) S))
+    (firstRefusal (tableChecks (curveOf (pt 0 0 ∷ pt 255 height ∷ []) count) S))
 
 -- "Checks run in this order": 3, "A count of points is above 64", then 20, "a height above 65,280",
 -- then 14, "A float table's length isn't 256 or 4,096 (build)"

@@ -19,7 +19,7 @@ use Rattle.lists.specs.Tabulate.{tabulate, is-tabulate}
 use Rattle.lists.specs.Test.{by-test}
 use Rattle.points.specs.declared.Point.{Point}
 use Rattle.points.specs.declared.Curve.{Curve}
-use Rattle.points.specs.Points.{pt, nth, listOf}
+use Rattle.points.specs.Points.{placesOf, pt, nth, listOf}
 use Rattle.sets.specs.declared.Channel.{Channel}
 use Rattle.sets.specs.declared.Curves.{Curves}
 use Rattle.points.specs.declared.Heights.the-variants.{Whole}
@@ -98,7 +98,7 @@ pub there-channel : (m : Channel) → m .present ≡ there (channelOf m)
 there-channel m = by-test (m .present) (λ t. rw t) (λ t. rw t)
 
 -- ---- the master as a field
-module _ (c : Curve) (long : ListN.length (c .points) ≡ 64) (e : curveAnswer Whole c ≡ Done) where
+module _ (c : Curve) (long : ListN.length (placesOf c) ≡ 64) (e : curveAnswer Whole c ≡ Done) where
   some-or-none : (n : ℕ) (l : List Point) → n ≤ ListN.length l
       → cond (not (eqb n 0)) (some (take n l)) none ≡ masterField (take n l)
   some-or-none zero l h = refl
@@ -106,7 +106,7 @@ module _ (c : Curve) (long : ListN.length (c .points) ≡ 64) (e : curveAnswer W
   some-or-none (suc n) (p ∷ l) h = rw (ne-eqb (suc n) 0 (λ z. omega arith))
 
   pub master-channel : channelOf (record { present = not (eqb (c .count) 0); curve = c }) ≡ masterField (listOf c)
-  master-channel = some-or-none (c .count) (c .points) (omega (arith, passed-count Whole c e))
+  master-channel = some-or-none (c .count) (placesOf c) (omega (arith, passed-count Whole c e))
 
 pub master-passes : (c : Curve) (b : Bool) → curveAnswer Whole c ≡ Done
     → channelAnswer Whole (record { present = b; curve = c }) ≡ Done

@@ -85,9 +85,8 @@ impl Draft {
         let mut at = self.length;
         let mut i: usize = 0;
         while i < n {
-            let p = curve.points[i];
-            bytes[at] = p.x;
-            bytes[at + 1] = (p.y / 256) as u8;
+            bytes[at] = curve.xs[i];
+            bytes[at + 1] = (curve.ys[i] / 256) as u8;
             at += 2;
             i += 1;
         }

@@ -2,7 +2,6 @@
 use native.Mathlib.Omega.{arith}
 use mathlib.Core.Path.{refl}
 use borrow.Author.Needs.{needs}
-use Rattle.points.specs.Owned.{owned-length}
 use Rattle.records.proofs.Members.{empty-set-passes}
 use Rattle.records.proofs.no_record.Statement.{statement}
 use Rattle.records.proofs.no_record.Tie as tie
@@ -12,8 +11,8 @@ returns c =
     record {
       answer = refl;
       set = c .empty .ensures;
-      legal = empty-set-passes (c .empty .result) (search (needs, owned-length)) (c .empty .ensures);
-      full = search (needs, owned-length);
+      legal = empty-set-passes (c .empty .result) (search needs) (c .empty .ensures);
+      full = search needs;
     }
 
 pub no-record-spec : {M : Type 1} → statement M

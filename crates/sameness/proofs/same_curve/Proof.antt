@@ -7,17 +7,17 @@ use borrow.Author.Needs.{needs}
 use lib.ListN.{length, take}
 use lib.Seq.{take-all}
 use Rattle.points.specs.declared.Curve.{Curve}
-use Rattle.points.specs.Points.{listOf}
-use Rattle.points.specs.Owned.{owned-length}
+use Rattle.points.specs.Points.{placesOf, listOf}
+use Rattle.points.specs.Joined.{places-long}
 use Rattle.sets.specs.Same.{SameCurve}
 use Rattle.sameness.specs.Decides.{Decides}
 use Rattle.sameness.proofs.Deciding.{no, decides-as}
 use Rattle.sameness.proofs.same_curve.Statement.{statement}
 use Rattle.sameness.proofs.same_curve.Tie as tie
 
-by-points : {r : Bool} (a b : Curve) (n : ℕ) → a .count ≡ b .count → take n (a .points) ≡ listOf a
-    → take n (b .points) ≡ listOf b
-    → Decides (take n (a .points) ≡ take n (b .points)) r → Decides (SameCurve a b) r
+by-points : {r : Bool} (a b : Curve) (n : ℕ) → a .count ≡ b .count → take n (placesOf a) ≡ listOf a
+    → take n (placesOf b) ≡ listOf b
+    → Decides (take n (placesOf a) ≡ take n (placesOf b)) r → Decides (SameCurve a b) r
 by-points a b n e p q d = decides-as (λ t. record { count = e; points = sym p ∙ t ∙ q }) (λ s. p ∙ s .points ∙ sym q) d
 
 returns : tie.Need-returns
@@ -28,18 +28,18 @@ returns-2 c =
     let k = c .before .before in
     let a = k .before .args .a in
     let b = k .before .args .b in
-    by-points a b (a .count) (k .if1 .left) refl (ap (λ n. take n (b .points)) (k .if1 .left)) (c .same-points .ensures)
+    by-points a b (a .count) (k .if1 .left) refl (ap (λ n. take n (placesOf b)) (k .if1 .left)) (c .same-points .ensures)
 
 returns-3 : tie.Need-returns-3
 returns-3 c =
     let k = c .before .before in
     let a = k .before .args .a in
     let b = k .before .args .b in
-    let a-long : length (a .points) ≡ 64 = search (needs, owned-length) in
-    let b-long : length (b .points) ≡ 64 = search (needs, owned-length) in
+    let a-long = places-long a (search needs) in
+    let b-long = places-long b (search needs) in
     by-points a b 64 (k .if1 .left)
-    (take-all 64 (a .points) (omega arith) ∙ sym (take-all (a .count) (a .points) (omega arith)))
-    (take-all 64 (b .points) (omega arith) ∙ sym (take-all (b .count) (b .points) (omega arith)))
+    (take-all 64 (placesOf a) (omega arith) ∙ sym (take-all (a .count) (placesOf a) (omega arith)))
+    (take-all 64 (placesOf b) (omega arith) ∙ sym (take-all (b .count) (placesOf b) (omega arith)))
     (c .same-points2 .ensures)
 
 pub same-curve-spec : {M : Type 1} → statement M

@@ -3,7 +3,7 @@ use mathlib.Core.Path.{_≡_, refl}
 use mathlib.Core.List.{List}
 use Prim.Native.Nat.{ℕ, _≤_}
 use native.Mathlib.Omega.{arith}
-use borrow.Author.Needs.{needs}
+use borrow.Author.Needs.{length-unmapped}
 use lib.ListN.{length}
 use lib.Ieee.{Float}
 use Rattle.lists.specs.Tabulate.{tabulate}
@@ -11,7 +11,8 @@ use Rattle.points.specs.declared.Curve.{Curve}
 use Rattle.points.specs.declared.Knots.{Knots}
 use Rattle.points.specs.Points.{listOf, kept, SortedList}
 use Rattle.points.specs.Knots.{knots, KnotsOf}
-use Rattle.points.specs.Owned.{owned-length, list-length}
+use Rattle.points.specs.Joined.{FullRows, places-long}
+use Rattle.points.specs.Owned.{list-length}
 use Rattle.points.specs.Kept.{kept-length}
 use Rattle.points.specs.Shape.{knots-two, knots-length}
 use Rattle.tables.specs.declared.CurveInterpolation.{CurveInterpolation}
@@ -28,10 +29,10 @@ module _ (given sorted : Curve) {k : Knots}
   rows : KnotsOf (knots (kept (listOf given))) k
   rows = rw (s .list) at r
 
-  count : length (given .points) ≡ 64 → (2 ≤ k .count) × (k .count ≤ 66)
-  count long =
+  count : FullRows given → (2 ≤ k .count) × (k .count ≤ 66)
+  count full =
       let l = listOf given in
-      let most = list-length given long in
+      let most = list-length given (places-long given full) in
       rw (rows .count) (
         knots-two (kept l),
         omega (arith, knots-length (kept l), kept-length l, most),
@@ -51,7 +52,7 @@ knot-values-requires c κs =
     let given = n .before .before in
     let few =
     count (given .args .curve) (n .sorted .result) (n .sorted .ensures) (k .knots .ensures)
-    (search (needs, owned-length)) in
+    (search (given .good .0, length-unmapped)) in
     (few .0, few .1, refl)
 
 fill-requires : tie.Need-fill-requires
@@ -60,7 +61,7 @@ fill-requires c κs =
     let n = k .before in
     let given = n .before .before in (
       count (given .args .curve) (n .sorted .result) (n .sorted .ensures) (k .knots .ensures)
-          (search (needs, owned-length)),
+          (search (given .good .0, length-unmapped)),
       given .pre,
     )
 

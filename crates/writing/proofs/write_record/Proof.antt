@@ -6,7 +6,7 @@ use lib.ListN.{length}
 use Rattle.answers.specs.declared.Answer.the-variants.{Done}
 use Rattle.answers.specs.Numbers.{asked-refused, asked-done}
 use Rattle.answers.specs.Checks.{has-room}
-use Rattle.points.specs.Owned.{owned-length}
+use borrow.Author.Needs.{length-unmapped}
 use Rattle.points.specs.declared.Heights.the-variants.{Whole}
 use Rattle.sets.specs.Sets.{setAnswer}
 use Rattle.sets.specs.SameLaws.{Full}
@@ -51,10 +51,10 @@ returns-3 c =
     let a = k .before .before .before .before .args in
     let own = k .before .before .before .before .good .0 .1 .1 in
     let full : Full (a .set) = record {
-      master = search (own .0, owned-length);
-      red = search (own .1 .0 .1 .1 .1 .0, owned-length);
-      green = search (own .1 .1 .0 .1 .1 .1 .0, owned-length);
-      blue = search (own .1 .1 .1 .0 .1 .1 .1 .0, owned-length);
+      master = search (own .0 .1 .1, length-unmapped);
+      red = search (own .1 .0 .1 .1 .1 .0 .1 .1, length-unmapped);
+      green = search (own .1 .1 .0 .1 .1 .1 .0 .1 .1, length-unmapped);
+      blue = search (own .1 .1 .1 .0 .1 .1 .1 .0 .1 .1, length-unmapped);
     } in
     wrote-done (passed k) (r .record-of .ensures .0) (accepted e) (fits e)
     (c .before .before .copy-out .ensures)

@@ -2,7 +2,7 @@
 use mathlib.Core.Path.{refl}
 use native.Mathlib.Omega.{arith}
 use lib.ListN.{drop-of-length-le}
-use Rattle.points.specs.Owned.{owned-length}
+use borrow.Author.Needs.{length-unmapped}
 use Rattle.sets.specs.SameLaws.{Full}
 use Rattle.records.proofs.Lists.{drop-at}
 use Rattle.records.proofs.Reading.end.Statement.{statement}
@@ -25,10 +25,10 @@ returns-2 c =
     let a = b .before .before .args in
     let own = b .before .before .good .0 .1 .1 .1 .1 .0 .1 .1 in
     let full : Full (a .self .set) = record {
-      master = search (own .0, owned-length);
-      red = search (own .1 .0 .1 .1 .1 .0, owned-length);
-      green = search (own .1 .1 .0 .1 .1 .1 .0, owned-length);
-      blue = search (own .1 .1 .1 .0 .1 .1 .1 .0, owned-length);
+      master = search (own .0, length-unmapped);
+      red = search (own .1 .0 .1 .1 .1 .0, length-unmapped);
+      green = search (own .1 .1 .0 .1 .1 .1 .0, length-unmapped);
+      blue = search (own .1 .1 .1 .0 .1 .1 .1 .0, length-unmapped);
     } in
     rw (
       ← b .is-done .ensures,

@@ -1,7 +1,6 @@
 -- `read_field` meets its contract.
 use native.Mathlib.Omega.{arith}
 use borrow.Author.Needs.{needs}
-use Rattle.points.specs.Owned.{owned-length}
 use Rattle.records.proofs.Lists.{empty-passes}
 use Rattle.records.proofs.point_lists.read_field.Statement.{statement}
 use Rattle.records.proofs.point_lists.read_field.Tie as tie
@@ -13,7 +12,7 @@ returns-2 : tie.Need-returns-2
 returns-2 c =
     record {
       list = rw (c .before .if1 .left, c .empty .ensures);
-      legal = empty-passes (c .empty .result) (search (needs, owned-length)) (c .empty .ensures);
+      legal = empty-passes (c .empty .result) (search needs) (c .empty .ensures);
     }
 
 pub read-field-spec : {M : Type 1} → statement M

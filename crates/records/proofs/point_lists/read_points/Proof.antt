@@ -9,6 +9,8 @@ use native.Mathlib.Omega.{arith}
 use lib.ListN.{length, take, drop, set, length-set}
 use lib.Seq.{take-suc-set, append-snoc, drop-drop}
 use Rattle.points.specs.declared.Point.{Point}
+use Rattle.points.specs.Points.{joined}
+use Rattle.points.specs.Joined.{joined-length, joined-set}
 use Rattle.records.specs.declared.point_lists.Edition.{Edition}
 use Rattle.records.specs.PointLists.{pointBytes, pointOf, pairs}
 use Rattle.records.proofs.point_lists.read_points.Statement.{statement}
@@ -18,14 +20,22 @@ left-suc : (n i : ℕ) → i < n → n - i ≡ suc (n - (i + 1))
 left-suc n i h = omega arith
 
 module _ (edition : Edition) where
-  pairs-more : (s : List ℕ) (n i at : ℕ) (ps : List Point) (p : Point) → i < n → i < length ps
+  pairs-more : (s : List ℕ) (n i at : ℕ) (xs ys : List ℕ) (p : Point) → i < n → i < length (joined xs ys)
       → p ≡ pointOf edition (drop at s)
-      → take (i + 1) (set ps i p) ++ pairs edition (n - (i + 1)) (drop (at + pointBytes edition) s)
-      ≡ take i ps ++ pairs edition (n - i) (drop at s)
+      → take (i + 1) (joined (set xs i (p .x)) (set ys i (p .y)))
+      ++ pairs edition (n - (i + 1)) (drop (at + pointBytes edition) s)
+      ≡ take i (joined xs ys) ++ pairs edition (n - i) (drop at s)
   unfolding pairs
-  pairs-more s n i at ps p h room e =
-      rw (left-suc n i h, add-one i, take-suc-set ps i p room, e, drop-drop (pointBytes edition) at s)
-      (append-snoc (take i ps) _ _)
+  pairs-more s n i at xs ys p h room e =
+      rw (
+        joined-set xs ys i (p .x) (p .y),
+        left-suc n i h,
+        add-one i,
+        take-suc-set (joined xs ys) i p room,
+        e,
+        drop-drop (pointBytes edition) at s,
+      )
+      (append-snoc (take i (joined xs ys)) _ _)
 
   pairs-done : (s : List ℕ) (n i at : ℕ) (ps all : List Point) → i ≡ n
       → take i ps ++ pairs edition (n - i) (drop at s) ≡ all → take n ps ≡ all
@@ -38,18 +48,18 @@ next-inside : (k n i from at long : ℕ) → i < n → at ≡ from + i * k → f
 next-inside k n i from at long h e room = omega (arith, mul-le-mul-right {m = i + 1} {n = n} k (omega arith))
 
 abbrev Inv-loop : tie.InvT-loop
-Inv-loop edition s from n stride points₀ at₀ i₀ points at i =
-    (i ≤ n) × (at ≡ from + i * pointBytes edition) × (length points ≡ 64)
-    × (take i points ++ pairs edition (n - i) (drop at s) ≡ pairs edition n (drop from s))
+Inv-loop edition s from n stride xs₀ ys₀ at₀ i₀ xs ys at i =
+    (i ≤ n) × (at ≡ from + i * pointBytes edition) × (length xs ≡ 64) × (length ys ≡ 64)
+    × (take i (joined xs ys) ++ pairs edition (n - i) (drop at s) ≡ pairs edition n (drop from s))
 
 abbrev μ-loop : tie.MeasureT-loop
-μ-loop edition s from n stride points₀ at₀ i₀ points at i = n - i
+μ-loop edition s from n stride xs₀ ys₀ at₀ i₀ xs ys at i = n - i
 
 loop-holds : tie.Need-loop-holds Inv-loop μ-loop
 loop-holds c =
     let n = c .before .before .args .n in
     let all : n - 0 ≡ n = omega arith in
-    (omega arith, omega arith, refl, rw all)
+    (omega arith, omega arith, refl, refl, rw all)
 
 -- the point of a turn is inside
 inside : (c : tie.At-loop Inv-loop μ-loop) → let a = c .before .before .before .args in
@@ -64,22 +74,24 @@ loop-again : tie.Need-loop-again Inv-loop μ-loop
 loop-again c =
     let b = c .before .before in
     let bytes = b .before .point-bytes .ensures in
-    let a = b .before .before .before .args in (
+    let a = b .before .before .before .args in
+    let long = joined-length (b .loop .xs) (b .loop .ys) (omega arith) in (
       omega arith,
       rw bytes (omega (arith, b .loop .inv .1)),
       simp length-set (b .loop .inv .2),
+      simp length-set (b .loop .inv .3),
       rw bytes
-          (pairs-more (a .edition) (a .s .now) (a .n) (b .loop .i) (b .loop .at) (b .loop .points) _ (omega arith)
-          (omega arith) (c .read-point .ensures)
-          ∙ b .loop .inv .3),
+          (pairs-more (a .edition) (a .s .now) (a .n) (b .loop .i) (b .loop .at) (b .loop .xs) (b .loop .ys)
+          (c .read-point .result) (omega arith) (omega (arith, long)) (c .read-point .ensures)
+          ∙ b .loop .inv .4),
     )
 
 returns : tie.Need-returns Inv-loop μ-loop
 returns c =
     let b = c .before in
     let a = b .before .before .before .args in (
-      pairs-done (a .edition) (a .s .now) (a .n) (b .loop .i) (b .loop .at) (b .loop .points) _ (omega arith)
-          (b .loop .inv .3),
+      pairs-done (a .edition) (a .s .now) (a .n) (b .loop .i) (b .loop .at) (joined (b .loop .xs) (b .loop .ys)) _
+          (omega arith) (b .loop .inv .4),
       refl,
     )
 
@@ -92,7 +104,7 @@ read-points-spec =
     (omega arith)
     loop-holds
     (λ c κs. inside (c .before) (omega arith))
-    (omega arith) (omega arith)
+    (omega arith) (omega arith) (omega arith)
     (λ c. omega (arith, inside (c .before .before) (omega arith), c .before .before .before .point-bytes .ensures))
     (omega arith) (omega arith)
     loop-again

@@ -6,8 +6,8 @@ use mathlib.Core.Path.{_≡_}
 use mathlib.Core.List.{[], _∷_}
 use lib.ListN.{length}
 use lib.Seq.{length-take-le}
-use Rattle.points.specs.Points.{listOf}
-use Rattle.points.specs.Owned.{owned-length}
+use Rattle.points.specs.Points.{placesOf, listOf}
+use Rattle.points.specs.Joined.{places-long}
 use Rattle.points.specs.declared.Heights.the-variants.{Whole}
 use Rattle.sets.specs.Sets.{channelOf, curveAnswer, channelAnswer}
 use Rattle.sets.specs.Legal.{passed-count}
@@ -34,8 +34,8 @@ module _ (c : tie.Then1) where
       m .curve .count ∷ pairBytes (listOf (m .curve)) ≡ fieldBytes (channelOf m)
   bytes =
       let m = c .before .args .channel .curve in
-      let long : length (m .points) ≡ 64 = search (needs, owned-length) in
-      rw (c .if1 .taken, length-take-le (m .count) (m .points) (omega (arith, few)))
+      let long = places-long m (search needs) in
+      rw (c .if1 .taken, length-take-le (m .count) (placesOf m) (omega (arith, few)))
 
   room : let s = c .before .args in
       Room (s .channel .curve .count ∷ pairBytes (listOf (s .channel .curve))) (s .self)

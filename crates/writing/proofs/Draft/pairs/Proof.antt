@@ -3,10 +3,12 @@ use Prim.Native.Nat.{_≤_, _-_, _+_, _*_}
 use mathlib.Core.Path.{_≡_, _∙_}
 use native.Mathlib.Omega.{arith}
 use borrow.Author.Needs.{needs}
-use lib.ListN.{length, take, length-set}
+use lib.ListN.{length, getD, take, length-set}
+use mir.Syntax.{w16}
+use mir.Val.{Fits}
 use lib.Seq.{take-length, length-take-le, getD-take}
-use Rattle.points.specs.Points.{listOf, pt}
-use Rattle.points.specs.Owned.{owned-length}
+use Rattle.points.specs.Points.{placesOf, listOf, pt}
+use Rattle.points.specs.Joined.{places-long, place-at}
 use Rattle.writing.specs.Encode.{pairBytes}
 use Rattle.writing.specs.Contracts.{Appended}
 use Rattle.records.specs.Format.{longest}
@@ -26,8 +28,8 @@ abbrev μ-loop : tie.MeasureT-loop
 -- the list has as many points as its count
 listed : (s : tie.Start Inv-loop μ-loop) → length (listOf (s .args .t2)) ≡ s .args .t2 .count
 listed s =
-    let long : length (s .args .t2 .points) ≡ 64 = search (needs, owned-length) in
-    length-take-le (s .args .t2 .count) (s .args .t2 .points) (omega arith)
+    let long = places-long (s .args .t2) (search needs) in
+    length-take-le (s .args .t2 .count) (placesOf (s .args .t2)) (omega arith)
 
 loop-holds : tie.Need-loop-holds Inv-loop μ-loop
 unfolding pairBytes
@@ -42,7 +44,10 @@ loop-again c =
     let a = b .before .before .args .t2 in
     let n = listed (b .before .before) in
     let next =
-    rw (getD-take (a .count) (a .points) (b .loop .i) (pt 0 0) (omega arith)) at
+    rw (
+      getD-take (a .count) (placesOf a) (b .loop .i) (pt 0 0) (omega arith),
+      place-at a (b .loop .i) (search needs) (omega arith),
+    ) at
     (pairs-next (listOf a) (b .loop .i) (omega arith)) in (
       search needs,
       omega arith,
@@ -58,6 +63,14 @@ returns c =
     let all : length (listOf (s .args .t2)) ≡ b .loop .i = listed s ∙ omega arith in
     rw (← all, take-length) at (b .loop .inv .4)
 
+-- a level is a byte
+cast-bytes : tie.Need-cast-bytes Inv-loop μ-loop
+cast-bytes c =
+    let b = c .before .before .before in
+    let a = b .before .before .args .t2 in
+    let word : Fits w16 (getD (a .ys) (b .loop .i) 0) = search needs in
+    omega (arith, word .fits)
+
 pub pairs-spec : {M : Type 1} → statement M
 pairs-spec =
     tie.close
@@ -65,7 +78,8 @@ pairs-spec =
     Inv-loop
     μ-loop
     loop-holds
-    (omega arith) (omega arith) (omega arith) (omega arith) (omega arith) (omega arith) (omega arith) (omega arith)
-    (omega arith)
+    (omega arith) (omega arith) (omega arith) (omega arith)
+    cast-bytes
+    (omega arith) (omega arith) (omega arith) (omega arith) (omega arith)
     loop-again
     returns)
