@@ -1,6 +1,6 @@
-/* Holds the archive to what tone.h says of it: the version, limits and sizes, the kind of a record
- * that names none, how long a copy is, what a refusal leaves alone, whose the modes of floating
- * point are, the stack of each call.
+/* Holds the archive to what tone.h says of it: the version, limits and sizes, points and their
+ * heights, the kind of a record that names none, how long a copy is, what a refusal leaves alone,
+ * whose the modes of floating point are, the stack of each call.
  *
  * It prints the stack that was measured. Each fault is a line on standard error, and then the exit
  * code is 1. It is C99 and C++98. */
@@ -32,8 +32,9 @@ static void expect(int good, const char *what)
 #define KINDS (TONE_NOT_A_KNOT_CUBIC + 1)
 #define FORMATS (TONE_YUVJ444P + 1)
 #define SIDE 64
+#define POINT_BYTES 3
 
-static uint8_t points[2 * (TONE_MOST_POINTS + 1)];
+static uint8_t points[POINT_BYTES * (TONE_MOST_POINTS + 1)];
 static uint8_t record[TONE_LONGEST_RECORD];
 static uint8_t table[TONE_TABLE_BYTES];
 static float fine[TONE_FINE_SAMPLES + 1];
@@ -44,31 +45,38 @@ static uint8_t toned[3][4 * SIDE * SIDE];
 static uint8_t copied[TONE_LONGEST_RECORD];
 static size_t written;
 
-/* Points 3 apart whose heights jump; in order of x, or from the last to the first. */
+static void put_point(size_t place, size_t x, size_t height)
+{
+    const uint8_t point[] = {TONE_POINT(x, height)};
+
+    memcpy(points + POINT_BYTES * place, point, sizeof point);
+}
+
+/* Points 3 apart whose heights jump and are at no level; in order of x, or from the last to the
+ * first. */
 static void make_points(size_t count, int backwards)
 {
     size_t i;
 
     for (i = 0; i < count; i++) {
-        size_t place = backwards ? count - 1 - i : i;
-        points[2 * place] = (uint8_t)(3 * i);
-        points[2 * place + 1] = (uint8_t)(37 * i * i);
+        put_point(backwards ? count - 1 - i : i, 3 * i, TONE_LEVEL(37 * i * i % 255) + 101);
     }
 }
 
 /* A record of four lists of 64 points that names its kind. Gives its length. */
 static size_t make_record(uint8_t kind)
 {
-    const size_t list = 2 * TONE_MOST_POINTS;
     size_t length = 1;
+    size_t i;
     int k;
 
-    make_points(TONE_MOST_POINTS, 0);
     record[0] = 0x1F;
     for (k = 0; k < 4; k++) {
-        record[length] = TONE_MOST_POINTS;
-        memcpy(record + length + 1, points, list);
-        length += 1 + list;
+        record[length++] = TONE_MOST_POINTS;
+        for (i = 0; i < TONE_MOST_POINTS; i++) {
+            record[length++] = (uint8_t)(3 * i);
+            record[length++] = (uint8_t)(37 * i * i);
+        }
     }
     record[length++] = kind;
     if (kind == TONE_CARDINAL) {
@@ -84,12 +92,12 @@ static size_t make_record(uint8_t kind)
 
 static uint8_t make_table(size_t count, uint8_t kind, size_t room)
 {
-    return tone_table(points, 2 * count, kind, 100, -300, 300, table, room);
+    return tone_table(points, POINT_BYTES * count, kind, 100, -300, 300, table, room);
 }
 
 static uint8_t make_fine_table(size_t count, uint8_t kind, size_t samples)
 {
-    return tone_fine_table(points, 2 * count, kind, 100, -300, 300, fine, samples);
+    return tone_fine_table(points, POINT_BYTES * count, kind, 100, -300, 300, fine, samples);
 }
 
 static uint8_t tone_rows(uint8_t format, uint32_t width, uint32_t height, size_t step)
@@ -123,6 +131,54 @@ static void check_limits(void)
            "TONE_LARGEST_STEP is the greatest step");
 }
 
+/* Each entry of the table of these points has this value. */
+static void expect_flat(const uint8_t *list, size_t length, uint8_t value, const char *what)
+{
+    size_t v;
+
+    expect(tone_table(list, length, TONE_LINEAR, 0, 0, 0, table, sizeof table) == TONE_DONE, what);
+    for (v = 0; v < sizeof table; v++) {
+        expect(table[v] == value, what);
+    }
+}
+
+/* A point is three bytes, and its height 256ths of a level. */
+static void check_points(void)
+{
+    static const uint8_t bytes[] = {TONE_POINT(7, 0x1234)};
+    static const uint8_t half[] = {TONE_POINT(0, 128), 9, 255};
+    static const uint8_t below[] = {TONE_POINT(0, 127), 9};
+    static const uint8_t first[] = {TONE_POINT(10, TONE_LARGEST_HEIGHT), TONE_POINT(10, 0),
+                                    TONE_POINT(200, TONE_LEVEL(254) + 128)};
+
+    expect(sizeof bytes == POINT_BYTES && bytes[0] == 7 && bytes[1] == 0x34 && bytes[2] == 0x12,
+           "TONE_POINT has x, then the height, low byte first");
+    expect(TONE_LEVEL(255) == TONE_LARGEST_HEIGHT, "level 255 is the largest height");
+    expect_flat(half, sizeof half, 1, "a half goes up, and two bytes left over are ignored");
+    expect_flat(below, sizeof below, 0, "less goes down, and a byte left over is ignored");
+    expect_flat(first, sizeof first, 255, "of equal x the first counts");
+}
+
+/* A height that is too large is refused after the count and before all else, kept or not. */
+static void check_heights(void)
+{
+    static const uint8_t dropped[] = {TONE_POINT(7, 0), TONE_POINT(7, TONE_LARGEST_HEIGHT + 1)};
+
+    put_point(0, 0, TONE_LARGEST_HEIGHT);
+    expect(make_table(1, TONE_LINEAR, sizeof table) == TONE_DONE, "a height of 65,280 passes");
+    make_points(TONE_MOST_POINTS + 1, 0);
+    put_point(TONE_MOST_POINTS - 1, 1, TONE_LARGEST_HEIGHT + 1);
+    expect(make_table(TONE_MOST_POINTS + 1, KINDS, 0) == TONE_POINT_COUNT, "3 comes before 20");
+    expect(make_table(TONE_MOST_POINTS, KINDS, 0) == TONE_HEIGHT_RANGE, "20 comes before 5");
+    expect(make_fine_table(TONE_MOST_POINTS, KINDS, 0) == TONE_HEIGHT_RANGE,
+           "20 comes before 5 for a fine table too");
+    expect(make_table(TONE_MOST_POINTS - 1, KINDS, 0) == TONE_UNKNOWN_KIND,
+           "a point past the count is not tested, and 5 comes before 13");
+    expect(tone_table(dropped, sizeof dropped, TONE_LINEAR, 0, 0, 0, table, sizeof table) ==
+               TONE_HEIGHT_RANGE,
+           "a point that does not count is tested too");
+}
+
 /* A fine table to look in has so many samples, no fewer and no more; so has the longest record. */
 static void check_lengths(void)
 {
@@ -146,13 +202,16 @@ static void check_lengths(void)
 static void check_unnamed(uint8_t map, int meant, const char *what)
 {
     uint8_t unnamed[] = {0x01, 4, 0, 0, 50, 50, 70, 210, 255, 255};
+    static const uint8_t same[] = {TONE_POINT(0, TONE_LEVEL(0)), TONE_POINT(50, TONE_LEVEL(50)),
+                                   TONE_POINT(70, TONE_LEVEL(210)),
+                                   TONE_POINT(255, TONE_LEVEL(255))};
     uint8_t expected[TONE_TABLE_BYTES];
     int kind;
 
     unnamed[0] = map;
     expect(tone_record_table(unnamed, sizeof unnamed, expected, sizeof expected) == TONE_DONE,
            "a record without a kind has a table");
-    memcpy(points, unnamed + 2, sizeof unnamed - 2);
+    memcpy(points, same, sizeof same);
     for (kind = 0; kind < KINDS; kind++) {
         make_table(4, (uint8_t)kind, sizeof table);
         expect((memcmp(table, expected, sizeof table) == 0) == (kind == meant), what);
@@ -218,7 +277,7 @@ static void check_refused_floats(void)
 /* The rounding mode is the caller's: entry 7 through (0,0), (12,54) is 31 to nearest, 32 upward. */
 static void check_rounding(void)
 {
-    static const uint8_t line[] = {0, 0, 12, 54};
+    static const uint8_t line[] = {TONE_POINT(0, 0), TONE_POINT(12, TONE_LEVEL(54))};
     uint8_t entry;
 
     tone_table(line, sizeof line, TONE_LINEAR, 0, 0, 0, table, sizeof table);
@@ -235,7 +294,7 @@ static void check_flush(void)
 {
     const unsigned int flush = 0x8040; /* of results and of operands */
     const unsigned int control = _mm_getcsr();
-    static const uint8_t line[] = {0, 0, 255, 255};
+    static const uint8_t line[] = {TONE_POINT(0, 0), TONE_POINT(255, TONE_LEVEL(255))};
     float small[2] = {1e-38f, 1e-38f};
     uint32_t bits[2];
 
@@ -420,6 +479,8 @@ static void check_stack(void)
 int main(void)
 {
     check_limits();
+    check_points();
+    check_heights();
     check_lengths();
     check_default_kind();
     check_copies();

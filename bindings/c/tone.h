@@ -7,11 +7,15 @@
  * C99 or C++98 and later, on x86-64 Linux; the archive is for no other machine.
  *
  * Every call but tone_version answers one byte: TONE_DONE when it did its work, else the number of
- * the first refusal that applies. The order is document 01's: that in which each call below names
- * its refusals, and inside a record field by field, not by number: of each list a missing count 2,
- * then 3, missing points 2, 4; a missing kind byte 2, then 5, 6, and only then 2 for a tension or
- * slopes; 7 last. A refused call has changed nothing that it was lent. No call keeps a pointer,
- * allocates memory or holds a state, so calls from several threads do not disturb each other.
+ * the first refusal that applies. The order is that of documents 01 and 02: that in which each call
+ * below names its refusals, 20 before 5, and inside a record field by field, not by number: of each
+ * list a missing count 2, then 3, missing points 2, 4; a missing kind byte 2, then 5, 6, and only
+ * then 2 for a tension or slopes; 7 last. A refused call has changed nothing that it was lent. No
+ * call keeps a pointer, allocates memory or holds a state, so calls from several threads do not
+ * disturb each other.
+ *
+ * A point's height is in 256ths of a level, 0 to 65,280: level n is the height 256 n. Records hold
+ * levels only, one byte each, and none of their heights is refused.
  *
  * What a caller must see to:
  *  - Floating point is as a program finds it at its start: rounding to nearest, and small numbers
@@ -48,7 +52,7 @@ extern "C" {
 
 /* The version of this boundary. It grows with every change that a program linked before would
  * notice: other arguments, other or new numbers, another limit or default, another record. */
-#define TONE_VERSION 2
+#define TONE_VERSION 3
 
 /* The archive's version. If it is not TONE_VERSION, this header does not describe the archive. */
 uint32_t tone_version(void);
@@ -89,7 +93,7 @@ enum tone_format {
 };
 
 /* The answers: done, or a refusal. tone_refusal_text has them in words. No call answers 1 any more,
- * which version 1 had for bit 7 of a record's map. */
+ * which version 1 had for bit 7 of a record's map; 15 to 19 are no answers yet. */
 enum tone_answer {
     TONE_DONE = 0,
     TONE_RECORD_TRUNCATED = 2,
@@ -104,12 +108,14 @@ enum tone_answer {
     TONE_ROW_STEP = 11,
     TONE_PLANE_TOO_SHORT = 12,
     TONE_OUTPUT_TOO_SMALL = 13,
-    TONE_TABLE_LENGTH = 14
+    TONE_TABLE_LENGTH = 14,
+    TONE_HEIGHT_RANGE = 20
 };
 
 /* Limits and sizes. */
 enum tone_size {
     TONE_MOST_POINTS = 64,
+    TONE_LARGEST_HEIGHT = 65280,  /* of a point, in 256ths of a level: that of level 255 */
     TONE_LARGEST_SIDE = 4096,     /* of a picture, in pixels */
     TONE_LARGEST_STEP = 32768,    /* from a row to the next, in bytes */
     TONE_TABLE_BYTES = 256,       /* of a byte table */
@@ -117,18 +123,29 @@ enum tone_size {
     TONE_LONGEST_RECORD = 522     /* bytes: no record is longer */
 };
 
+/* The height of level n, 0 to 255: heights are in 256ths of a level. */
+#define TONE_LEVEL(n) (256 * (n))
+
+/* The three bytes of a point, for an initializer: x, then the height, low byte first. The height is
+ * a number of 256ths of a level, 0 to TONE_LARGEST_HEIGHT; no more than its low 16 bits are used.
+ *
+ *     uint8_t points[] = {TONE_POINT(0, 0), TONE_POINT(64, 38500), TONE_POINT(255, TONE_LEVEL(9))};
+ */
+#define TONE_POINT(x, height) \
+    (uint8_t)(x), (uint8_t)((height) & 0xFF), (uint8_t)(((height) >> 8) & 0xFF)
+
 /* The bytes of stack that a call needs at most, below its caller's frame: measured, not proved.
  * Where the dynamic linker looks up memcpy and memset at their first use, that call takes some KB
  * more; a program linked statically or with -z now is spared it. */
 enum tone_stack {
     TONE_STACK_VERSION = 256,
-    TONE_STACK_TABLE = 7 * 1024,
-    TONE_STACK_FINE_TABLE = 5 * 1024,
+    TONE_STACK_TABLE = 8 * 1024,
+    TONE_STACK_FINE_TABLE = 7 * 1024,
     TONE_STACK_LOOKUP = 1024,
     TONE_STACK_PLANE = 1024,
-    TONE_STACK_PICTURE = 9 * 1024,
-    TONE_STACK_RECORD_TABLE = 7 * 1024,
-    TONE_STACK_RECORD_COPY = 9 * 1024
+    TONE_STACK_PICTURE = 13 * 1024,
+    TONE_STACK_RECORD_TABLE = 10 * 1024,
+    TONE_STACK_RECORD_COPY = 13 * 1024
 };
 
 /* An answer in words; never null. */
@@ -163,6 +180,8 @@ static inline const char *tone_refusal_text(uint8_t answer)
         return "an output holds less than what would be written";
     case TONE_TABLE_LENGTH:
         return "a float table's length isn't 256 or 4,096 (build) or 4,096 (lookup)";
+    case TONE_HEIGHT_RANGE:
+        return "a height is above 65,280 or, when today's record is written, no multiple of 256";
     default:
         return "an answer that this version does not know";
     }
@@ -171,11 +190,13 @@ static inline const char *tone_refusal_text(uint8_t answer)
 /* Writes the byte table of the curve through some points to the first 256 bytes of `table`; what
  * is behind them stays.
  *
- * `points` holds x, y pairs in any order; of equal x the first counts, and a last odd byte is
- * ignored. `kind` is a tone_kind. `tension` is read for TONE_CARDINAL only, the slopes for
- * TONE_CLAMPED_CUBIC only.
+ * `points` holds points of three bytes in any order: x, then the height in 256ths of a level, low
+ * byte first, as TONE_POINT has them. There are points_length / 3 of them, one or two bytes left
+ * over are ignored, and of equal x the first counts. `kind` is a tone_kind. `tension` is read for
+ * TONE_CARDINAL only, the slopes for TONE_CLAMPED_CUBIC only.
  *
- * Refusals: 3 more than 64 points; 5 a kind above 9; 13 a table_length below 256. */
+ * Refusals: 3 more than 64 points; 20 a height above 65,280, also of a point that does not count;
+ * 5 a kind above 9; 13 a table_length below 256. */
 uint8_t tone_table(const uint8_t *points, size_t points_length, uint8_t kind, uint8_t tension,
                    int16_t start_slope, int16_t end_slope, uint8_t *table, size_t table_length);
 
@@ -184,8 +205,8 @@ uint8_t tone_table(const uint8_t *points, size_t points_length, uint8_t kind, ui
  *
  * Points, kind, tension and slopes as for tone_table.
  *
- * Refusals: 3 more than 64 points; 5 a kind above 9; 14 a table_length that is neither 256 nor
- * 4,096. */
+ * Refusals: 3 more than 64 points; 20 a height above 65,280, also of a point that does not count;
+ * 5 a kind above 9; 14 a table_length that is neither 256 nor 4,096. */
 uint8_t tone_fine_table(const uint8_t *points, size_t points_length, uint8_t kind, uint8_t tension,
                         int16_t start_slope, int16_t end_slope, float *table, size_t table_length);
 

@@ -1,5 +1,10 @@
 //! The exported functions, as `bindings/c/tone.h` declares and describes them. A slice passes
 //! as a pointer and a length.
+//!
+//! Behind them come both table calls as safe functions that take their points as bytes. The trials
+//! call these where the memory of the points counts, or where bytes are left over.
+use crate::{KindNumbers, Refusal};
+
 extern "C" {
     pub fn tone_version() -> u32;
     pub fn tone_table(
@@ -71,4 +76,38 @@ extern "C" {
         out_length: usize,
         written: *mut usize,
     ) -> u8;
+}
+
+/// [`crate::table`] of points in bytes, three each; one or two bytes left over are ignored.
+pub fn table(points: &[u8], kind: KindNumbers, table: &mut [u8]) -> Result<(), Refusal> {
+    // SAFETY: both slices pass as their pointer and length, and live for the call.
+    Refusal::check(unsafe {
+        tone_table(
+            points.as_ptr(),
+            points.len(),
+            kind.number,
+            kind.tension,
+            kind.start_slope,
+            kind.end_slope,
+            table.as_mut_ptr(),
+            table.len(),
+        )
+    })
+}
+
+/// [`crate::fine_table`] of points in bytes, as for [`table`].
+pub fn fine_table(points: &[u8], kind: KindNumbers, table: &mut [f32]) -> Result<(), Refusal> {
+    // SAFETY: as in `table`.
+    Refusal::check(unsafe {
+        tone_fine_table(
+            points.as_ptr(),
+            points.len(),
+            kind.number,
+            kind.tension,
+            kind.start_slope,
+            kind.end_slope,
+            table.as_mut_ptr(),
+            table.len(),
+        )
+    })
 }

@@ -4,13 +4,17 @@
 //! changes nothing that was lent.
 //!
 //! ```
-//! use tone::Kind;
+//! use tone::{Kind, Point};
 //!
 //! let mut table = [0; 256];
-//! tone::table(&[0, 0, 255, 255], Kind::Linear, &mut table)?;
-//! assert_eq!(table[77], 77);
+//! let points = [Point::at_level(0, 0), Point { x: 64, height: 38_528 }];
+//! tone::table(&points, Kind::Linear, &mut table)?;
+//! assert_eq!(table[64], 151);
 //! # Ok::<(), tone::Refusal>(())
 //! ```
+//!
+//! A [`Point`]'s height is in 256ths of a level: 38,528 is level 150 and a half. Records hold
+//! levels only.
 //!
 //! Kinds and formats are enums. Whoever has numbers from elsewhere passes them as [`KindNumbers`]
 //! or as a [`FormatNumber`]: one that means nothing is refused.
@@ -24,12 +28,13 @@
 //!   code turns the flush on for the whole program. Before a call put a rounding mode of your own
 //!   back. In another mode tables are not those promised: upward rounding changes a third of all
 //!   their bytes.
-//! - There is stack for the call: up to 9 KB, each call's figure is in `enum tone_stack` of the C
+//! - There is stack for the call: up to 13 KB, each call's figure is in `enum tone_stack` of the C
 //!   header. A test measures them; no proof does.
 //! - The machine is x86-64 Linux, the only one that the archive is for.
 //!
-//! A refused call has changed nothing. The first refusal is meant in document 01's order: that in
-//! which each function here names its refusals, and inside a record field by field, not by number.
+//! A refused call has changed nothing. The first refusal is meant in the order of documents 01 and
+//! 02: that in which each function here names its refusals, and inside a record field by field, not
+//! by number.
 //!
 //! # What is proved
 //!
@@ -51,12 +56,16 @@ pub mod trial;
 mod format;
 mod kind;
 mod picture;
+mod point;
 mod refusal;
 mod version;
+
+use point::PointBytes;
 
 pub use format::{Format, FormatNumber};
 pub use kind::{Kind, KindNumbers};
 pub use picture::{Outputs, Planes};
+pub use point::{Point, LARGEST_HEIGHT};
 pub use refusal::Refusal;
 pub use version::VERSION;
 
@@ -71,54 +80,34 @@ pub fn version() -> u32 {
 
 /// Writes the byte table of a list of points to the first 256 bytes of `table`.
 ///
-/// `points` holds x, y pairs in any order; a last odd byte is ignored.
-/// Refusals, in order: more than 64 points; a kind above 9; fewer than 256 bytes of room.
-pub fn table(points: &[u8], kind: impl Into<KindNumbers>, table: &mut [u8]) -> Result<(), Refusal> {
-    let kind = kind.into();
-    // SAFETY: both slices pass as their pointer and length, and live for the call.
-    Refusal::check(unsafe {
-        boundary::tone_table(
-            points.as_ptr(),
-            points.len(),
-            kind.number,
-            kind.tension,
-            kind.start_slope,
-            kind.end_slope,
-            table.as_mut_ptr(),
-            table.len(),
-        )
-    })
+/// The points may be in any order; of equal x the first counts. Refusals, in order: more than 64
+/// points; a height above [`LARGEST_HEIGHT`], also of a point that does not count; a kind above 9;
+/// fewer than 256 bytes of room.
+pub fn table(
+    points: &[Point],
+    kind: impl Into<KindNumbers>,
+    table: &mut [u8],
+) -> Result<(), Refusal> {
+    boundary::table(PointBytes::of(points).as_slice(), kind.into(), table)
 }
 
 /// Fills `table` with the samples of a list of points.
 ///
-/// `points` as for [`table`]. Refusals, in order: more than 64 points; a kind above 9; a length
-/// that is neither 256 nor 4,096.
+/// `points` as for [`table`]. Refusals, in order: more than 64 points; a height above
+/// [`LARGEST_HEIGHT`], also of a point that does not count; a kind above 9; a length that is
+/// neither 256 nor 4,096.
 pub fn fine_table(
-    points: &[u8],
+    points: &[Point],
     kind: impl Into<KindNumbers>,
     table: &mut [f32],
 ) -> Result<(), Refusal> {
-    let kind = kind.into();
-    // SAFETY: as in `table`.
-    Refusal::check(unsafe {
-        boundary::tone_fine_table(
-            points.as_ptr(),
-            points.len(),
-            kind.number,
-            kind.tension,
-            kind.start_slope,
-            kind.end_slope,
-            table.as_mut_ptr(),
-            table.len(),
-        )
-    })
+    boundary::fine_table(PointBytes::of(points).as_slice(), kind.into(), table)
 }
 
 /// Replaces each value by the table's height there, 0..1 for 0..255. A table that has not
 /// 4,096 samples is refused.
 pub fn lookup(table: &[f32], values: &mut [f32]) -> Result<(), Refusal> {
-    // SAFETY: as in `table`.
+    // SAFETY: both slices pass as their pointer and length, and live for the call.
     Refusal::check(unsafe {
         boundary::tone_lookup(table.as_ptr(), table.len(), values.as_mut_ptr(), values.len())
     })
@@ -138,7 +127,7 @@ pub fn plane(
     step: usize,
 ) -> Result<(), Refusal> {
     let format = format.into().0;
-    // SAFETY: as in `table`; the array passes as its pointer.
+    // SAFETY: as in `lookup`; the array passes as its pointer.
     Refusal::check(unsafe {
         boundary::tone_plane(table, format, width, height, plane.as_mut_ptr(), plane.len(), step)
     })
@@ -162,7 +151,7 @@ pub fn picture(
     let format = format.into().0;
     let [u, v] = planes.chroma;
     let [out_u, out_v] = outputs.chroma;
-    // SAFETY: as in `table`; the outputs are lent to this call alone.
+    // SAFETY: as in `lookup`; the outputs are lent to this call alone.
     Refusal::check(unsafe {
         boundary::tone_picture(
             record.as_ptr(),
@@ -192,7 +181,7 @@ pub fn picture(
 ///
 /// Refusals, in order: the record's; fewer than 256 bytes of room.
 pub fn record_table(record: &[u8], table: &mut [u8]) -> Result<(), Refusal> {
-    // SAFETY: as in `table`.
+    // SAFETY: as in `lookup`.
     Refusal::check(unsafe {
         boundary::tone_record_table(record.as_ptr(), record.len(), table.as_mut_ptr(), table.len())
     })
@@ -209,7 +198,7 @@ pub fn record_table(record: &[u8], table: &mut [u8]) -> Result<(), Refusal> {
 /// Refusals, in order: the record's; an output too small.
 pub fn record_copy(record: &[u8], out: &mut [u8]) -> Result<usize, Refusal> {
     let mut written = 0;
-    // SAFETY: as in `table`; the length passes as its pointer.
+    // SAFETY: as in `lookup`; the length passes as its pointer.
     let answer = unsafe {
         boundary::tone_record_copy(
             record.as_ptr(),

@@ -174,9 +174,14 @@ macro_rules! doors {
             }
         }
 
-        /// The curve through x, y pairs in any order.
-        pub fn curve(points: &[u8]) -> Curve {
-            Curve::new(points.chunks_exact(2).map(|p| (p[0], p[1])))
+        /// The curve through points in any order, whose heights are whole: it knows no others.
+        pub fn curve(points: &[crate::Point]) -> Curve {
+            Curve::new(points.iter().map(|p| (p.x, p.level().expect("a whole height"))))
+        }
+
+        /// The same of x and level, as the original takes them.
+        pub fn curve_of_pairs(points: &[(u8, u8)]) -> Curve {
+            Curve::new(points.iter().copied())
         }
 
         pub fn byte_table(curve: &Curve, kind: crate::Kind) -> [u8; 256] {

@@ -1,9 +1,11 @@
-//! The refusals of document 01, "When a call says no", without 1, which document 02 takes away.
+//! The refusals of document 01, "When a call says no", as document 02 changes them: 1 is taken
+//! away, and 20 comes after 14.
 use std::error::Error;
 use std::fmt;
 
-/// Why a call did nothing. Its number is document 01's; later versions may have more of them. 1 is
-/// no refusal any more: version 1 had it for bit 7 of a record's map.
+/// Why a call did nothing. Its number is document 01's or document 02's; later versions may have
+/// more of them. 1 is no refusal any more: version 1 had it for bit 7 of a record's map. 15 to 19
+/// are none yet.
 #[derive(Clone, Copy, Debug, PartialEq, Eq)]
 #[non_exhaustive]
 pub enum Refusal {
@@ -20,12 +22,13 @@ pub enum Refusal {
     PlaneTooShort,
     OutputTooSmall,
     TableLength,
+    HeightRange,
     /// A number that this crate does not know: the archive is of another version.
     Unknown(u8),
 }
 
-/// Each refusal, in the order of the numbers, in document 01's words.
-const ALL: [(Refusal, &str); 13] = [
+/// Each refusal, in the order of the numbers, in the documents' words.
+const ALL: [(Refusal, &str); 14] = [
     (Refusal::RecordTruncated, "a record ends before its map or inside a field whose bit stands"),
     (Refusal::PointCount, "a count of points is above 64, or a record's master count is 0"),
     (Refusal::PointsNotRising, "a record's or set's points don't strictly rise in x"),
@@ -42,11 +45,15 @@ const ALL: [(Refusal, &str); 13] = [
     (Refusal::PlaneTooShort, "the first plane has fewer bytes than needed"),
     (Refusal::OutputTooSmall, "an output holds less than what would be written"),
     (Refusal::TableLength, "a float table's length isn't 256 or 4,096 (build) or 4,096 (lookup)"),
+    (
+        Refusal::HeightRange,
+        "a height is above 65,280 or, when today's record is written, no multiple of 256",
+    ),
 ];
 
 impl Refusal {
     /// Each refusal, in the order of the numbers.
-    pub fn all() -> [Refusal; 13] {
+    pub fn all() -> [Refusal; 14] {
         ALL.map(|(refusal, _)| refusal)
     }
 
@@ -65,11 +72,12 @@ impl Refusal {
             Refusal::PlaneTooShort => 12,
             Refusal::OutputTooSmall => 13,
             Refusal::TableLength => 14,
+            Refusal::HeightRange => 20,
             Refusal::Unknown(number) => number,
         }
     }
 
-    /// Document 01's words for it.
+    /// The documents' words for it.
     pub fn words(self) -> &'static str {
         let known = ALL.iter().find(|(refusal, _)| *refusal == self);
         known.map_or("an answer that this version does not know", |(_, words)| words)

@@ -19,12 +19,18 @@ fn stored(questions: &str, place: usize) -> Vec<u8> {
     questions.lines().map(digits).collect()
 }
 
+/// Whether a stored question of `replay` has points at levels only: seven bytes, then three for
+/// each point, x and the height with its low byte first.
+fn is_whole(line: &str) -> bool {
+    (0..64).all(|k| line[2 * (8 + 3 * k)..].starts_with("00"))
+}
+
 /// A new number is a new version: `crates/tone_c/specs/Version.antt` says what else is. Whoever
 /// changes a number of this line changes the first too.
 #[test]
 fn a_new_number_is_a_new_version() {
     let counts = (tone::VERSION, Kind::NAMES.len(), Format::ALL.len(), Refusal::all().len());
-    assert_eq!(counts, (2, 10, 12, 13), "version, kinds, formats, refusals");
+    assert_eq!(counts, (3, 10, 12, 14), "version, kinds, formats, refusals");
 }
 
 /// What is said in words of numbers above the last.
@@ -95,18 +101,25 @@ fn each_format_has_its_lines() {
     }
 }
 
-/// The trials and the stored questions ask for every kind and every format. What is stored comes
-/// from the original, so one that the original does not have would be left out here.
+/// The trials and the stored questions ask for every kind and every format, and for every kind with
+/// heights between the levels. What else is stored comes from the original, so one that the
+/// original does not have would be left out here.
 #[test]
 fn every_kind_and_format_is_asked_for() {
     let mut random = Random::new(1);
     let asked: Vec<u8> = (0..1000).map(|_| Question::random(&mut random).numbers.number).collect();
     let set: Vec<u8> = (0..1000).map(|_| any_set(&mut random).kind.number()).collect();
-    let tables = stored(include_str!("../../../crates/replay/stdin"), 0);
+    let finer: Vec<u8> = (0..1000).map(|_| Question::finer(&mut random).numbers.number).collect();
+    let (whole, between): (Vec<&str>, Vec<&str>) =
+        include_str!("../../../crates/replay/stdin").lines().partition(|line| is_whole(line));
+    let [whole, between] = [whole, between].map(|lines| stored(&lines.join("\n"), 0));
+    let count = |of: &[u8], number: u8| of.iter().filter(|n| **n == number).count();
     for (number, name) in (0..).zip(Kind::NAMES) {
         assert!(asked.contains(&number), "{name}: no random list");
+        assert!(finer.contains(&number), "{name}: no random list of finer heights");
         assert!(set.contains(&number), "{name}: no random set");
-        assert!(tables.iter().filter(|n| **n == number).count() > 20, "{name}: not stored");
+        assert!(count(&whole, number) > 20, "{name}: not stored");
+        assert!(count(&between, number) >= 8, "{name}: not stored with finer heights");
     }
     let pictures = stored(include_str!("../../../crates/replay_pictures/stdin"), 1);
     for format in Format::ALL {
@@ -119,7 +132,7 @@ fn every_kind_and_format_is_asked_for() {
 fn kinds_of_the_model() {
     let mut table = [0; 256];
     for number in 0..=255 {
-        assert_eq!(tone::table(&[], kind(number), &mut table), given(0, number), "kind {number}");
+        assert_eq!(tone::table(&[], kind(number), &mut table), given(&[], number), "kind {number}");
         for map in [0x10, 0x90] {
             let record = [map, number];
             let expected = read(&record).map(|_| ());

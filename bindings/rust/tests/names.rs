@@ -1,6 +1,8 @@
 //! Refusals, kinds, formats, sizes and the version are the same here, in the C header and, where
 //! they stand there, in the crates.
-use tone::{Format, FormatNumber, Kind, KindNumbers, Outputs, Planes, Refusal};
+use tone::{
+    Format, FormatNumber, Kind, KindNumbers, Outputs, Planes, Point, Refusal, LARGEST_HEIGHT,
+};
 
 const HEADER: &str = include_str!("../../c/tone.h");
 const ANSWERS: &str = include_str!("../../../crates/answers/specs/Numbers.antt");
@@ -110,8 +112,8 @@ fn formats() {
 
 #[test]
 fn refusals() {
-    // document 02 took 1 away, and the others kept theirs
-    assert!(Refusal::all().map(Refusal::number).into_iter().eq(2..=14));
+    // document 02 took 1 away, and the others kept theirs; 15 to 19 are of requests to come
+    assert!(Refusal::all().map(Refusal::number).into_iter().eq((2..=14).chain([20])));
     for refusal in Refusal::all() {
         let place = refusal.number();
         assert_eq!(refusal.to_string(), format!("refused {place}: {}", refusal.words()));
@@ -136,10 +138,11 @@ fn every_answer_is_taken() {
     for answer in 1..=255 {
         let refusal = Refusal::check(answer).unwrap_err();
         assert_eq!(refusal.number(), answer);
-        assert_eq!(refusal == Refusal::Unknown(answer), answer == 1 || answer > 14);
+        let known = matches!(answer, 2..=14 | 20);
+        assert_eq!(refusal == Refusal::Unknown(answer), !known, "{answer}");
     }
-    let words = Refusal::Unknown(20).words();
-    assert_eq!(Refusal::Unknown(20).to_string(), format!("refused 20: {words}"));
+    let words = Refusal::Unknown(15).words();
+    assert_eq!(Refusal::Unknown(15).to_string(), format!("refused 15: {words}"));
     assert!(HEADER.contains(&format!("default:\n        return \"{words}\";")));
 }
 
@@ -150,11 +153,15 @@ fn sizes() {
     let (most, bytes, samples) =
         (number("MostPoints"), number("TableBytes"), number("FineSamples"));
     let mut table = vec![0; bytes];
-    assert_eq!(tone::table(&vec![0; 2 * most], Kind::Linear, &mut table), Ok(()));
-    assert_eq!(
-        tone::table(&vec![0; 2 * most + 2], Kind::Linear, &mut table),
-        Err(Refusal::PointCount)
-    );
+    let mut ask = |count: usize, height: u16| {
+        tone::table(&vec![Point { x: 0, height }; count], Kind::Linear, &mut table)
+    };
+    assert_eq!(ask(most, 0), Ok(()));
+    assert_eq!(ask(most + 1, 0), Err(Refusal::PointCount));
+    assert_eq!(number("LargestHeight"), usize::from(LARGEST_HEIGHT));
+    assert_eq!(ask(1, LARGEST_HEIGHT), Ok(()));
+    assert_eq!(ask(1, LARGEST_HEIGHT + 1), Err(Refusal::HeightRange));
+    assert_eq!(Point::at_level(0, 255).height, LARGEST_HEIGHT);
     assert_eq!(tone::table(&[], Kind::Linear, &mut table[1..]), Err(Refusal::OutputTooSmall));
     assert_eq!(tone::lookup(&vec![0.0; samples], &mut [0.0]), Ok(()));
     for wrong in [samples - 1, samples + 1] {
@@ -176,5 +183,5 @@ fn sizes() {
     assert_eq!(ask(side + 1, 0, step), Err(Refusal::PictureTooLarge));
     assert_eq!(ask(0, side + 1, step), Err(Refusal::PictureTooLarge));
     assert_eq!(ask(side, 0, step + 1), Err(Refusal::RowStep));
-    assert_eq!(count("tone_size"), 6);
+    assert_eq!(count("tone_size"), 7);
 }

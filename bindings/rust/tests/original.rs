@@ -6,7 +6,7 @@ use tone::original::{
     VideoStreamParams,
 };
 use tone::trial::{Question, Random};
-use tone::{Format, Kind};
+use tone::{Format, Kind, Point};
 
 /// The function that `build.rs` makes of the closure `lookup` answers as the
 /// closure does where it stands.
@@ -39,7 +39,8 @@ fn the_formats_of_the_set_call() {
     for format in Format::ALL {
         let params = VideoStreamParams { format: pixel_format(format), width: 1, height: 1 };
         let planes = [1, 2, 3].map(|b| (vec![b; 4], 4));
-        let set = Set { master: vec![0, 9], kind: Kind::Linear, ..Set::default() };
+        let master = vec![Point::at_level(0, 9)];
+        let set = Set { master, kind: Kind::Linear, ..Set::default() };
         match curves::set(&set).apply_pixels(&frame(planes), params) {
             Ok(toned) => {
                 let mut expected = vec![9; format.bytes_a_pixel()];

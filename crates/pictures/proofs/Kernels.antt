@@ -50,10 +50,3 @@ pub tight-rows-by :
     → new ≡ tightRows f w h step (tablesOf f v) plane out
 tight-rows-by f v w h step plane out s by-is p-is red-is green-is blue-is e =
     rw (red-is, green-is, blue-is, by-is, p-is, tight f s .1) at e
-
--- a list that is used has passed
-pub used-passes : (by : Bool) (c : Channel) → channelAnswer Fine c ≡ Done → by && c .present ≡ true
-    → curveAnswer Fine (c .curve) ≡ Done
-unfolding channelAnswer curveAnswer
-used-passes false c e present = absurd (true≢false (sym present))
-used-passes true c e present = rw present at e

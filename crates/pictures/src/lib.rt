@@ -3,11 +3,9 @@ ghost use mathlib.Core.Path.{_≡_};
 ghost use mathlib.Core.Bool.{true};
 ghost use Prim.Native.Nat.{_*_, _≤_};
 ghost use lib.ListN.{length};
-ghost use Rattle.answers.specs.declared.Answer.the-variants.{Done};
-ghost use Rattle.points.specs.declared.Heights.the-variants.{Fine};
 ghost use Rattle.points.specs.Points.{listOf};
 ghost use Rattle.tables.specs.Tables.{byteTable};
-ghost use Rattle.sets.specs.Sets.{viewOf, curveAnswer, setAnswer};
+ghost use Rattle.sets.specs.Sets.{viewOf};
 ghost use Rattle.rows.specs.Rows.{Rows};
 ghost use Rattle.formats.specs.Formats.{bytesAPixel};
 ghost use Rattle.formats.specs.Checks.{Supported};
@@ -26,7 +24,7 @@ use rows::tone_rows_into;
 use sets::Curves;
 use sets::chosen_table;
 use tables::CurveInterpolation;
-use tables::byte_table;
+use tables::entries_of;
 
 // What is to be toned, and by what: the set of curves, the format, the size, and how many planes
 // are given.
@@ -93,11 +91,10 @@ pub fn apply_tone_lut(
 
 // The table of a list, where it is present. Else nothing is built, and nothing reads the zeros.
 fn own_table(present: bool, curve: Curve, kind: CurveInterpolation) -> [u8; 256]
-    requires { ⌜ (present ≡ true → curveAnswer Fine curve ≡ Done) ⌝ }
     ensures { λ r. ⌜ (present ≡ true → r ≡ byteTable kind (listOf curve)) ⌝ }
 {
     if present {
-        byte_table(curve, kind)
+        entries_of(curve, kind)
     } else {
         [0; 256]
     }
@@ -114,7 +111,7 @@ fn tone_first(
     h: usize,
     out: &mut [u8],
 )
-    requires { ⌜ (setAnswer Fine set ≡ Done) × Supported format ⌝ }
+    requires { ⌜ Supported format ⌝ }
     requires { ⌜ Rows w h (w * bytesAPixel format) step (length (now plane)) ⌝ }
     requires { ⌜ h * (w * bytesAPixel format) ≤ length (now out) ⌝ }
     ensures { λ _. ⌜
@@ -128,7 +125,7 @@ fn tone_first(
     let red = by_colour & set.red.present;
     let green = by_colour & set.green.present;
     let blue = by_colour & set.blue.present;
-    let master_table = byte_table(set.master, kind);
+    let master_table = entries_of(set.master, kind);
     let red_table = own_table(red, set.red.curve, kind);
     let green_table = own_table(green, set.green.curve, kind);
     let blue_table = own_table(blue, set.blue.curve, kind);

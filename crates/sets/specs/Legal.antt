@@ -19,9 +19,6 @@ use Rattle.points.specs.declared.Heights.{Heights}
 use Rattle.points.specs.declared.Heights.the-variants.{Fine}
 use Rattle.points.specs.HeightLaws.{passed-fine}
 use Rattle.points.specs.Points.{placesOf, listOf, rises, allAllowed}
-use Rattle.tables.specs.declared.CurveInterpolation.{CurveInterpolation}
-use Rattle.tables.specs.Tables.{byteTable, tableOf}
-use Rattle.tables.specs.TableLaws.{table-of-passed}
 use Rattle.sets.specs.declared.Channel.{Channel}
 use Rattle.sets.specs.declared.Curves.{Curves}
 use Rattle.sets.specs.Sets.{
@@ -112,14 +109,6 @@ module _ (heights : Heights) where
 
   pub passed-count : (c : Curve) → curveAnswer heights c ≡ Done → c .count ≤ 64
   passed-count c e = passed-list c e .few
-
-  pub passed-high : (c : Curve) → curveAnswer heights c ≡ Done → allAllowed Fine (listOf c) ≡ true
-  passed-high c e = passed-fine heights (listOf c) (passed-list c e .high)
-
-  -- a list that passes has its byte table
-  pub passed-table : (c : Curve) (kind : CurveInterpolation) → curveAnswer heights c ≡ Done
-      → tableOf c kind ≡ byteTable kind (listOf c)
-  passed-table c kind e = table-of-passed c kind (passed-count c e) (passed-high c e)
 
   -- whatever heights a set was let have, it may be toned
   fine-list : (c : Curve) → curveAnswer heights c ≡ Done → curveAnswer Fine c ≡ Done

@@ -4,7 +4,7 @@ pub mod Kinds
 pub mod KindLaws
 -- samples, entries, and the calls that build tables
 pub mod Tables
--- laws of a table handed back by value
-pub mod TableLaws
+-- the lengths of a fine table
+pub mod Lengths
 -- kinds and answers, computed
 pub mod Examples

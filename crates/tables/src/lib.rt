@@ -18,7 +18,7 @@ ghost use Rattle.tables.specs.Kinds.{
   formOf,
   knotValueRow,
 };
-ghost use Rattle.tables.specs.Tables.{fineTable, bytesOf, tableOf};
+ghost use Rattle.tables.specs.Tables.{fineTable, bytesOf, byteTable, tableOf};
 ghost use Rattle.tables.specs.Tables.{
   isTableLength,
   lengthCheck,
@@ -239,8 +239,8 @@ fn knot_values(
     }
 }
 
-// The samples of a given list.
-fn sample_curve(curve: Curve, kind: CurveInterpolation, samples: &mut [f32])
+// The samples of a given list, which is not checked.
+pub fn sample_curve(curve: Curve, kind: CurveInterpolation, samples: &mut [f32])
     requires { ⌜ (2 ≤ length (now samples)) × (length (now samples) ≤ 4096) ⌝ }
     ensures { λ _. ⌜
         now (samples .exit) ≡ fineTable kind (listOf curve) (length (now (samples .entry))) ⌝ }
@@ -268,6 +268,15 @@ fn to_bytes(samples: &[f32; 256]) -> [u8; 256]
     bytes
 }
 
+// The entries of the byte table of a list, which is not checked.
+pub fn entries_of(curve: Curve, kind: CurveInterpolation) -> [u8; 256]
+    ensures { λ r. ⌜ r ≡ byteTable kind (listOf curve) ⌝ }
+{
+    let mut samples = [0.0; 256];
+    sample_curve(curve, kind, &mut samples);
+    to_bytes(&samples)
+}
+
 // The byte table of a given list, by value; all 0 for a list that is refused.
 pub fn byte_table(curve: Curve, kind: CurveInterpolation) -> [u8; 256]
     ensures { λ r. ⌜ r ≡ tableOf curve kind ⌝ }
@@ -276,9 +285,7 @@ pub fn byte_table(curve: Curve, kind: CurveInterpolation) -> [u8; 256]
     if !answer.is_done() {
         return [0; 256];
     }
-    let mut samples = [0.0; 256];
-    sample_curve(curve, kind, &mut samples);
-    to_bytes(&samples)
+    entries_of(curve, kind)
 }
 
 // Whether a fine table has so many samples.
@@ -289,7 +296,7 @@ fn is_table_length(count: usize) -> bool
 }
 
 // 14, of a fine table of so many samples.
-fn length_answer(count: usize) -> Answer
+pub fn length_answer(count: usize) -> Answer
     ensures { λ r. ⌜ r ≡ firstRefusal (lengthCheck count ∷ []) ⌝ }
 {
     if is_table_length(count) {

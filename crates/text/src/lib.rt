@@ -3,7 +3,7 @@ ghost use mathlib.Core.Path.{_≡_};
 ghost use Prim.Native.Nat.{_<_, _≤_, _/_, _%_};
 ghost use Rattle.text.specs.Text.{hexadecimal, behind, tableText, refusalText, printed};
 ghost use Rattle.text.specs.Text.{textOf, InputText};
-use tables::byte_table;
+use tables::entries_of;
 
 // How many bytes of an input are read: one more than the longest record has, so that a byte behind
 // a record shows.
@@ -95,7 +95,7 @@ pub fn text_of(bytes: &[u8]) -> Text
         let set = read.set;
         let master = set.master;
         let kind = set.interpolation;
-        let table = byte_table(master, kind);
+        let table = entries_of(master, kind);
         return table_text(&table);
     }
     refusal_text(answer.number())

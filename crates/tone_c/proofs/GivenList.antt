@@ -1,26 +1,31 @@
--- A given list that is not refused passes the checks of a table build, so that it has its table.
-use Prim.Native.Nat.{ℕ}
-use mathlib.Core.Path.{_≡_, sym, ap, _∙_}
+-- The checks of the list that is made of points are those of the points.
+use Prim.Native.Nat.{ℕ, _≤_}
+use mathlib.Core.Path.{_≡_}
 use mathlib.Core.List.{List, [], _∷_}
+use borrow.Author.Tests.{ltb-false}
+use lib.Dec.{ltb}
+use Rattle.lists.specs.Test.{by-test}
 use Rattle.answers.specs.declared.Answer.the-variants.{Done}
-use Rattle.answers.specs.Checks.{firstRefusal, done-append}
+use Rattle.answers.specs.Checks.{firstRefusal}
+use Rattle.points.specs.declared.Point.{Point}
+use Rattle.points.specs.declared.Curve.{Curve}
 use Rattle.points.specs.declared.Heights.the-variants.{Fine}
-use Rattle.points.specs.Points.{countCheck, listChecks}
-use Rattle.points.specs.CheckLaws.{allowed-points, given-passes}
+use Rattle.points.specs.Points.{limit, listOf, countCheck, heightCheck}
+use Rattle.points.specs.CheckLaws.{few-points}
 use Rattle.records.specs.Kinds.{kindCheck}
-use Rattle.tables.specs.declared.CurveInterpolation.{CurveInterpolation}
-use Rattle.tables.specs.Tables.{byteTable, tableOf}
-use Rattle.tone_c.specs.declared.given.Given.{Given}
-use Rattle.tone_c.specs.Boundary.{countOf, pairsOf, heightAndKindChecks, GivenCall}
+use Rattle.tone_c.specs.Boundary.{countOf, pairsOf, givenChecks, curveAndKindChecks, GivenList}
 
-module _ {points : List ℕ} {kind : ℕ} {r : Given} (read : GivenCall points kind r) (done : r .answer ≡ Done) where
-  pub list-passed : firstRefusal (listChecks (r .curve)) ≡ Done
-  list-passed =
-      let passed =
-      done-append (countCheck (countOf points) ∷ []) (heightAndKindChecks points kind) (sym (read .answer) ∙ done) in
-      let list = read .list done in
-      given-passes (r .curve) (list .1)
-      (rw (list .0) (allowed-points Fine (pairsOf points) (kindCheck kind ∷ []) (passed .1)))
+first-same : (kind : ℕ) {n m : ℕ} {k l : List Point} → n ≡ m → (m ≤ limit → k ≡ l)
+    → firstRefusal (countCheck n ∷ heightCheck Fine k ∷ kindCheck kind ∷ [])
+    ≡ firstRefusal (countCheck m ∷ heightCheck Fine l ∷ kindCheck kind ∷ [])
+first-same kind {m = m} e same =
+    rw e (by-test (ltb limit m) (λ t. rw t) (λ t. rw (t, same (ltb-false limit m t))))
 
-  pub list-table : (k : CurveInterpolation) → tableOf (r .curve) k ≡ byteTable k (pairsOf points)
-  list-table k = rw list-passed (ap (byteTable k) (read .list done .0))
+module _ {points : List ℕ} {curve : Curve} (given : GivenList points curve) (kind : ℕ) where
+  pub same-checks : firstRefusal (curveAndKindChecks curve kind) ≡ firstRefusal (givenChecks points kind)
+  same-checks = first-same kind (given .count) (given .list)
+
+  pub list-given : firstRefusal (givenChecks points kind) ≡ Done → listOf curve ≡ pairsOf points
+  list-given passed =
+      given .list
+      (few-points (countOf points) (heightCheck Fine (pairsOf points) ∷ kindCheck kind ∷ []) passed)

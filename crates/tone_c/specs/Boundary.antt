@@ -13,8 +13,9 @@ use Rattle.answers.specs.declared.Answer.the-variants.{Done, UnsupportedFormat}
 use Rattle.answers.specs.Numbers.{numberOf}
 use Rattle.answers.specs.Checks.{Check, _when_, firstRefusal, roomCheck}
 use Rattle.points.specs.declared.Point.{Point}
+use Rattle.points.specs.declared.Curve.{Curve}
 use Rattle.points.specs.declared.Heights.the-variants.{Fine}
-use Rattle.points.specs.Points.{limit, listOf, countCheck, heightCheck}
+use Rattle.points.specs.Points.{limit, listOf, countCheck, heightCheck, listChecks}
 use Rattle.tables.specs.Kinds.{kindOf}
 use Rattle.tables.specs.Tables.{byteTable, fineTable, lengthCheck}
 use Rattle.sets.specs.declared.Curves.{Curves}
@@ -33,7 +34,6 @@ use Rattle.pictures.specs.declared.Toned.{Toned}
 use Rattle.pictures.specs.OneTable.{tonedWithin}
 use Rattle.pictures.specs.Runs.{Outputs, Lent, Run, held, SetCall}
 use Rattle.lookup.specs.Lookup.{lookupChecks, lookedUp}
-use Rattle.tone_c.specs.declared.given.Given.{Given}
 
 -- ---- what a caller gives
 -- points as edition 2 stores them: x, then the height, low byte first; one or two bytes left over
@@ -44,18 +44,20 @@ countOf points = length points / pointBytes Two
 abbrev pub pairsOf : List ℕ → List Point
 pairsOf points = pairs Two (countOf points) points
 
--- the points' heights, then the kind's number
-abbrev pub heightAndKindChecks : List ℕ → ℕ → List Check
-heightAndKindChecks points kind = heightCheck Fine (pairsOf points) ∷ kindCheck kind ∷ []
-
 -- a curve, its points and its kind's number: 3, then 20, then 5
 abbrev pub givenChecks : List ℕ → ℕ → List Check
-givenChecks points kind = countCheck (countOf points) ∷ heightAndKindChecks points kind
+givenChecks points kind =
+    countCheck (countOf points) ∷ heightCheck Fine (pairsOf points) ∷ kindCheck kind ∷ []
 
--- the list that is read of it, where it is not refused
-pub record GivenCall (points : List ℕ) (kind : ℕ) (r : Given) : Type 0 where
-  pub answer : r .answer ≡ firstRefusal (givenChecks points kind)
-  pub list : r .answer ≡ Done → (listOf (r .curve) ≡ pairsOf points) × (r .curve .count ≤ limit)
+-- the same of the list that is made of them
+abbrev pub curveAndKindChecks : Curve → ℕ → List Check
+curveAndKindChecks curve kind = listChecks curve ++ kindCheck kind ∷ []
+
+-- the list made of the points claims as many as there are, and has them unless it is refused for
+-- that
+pub record GivenList (points : List ℕ) (r : Curve) : Type 0 where
+  pub count : r .count ≡ countOf points
+  pub list : countOf points ≤ limit → listOf r ≡ pairsOf points
 
 -- a format's number: 8 where no format has it
 abbrev pub formatCheck : ℕ → Check

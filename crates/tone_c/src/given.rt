@@ -3,45 +3,41 @@
 ghost use mathlib.Core.Path.{_≡_};
 ghost use mathlib.Core.List.{[], _∷_};
 ghost use Rattle.answers.specs.Checks.{firstRefusal};
-ghost use Rattle.tone_c.specs.Boundary.{formatCheck, GivenCall};
+ghost use Rattle.tone_c.specs.Boundary.{formatCheck, curveAndKindChecks, GivenList};
 use answers::Answer;
 use answers::first_of;
 use formats::PixelFormat;
 use points::Curve;
-use points::Heights;
-use points::check_count;
 use records::kinds::check_kind;
 use records::point_lists::Edition;
 use records::point_lists::read_points;
 
-// A given list, beside its refusals and its kind's.
-pub struct Given {
-    pub answer: Answer,
-    pub curve: Curve,
-}
-
 // The bytes of a point: x, then the height, low byte first.
 const POINT_BYTES: usize = 3;
 
-// The points as a list, and 3, then 20, then 5. What is left over of the bytes is no point.
-pub fn read(points: &[u8], kind: u8) -> Given
-    ensures { λ r. ⌜ GivenCall (now (points .entry)) kind r ⌝ }
+// The points as a list, which claims as many as there are: above 64, for which it is refused, none
+// is read. What is left over of the bytes is no point.
+pub fn curve_of(points: &[u8]) -> Curve
+    ensures { λ r. ⌜ GivenList (now (points .entry)) r ⌝ }
 {
-    let n = points.len() / POINT_BYTES;
-    let counted = check_count(n);
-    if !counted.is_done() {
-        return Given {
-            answer: counted,
-            curve: Curve::empty(),
+    let count = points.len() / POINT_BYTES;
+    if Curve::LIMIT < count {
+        return Curve {
+            xs: [0; 64],
+            ys: [0; 64],
+            count,
         };
     }
-    let curve = read_points(Edition::Two, points, 0, n);
-    let high = curve.check_heights(Heights::Fine);
+    read_points(Edition::Two, points, 0, count)
+}
+
+// 3 and 20 of a list, then 5.
+pub fn check(curve: Curve, kind: u8) -> Answer
+    ensures { λ r. ⌜ r ≡ firstRefusal (curveAndKindChecks curve kind) ⌝ }
+{
+    let given = curve.check_given();
     let known = check_kind(kind);
-    Given {
-        answer: first_of(high, known),
-        curve,
-    }
+    first_of(given, known)
 }
 
 // 8, of a number that is no format.

@@ -20,9 +20,10 @@ use pictures::apply_pixels;
 use pictures::apply_tone_lut;
 use records::read_record;
 use rows::copy_bytes;
-use tables::build_table;
-use tables::byte_table;
+use tables::entries_of;
 use tables::kind_of;
+use tables::length_answer;
+use tables::sample_curve;
 use writing::write_record;
 
 mod given;
@@ -53,13 +54,12 @@ pub extern "C" fn tone_table(
         (now (table .entry)) r (now (table .exit))
         ⌝ }
 {
-    let given = given::read(points, kind);
-    let of_given = given.answer;
-    let answer = first_of(of_given, room_for(256, table.len()));
+    let curve = given::curve_of(points);
+    let answer = first_of(given::check(curve, kind), room_for(256, table.len()));
     if !answer.is_done() {
         return answer.number();
     }
-    let bytes = byte_table(given.curve, kind_of(kind, tension, start_slope, end_slope));
+    let bytes = entries_of(curve, kind_of(kind, tension, start_slope, end_slope));
     copy_bytes(&bytes, table);
     answer.number()
 }
@@ -79,14 +79,13 @@ pub extern "C" fn tone_fine_table(
         (now (table .entry)) r (now (table .exit))
         ⌝ }
 {
-    let given = given::read(points, kind);
-    let answer = given.answer;
+    let curve = given::curve_of(points);
+    let answer = first_of(given::check(curve, kind), length_answer(table.len()));
     if !answer.is_done() {
         return answer.number();
     }
-    let kind = kind_of(kind, tension, start_slope, end_slope);
-    let built = build_table(given.curve, kind, table);
-    built.number()
+    sample_curve(curve, kind_of(kind, tension, start_slope, end_slope), table);
+    answer.number()
 }
 
 // Replaces each value, in 0..1, by the height there of a fine table of
@@ -204,7 +203,7 @@ pub extern "C" fn tone_record_table(record: &[u8], table: &mut [u8]) -> u8
     }
     let set = read.set;
     let kind = set.interpolation;
-    let bytes = byte_table(set.master, kind);
+    let bytes = entries_of(set.master, kind);
     copy_bytes(&bytes, table);
     answer.number()
 }

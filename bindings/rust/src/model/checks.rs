@@ -12,9 +12,13 @@ fn unless(refused: bool, refusal: Refusal) -> Answer {
     }
 }
 
-/// 3, 5: a given list and a kind.
-pub fn given(points_length: usize, kind: u8) -> Answer {
-    unless(points_length / 2 > 64, Refusal::PointCount)?;
+/// 3, 20, 5: a given list, of three bytes a point, and a kind. "20 a height above 65,280 in a list
+/// or set [..] it is tested in each list after 3 and 4, before the next list and all later checks":
+/// in every point that is given, kept or not. Bytes left over behind the last whole point are none.
+pub fn given(points: &[u8], kind: u8) -> Answer {
+    let height = |point: &[u8]| u16::from_le_bytes([point[1], point[2]]);
+    unless(points.len() / 3 > 64, Refusal::PointCount)?;
+    unless(points.chunks_exact(3).any(|point| height(point) > 65_280), Refusal::HeightRange)?;
     unless(kind > 9, Refusal::UnknownKind)
 }
 

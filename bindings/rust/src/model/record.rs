@@ -1,11 +1,12 @@
-//! The stored record: what a reader must answer and a writer must write.
-use crate::{Kind, KindNumbers, Refusal};
+//! The stored record: what a reader must answer and a writer must write. "Today's stored record
+//! holds whole heights only": its y are levels, and its reader has no height to refuse.
+use crate::{Kind, KindNumbers, Point, Refusal};
 
-/// A master, three optional colours and a kind. A list is x, y pairs.
+/// A master, three optional colours and a kind.
 #[derive(Clone, Debug, Default, PartialEq, Eq)]
 pub struct Set {
-    pub master: Vec<u8>,
-    pub colours: [Option<Vec<u8>>; 3],
+    pub master: Vec<Point>,
+    pub colours: [Option<Vec<Point>>; 3],
     pub kind: Kind,
 }
 
@@ -56,22 +57,23 @@ fn take<'a>(left: &mut &'a [u8], count: usize) -> Result<&'a [u8], Refusal> {
 }
 
 /// "a missing count, 3, missing points, 4"
-fn list(left: &mut &[u8], least: u8) -> Result<Vec<u8>, Refusal> {
+fn list(left: &mut &[u8], least: u8) -> Result<Vec<Point>, Refusal> {
     let count = take(left, 1)?[0];
     // "3. A count of points is above 64, or a record's master count is 0."
     if count > 64 || count < least {
         return Err(Refusal::PointCount);
     }
-    let points = take(left, 2 * usize::from(count))?;
-    if !rises(points) {
+    let pairs = take(left, 2 * usize::from(count))?.chunks_exact(2);
+    let points: Vec<Point> = pairs.map(|pair| Point::at_level(pair[0], pair[1])).collect();
+    if !rises(&points) {
         return Err(Refusal::PointsNotRising);
     }
-    Ok(points.to_vec())
+    Ok(points)
 }
 
 /// "4. A record's or set's points don't strictly rise in x."
-pub fn rises(points: &[u8]) -> bool {
-    points.iter().step_by(2).zip(points.iter().skip(2).step_by(2)).all(|(a, b)| a < b)
+pub fn rises(points: &[Point]) -> bool {
+    points.windows(2).all(|pair| pair[0].x < pair[1].x)
 }
 
 /// "a missing kind byte, 5; then 6, and only then 2 for tension or slopes"
@@ -109,7 +111,7 @@ pub fn write(set: &Set) -> Vec<u8> {
 }
 
 /// A record with the lists of a set and what its kind carries: with bit 7 or without it, the kind
-/// named or not.
+/// named or not. Heights are whole: no call of the boundary writes a set with others.
 pub fn encode(set: &Set, newer: bool, named: bool) -> Vec<u8> {
     let mut record = vec![if newer { 0x80 } else { 0 }];
     if !set.master.is_empty() {
@@ -136,9 +138,9 @@ pub fn encode(set: &Set, newer: bool, named: bool) -> Vec<u8> {
 }
 
 /// "each a count byte, then x, y pairs"
-fn add_list(record: &mut Vec<u8>, bit: u8, points: &[u8]) {
-    add(record, bit, &[(points.len() / 2) as u8]);
-    record.extend_from_slice(points);
+fn add_list(record: &mut Vec<u8>, bit: u8, points: &[Point]) {
+    add(record, bit, &[points.len() as u8]);
+    record.extend(points.iter().flat_map(|p| [p.x, p.level().expect("a whole height")]));
 }
 
 fn add(record: &mut Vec<u8>, bit: u8, field: &[u8]) {

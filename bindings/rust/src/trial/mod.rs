@@ -8,13 +8,18 @@ mod page;
 mod pictures;
 mod random;
 mod records;
+mod vectors;
 
 pub use lent::{Element, Lent};
-pub use lists::{any_list, distinct, kind, rising_list, Question};
-pub use page::{page_questions, statements, Statement};
+pub use lists::{
+    any_finer_list, any_list, distinct, height, kind, never_falling, rising_list, Question,
+    EXTREME_HEIGHTS,
+};
+pub use page::{statements_of, Page, Statement};
 pub use pictures::{damaged, shape, Contents};
 pub use random::Random;
 pub use records::{any_record, any_set, full_record, in_full, legal_record};
+pub use vectors::{refused_vectors, Vector, FINE_SAMPLES, VECTORS};
 
 /// The word after an option of the command line.
 pub fn word(name: &str) -> Option<String> {

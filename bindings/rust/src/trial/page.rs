@@ -1,22 +1,61 @@
-//! The page of the ten kinds, `Kinds.antt` of the crate `examples`: the lists that it names and
-//! what it states of them.
+//! Two pages of the crate `examples`: that of the ten kinds, `Kinds.antt`, and that of finer
+//! heights, `Fine.antt`. The lists that they name and what they state of them.
 //!
-//! A statement goes from `pub NAME :` to `unfolding` and has one of three forms,
+//! A line that is indented belongs to the one before it. A statement is three lines,
+//!
+//! - `pub NAME : STATED`,
+//! - `unfolding ..`,
+//! - `NAME = refl`,
+//!
+//! and what is stated has one of three forms,
 //!
 //! - `entries KIND LIST PLACES ≡ NUMBERS`,
 //! - `entryOf KIND LIST PLACE ≡ NUMBER`,
 //! - `bits KIND LIST PLACE ≡ NUMBER`.
 //!
-//! A line `NAME = .. ∷ []` gives a list a name.
+//! A point of a list is `atLevel x n`, n a level, or `pt x h`, h a height in 256ths of a level. A
+//! line `NAME = .. ∷ []` gives a list a name.
 use super::Question;
-use crate::{Kind, KindNumbers};
+use crate::{Kind, KindNumbers, Point};
 use std::collections::HashMap;
 use std::vec::IntoIter;
 
-const PAGE: &str = concat!(env!("CARGO_MANIFEST_DIR"), "/../../crates/examples/specs/Kinds.antt");
+const FOLDER: &str = concat!(env!("CARGO_MANIFEST_DIR"), "/../../crates/examples/specs");
 
-/// What the page states of one table of 256.
-#[derive(Debug)]
+/// A page of the crate `examples`.
+#[derive(Clone, Copy, Debug, PartialEq, Eq)]
+pub enum Page {
+    /// Points at levels: the original has the numbers.
+    Kinds,
+    /// Points at finer heights: the model has them.
+    Fine,
+}
+
+impl Page {
+    fn text(self) -> String {
+        let path = format!("{FOLDER}/{self:?}.antt");
+        std::fs::read_to_string(&path).unwrap_or_else(|e| panic!("{path}: {e}"))
+    }
+
+    /// All that the page states.
+    pub fn statements(self) -> Vec<Statement> {
+        statements_of(&self.text())
+    }
+
+    /// The questions of the page, each once.
+    pub fn questions(self) -> Vec<Question> {
+        let mut all = Vec::new();
+        for statement in self.statements() {
+            if !all.contains(&statement.question) {
+                all.push(statement.question);
+            }
+        }
+        all
+    }
+}
+
+/// What a page states of one table of 256.
+#[derive(Debug, PartialEq, Eq)]
 pub struct Statement {
     pub name: String,
     pub question: Question,
@@ -34,45 +73,52 @@ impl Statement {
     }
 }
 
-/// All that the page states. It panics at a statement of another form.
-pub fn statements() -> Vec<Statement> {
-    let text = std::fs::read_to_string(PAGE).unwrap_or_else(|e| panic!("{PAGE}: {e}"));
-    let lines = text.lines().filter(|l| !l.starts_with("--"));
-    let code = lines.map(|l| format!("{l}\n")).collect::<String>();
-    let named: HashMap<&str, &str> =
-        code.lines().filter(|l| l.ends_with("[]")).filter_map(|l| l.split_once(" = ")).collect();
-    let stated = code.split("\npub ").skip(1);
-    stated.map(|s| statement(s.split("\nunfolding").next().unwrap(), &named)).collect()
-}
-
-/// The questions of the page, each once.
-pub fn page_questions() -> Vec<Question> {
-    let mut all = Vec::new();
-    for statement in statements() {
-        if !all.contains(&statement.question) {
-            all.push(statement.question);
+/// All that a page's text states. It panics at a statement of another form.
+pub fn statements_of(text: &str) -> Vec<Statement> {
+    let lines = whole_lines(text);
+    let named: HashMap<&str, &str> = lines
+        .iter()
+        .filter(|line| line.ends_with("[]"))
+        .filter_map(|line| line.split_once(" = "))
+        .map(|(name, list)| (name.trim(), list))
+        .collect();
+    let mut statements = Vec::new();
+    for (i, line) in lines.iter().enumerate() {
+        if let Some(stated) = line.strip_prefix("pub ") {
+            statements.push(statement(stated, &lines[i + 1..], &named));
         }
     }
-    all
+    statements
 }
 
-fn statement(text: &str, named: &HashMap<&str, &str>) -> Statement {
-    let (name, said) = text.split_once(':').expect("a statement has a name");
-    let named = |word: &str| named.get(word).map_or(word.to_owned(), |list| format!("({list})"));
-    let said: String = said.split_whitespace().map(|w| named(w) + " ").collect();
+/// The lines without the comments, each with the indented ones behind it.
+fn whole_lines(text: &str) -> Vec<String> {
+    let mut lines: Vec<String> = Vec::new();
+    for line in text.lines().filter(|line| !line.trim_start().starts_with("--")) {
+        match lines.last_mut() {
+            Some(whole) if line.starts_with(' ') => whole.push_str(line),
+            _ => lines.push(line.to_owned()),
+        }
+    }
+    lines
+}
+
+/// `NAME : STATED`, and the lines behind it.
+fn statement(text: &str, behind: &[String], named: &HashMap<&str, &str>) -> Statement {
+    let (name, said) = text.split_once(" : ").expect("a statement has a name");
+    let name = name.trim().to_owned();
+    assert!(behind[0].starts_with("unfolding "), "{text}: {}", behind[0]);
+    assert_eq!(behind[1], format!("{name} = refl"), "{text}");
+    let in_full = |word: &str| named.get(word).map_or(word.to_owned(), |list| format!("({list})"));
+    let said: String = said.split_whitespace().map(|word| in_full(word) + " ").collect();
     let mut words = Words::of(&said);
     let form = words.next();
     let numbers = words.kind();
     let question = Question { points: words.points(), numbers };
     let places = words.numbers().into_iter().map(|v| v as usize).collect();
     words.expect("≡");
-    let statement = Statement {
-        name: name.trim().to_owned(),
-        question,
-        places,
-        of_bits: form == "bits",
-        values: words.numbers(),
-    };
+    let statement =
+        Statement { name, question, places, of_bits: form == "bits", values: words.numbers() };
     assert!(["entries", "entryOf", "bits"].contains(&&*form), "{text}: no form of the page");
     assert_eq!(words.0.len(), 0, "{text}: more than a statement");
     assert_eq!(statement.places.len(), statement.values.len(), "{text}");
@@ -145,18 +191,29 @@ impl Words {
         kind
     }
 
-    /// `(pt x y ∷ .. ∷ [])`, as x, y pairs.
-    fn points(&mut self) -> Vec<u8> {
+    /// `(POINT ∷ .. ∷ [])`
+    fn points(&mut self) -> Vec<Point> {
         self.expect("(");
         let mut points = Vec::new();
-        while self.ahead() == "pt" {
-            self.next();
-            points.extend([0; 2].map(|_: u8| u8::try_from(self.number()).unwrap()));
+        while self.ahead() != "[]" {
+            points.push(self.point());
             self.expect("∷");
         }
         self.expect("[]");
         self.expect(")");
         points
+    }
+
+    /// `atLevel x n`, n a level, or `pt x h`, h a height.
+    fn point(&mut self) -> Point {
+        let form = self.next();
+        let x = u8::try_from(self.number()).unwrap();
+        let y = self.number();
+        match &*form {
+            "atLevel" => Point::at_level(x, u8::try_from(y).unwrap()),
+            "pt" => Point { x, height: u16::try_from(y).unwrap() },
+            _ => panic!("{form}: no point"),
+        }
     }
 
     /// One number, or a list of them with or without parentheses.

@@ -1,7 +1,7 @@
 //! Random sets, and records that are good, damaged or anything.
 use super::{kind, rising_list, Random};
 use crate::model::record::{encode, read, stands, unnamed, Set};
-use crate::Kind;
+use crate::{Kind, Point};
 
 /// A set whose lists rise, with any colours and any kind.
 pub fn any_set(random: &mut Random) -> Set {
@@ -14,7 +14,7 @@ pub fn any_set(random: &mut Random) -> Set {
 }
 
 /// Often few points, now and then none or all 64.
-fn any_rising(random: &mut Random) -> Vec<u8> {
+fn any_rising(random: &mut Random) -> Vec<Point> {
     let count = match random.below(6) {
         0 => random.below(65),
         1 => random.of(&[0, 1, 63, 64]),

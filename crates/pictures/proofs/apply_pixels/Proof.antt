@@ -68,7 +68,7 @@ returns c =
 
 tone-first-requires : tie.Need-tone-first-requires
 tone-first-requires c κs =
-    let known = accepted (c .before) in ((known .lists, known .supported), (known .plane .rows, known .room))
+    let known = accepted (c .before) in (known .supported, (known .plane .rows, known .room))
 
 mul-row : tie.Need-mul-row
 mul-row c =

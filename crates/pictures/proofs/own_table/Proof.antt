@@ -2,13 +2,11 @@
 use native.Mathlib.Omega.{arith}
 use mathlib.Core.Path.{sym, _∙_}
 use mathlib.Core.Bool.{true≢false}
-use Rattle.points.specs.declared.Heights.the-variants.{Fine}
-use Rattle.sets.specs.Legal.{passed-table}
 use Rattle.pictures.proofs.own_table.Statement.{statement}
 use Rattle.pictures.proofs.own_table.Tie as tie
 
 returns : tie.Need-returns
-returns c present = c .byte-table .ensures ∙ passed-table Fine _ _ (c .before .before .pre present)
+returns c present = c .entries-of .ensures
 
 returns-2 : tie.Need-returns-2
 returns-2 c present = absurd (true≢false (sym present ∙ c .if1 .left))

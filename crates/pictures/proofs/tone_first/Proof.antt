@@ -1,36 +1,17 @@
 -- `tone_first`: the kernel is given the table of each channel.
 use native.Mathlib.Omega.{arith}
-use mathlib.Core.Path.{_∙_}
-use Rattle.points.specs.declared.Heights.the-variants.{Fine}
 use Rattle.sets.specs.Sets.{viewOf}
-use Rattle.sets.specs.Legal.{Passed, passed-set, passed-table}
 use Rattle.formats.specs.FormatLaws.{tight}
-use Rattle.pictures.proofs.Kernels.{used-passes, chosen-is, tight-rows-by}
+use Rattle.pictures.proofs.Kernels.{chosen-is, tight-rows-by}
 use Rattle.pictures.proofs.tone_first.Statement.{statement}
 use Rattle.pictures.proofs.tone_first.Tie as tie
-
--- the set's lists have passed
-passed : (c : tie.After-by-colour) → Passed Fine (c .before .before .before .args .set)
-passed c = passed-set Fine _ (c .before .before .before .pre .0 .0)
-
-own-table-requires : tie.Need-own-table-requires
-own-table-requires c κs = let by = c .before .before .before .before in
-    used-passes (by .by-colour .result) _ (passed by .red)
-
-own-table-requires-2 : tie.Need-own-table-requires-2
-own-table-requires-2 c κs = let by = c .before .before .before .before .before in
-    used-passes (by .by-colour .result) _ (passed by .green)
-
-own-table-requires-3 : tie.Need-own-table-requires-3
-own-table-requires-3 c κs = let by = c .before .before .before .before .before .before in
-    used-passes (by .by-colour .result) _ (passed by .blue)
 
 tone-rows-into-requires : tie.Need-tone-rows-into-requires
 tone-rows-into-requires c κs =
     let k = c .before .before .before .before .before .before .before .before .before .before in
     let start = k .before .before .before .before .before .before .before .before .before .before .before in
     rw (k .bytes-a-pixel .ensures)
-    (tight (start .args .format) (start .pre .0 .1) .0, start .pre .1 .0, start .pre .1 .1)
+    (tight (start .args .format) (start .pre .0) .0, start .pre .1 .0, start .pre .1 .1)
 
 returns : tie.Need-returns
 returns c =
@@ -46,8 +27,8 @@ returns c =
     let by = master .before .before .before .before in
     let start = by .before .before .before in
     let set = start .args .set in
-    let built = master .byte-table .ensures ∙ passed-table Fine _ _ (passed by .master) in
-    tight-rows-by (start .args .format) (viewOf set) _ _ _ _ _ (start .pre .0 .1) (by .by-colour .ensures)
+    let built = master .entries-of .ensures in
+    tight-rows-by (start .args .format) (viewOf set) _ _ _ _ _ (start .pre .0) (by .by-colour .ensures)
     (k .bytes-a-pixel .ensures)
     (chosen-is _ (set .red) _ built (by .by-colour .result) (own-red .own-table .ensures) (red .chosen-table .ensures))
     (chosen-is _ (set .green) _ built (by .by-colour .result) (own-green .own-table2 .ensures)
@@ -61,9 +42,7 @@ tone-first-spec =
     tie.close
     (tie.spec
     (omega arith) (omega arith)
-    own-table-requires
-    own-table-requires-2
-    own-table-requires-3
+    (omega arith) (omega arith) (omega arith)
     (omega arith) (omega arith) (omega arith) (omega arith)
     tone-rows-into-requires
     (omega arith)

@@ -1,24 +1,15 @@
 -- `tables::build_table`: refused, with the slice as it was; else the list is sampled.
 use mathlib.Core.Path.{_≡_, sym, _∙_}
-use mathlib.Core.Bool.{true}
 use mathlib.Core.List.{[], _∷_}
 use lib.ListN.{length}
-use Prim.Native.Nat.{ℕ, _≤_}
-use native.Mathlib.Decide.{ℕ-discrete}
 use native.Mathlib.Omega.{arith}
-use borrow.Author.Tests.{ne-eqb, eqb-true, not-false}
 use Rattle.answers.specs.Numbers.{done-is}
-use Rattle.answers.specs.Checks.{firstRefusal, first-then, done-append, all-passed}
+use Rattle.answers.specs.Checks.{firstRefusal, first-then, done-append}
 use Rattle.points.specs.Points.{listChecks}
-use Rattle.tables.specs.Tables.{isTableLength, lengthCheck, tableChecks}
+use Rattle.tables.specs.Tables.{lengthCheck, tableChecks}
+use Rattle.tables.specs.Lengths.{length-passed}
 use Rattle.tables.proofs.build_table.Statement.{statement}
 use Rattle.tables.proofs.build_table.Tie as tie
-
-two-to-4096 : (S : ℕ) → isTableLength S ≡ true → (2 ≤ S) × (S ≤ 4096)
-two-to-4096 S e = elim (ℕ-discrete S 256) [
-  | yes is ↦ (omega arith, omega arith)
-  | no other ↦ let is : S ≡ 4096 = eqb-true S 4096 (rw (ne-eqb S 256 other) at e) in (omega arith, omega arith)
-]
 
 answered : (c : tie.After-first-of)
     → let A = c .before .before .before .before .args in
@@ -36,7 +27,7 @@ sample-curve-requires c κs =
     let passed =
     done-append (listChecks (A .curve)) room
     (sym (answered (k .before)) ∙ done-is _ (sym (k .is-done .ensures) ∙ c .before .if1 .taken)) in
-    two-to-4096 _ (not-false _ (all-passed room (passed .1) .0))
+    length-passed _ (passed .1)
 
 returns : tie.Need-returns
 returns c =

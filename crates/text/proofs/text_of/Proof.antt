@@ -24,10 +24,8 @@ use Rattle.answers.specs.declared.Answer.the-variants.{
   HeightRange,
 }
 use Rattle.answers.specs.Numbers.{numberOf, isDone}
-use Rattle.points.specs.declared.Heights.the-variants.{Whole}
 use Rattle.points.specs.Points.{listOf}
 use Rattle.tables.specs.Tables.{byteTable}
-use Rattle.sets.specs.Legal.{passed-set, passed-table}
 use Rattle.records.specs.declared.RecordRead.{RecordRead}
 use Rattle.records.specs.Views.{ReadRecordCall}
 use Rattle.text.specs.Text.{tableText, refusalText, printed}
@@ -69,10 +67,8 @@ returns c =
     let b = c .before .before in
     let test = b .before .before .before in
     let done = test .before in
-    let read = done .before in
-    let r = read .read-record in
-    let passed = passed-set Whole (r .result .set) (r .ensures .legal) in (
-      t .0 ∙ ap tableText (b .byte-table .ensures ∙ passed-table Whole _ _ (passed .master))
+    let read = done .before in (
+      t .0 ∙ ap tableText (b .entries-of .ensures)
           ∙ read-text (read .before .before .args .bytes .now) (read .read-record .result) (read .read-record .ensures)
           (sym (done .is-done .ensures) ∙ test .if1 .taken),
       t .1,

@@ -1,60 +1,67 @@
--- `tone_fine_table`: 3, 20 and 5 first, with the table as it was; the rest is the fine table's own
--- call.
+-- `tone_fine_table`: refused, with the table as it was; else the samples are written.
 use native.Mathlib.Omega.{arith}
-use mathlib.Core.Path.{_≡_, refl, sym, ap, _∙_}
+use mathlib.Core.Path.{_≡_, sym, ap, _∙_}
 use mathlib.Core.List.{[], _∷_}
 use lib.ListN.{length}
 use mir.Facts.{toZ-ofZ}
 use Rattle.answers.specs.declared.Answer.the-variants.{Done}
 use Rattle.answers.specs.Numbers.{numberOf, asked-refused, asked-done}
-use Rattle.answers.specs.Checks.{first-stops, first-goes-on}
+use Rattle.answers.specs.Checks.{firstRefusal, first-then, done-append}
 use Rattle.tables.specs.Tables.{lengthCheck}
-use Rattle.points.specs.Points.{listChecks}
-use Rattle.tone_c.specs.Boundary.{givenChecks}
-use Rattle.tone_c.proofs.GivenList.{list-passed}
+use Rattle.tables.specs.Lengths.{length-passed}
+use Rattle.tone_c.specs.Boundary.{givenChecks, toneFineTableChecks}
+use Rattle.tone_c.proofs.GivenList.{same-checks, list-given}
 use Rattle.tone_c.proofs.tone_fine_table.Statement.{statement}
 use Rattle.tone_c.proofs.tone_fine_table.Tie as tie
 
-accepted : (c : tie.Else1) → c .before .before .read .result .answer ≡ Done
-accepted c = asked-done _ (c .before .is-done .ensures) (c .if1 .left)
+answered : (c : tie.After-first-of)
+    → let A = c .before .before .before .before .before .before .args in
+    c .first-of .result ≡ firstRefusal (toneFineTableChecks (A .points .now) (A .kind) (length (A .table .now)))
+answered c =
+    let A = c .before .before .before .before .before .before .args in
+    first-then (givenChecks (A .points .now) (A .kind)) (lengthCheck (length (A .table .now)) ∷ [])
+    (c .before .before .check .ensures ∙ same-checks (c .before .before .before .curve-of .ensures) (A .kind))
+    (c .before .length-answer .ensures) (c .first-of .ensures)
+
+-- past the refusal
+accepted : (c : tie.Else1)
+    → let A = c .before .before .before .before .before .before .before .before .args in
+    (firstRefusal (givenChecks (A .points .now) (A .kind)) ≡ Done)
+    × (firstRefusal (lengthCheck (length (A .table .now)) ∷ []) ≡ Done)
+accepted c =
+    let A = c .before .before .before .before .before .before .before .before .args in
+    done-append (givenChecks (A .points .now) (A .kind)) (lengthCheck (length (A .table .now)) ∷ [])
+    (sym (answered (c .before .before)) ∙ asked-done _ (c .before .is-done .ensures) (c .if1 .left))
 
 returns : tie.Need-returns
 returns c =
     let k = c .before .before in
-    let no = asked-refused (k .before .read .result .answer) (k .is-done .ensures) (c .before .if1 .taken) in
-    let A = k .before .before .before .before .args in
     record {
-      number = c .number .ensures
-          ∙ ap numberOf
-          (first-stops (givenChecks (A .points .now) (A .kind)) (lengthCheck (length (A .table .now)) ∷ [])
-          (k .before .read .ensures .answer) no);
-      table = rw (c .number .ensures, no);
+      number = c .number .ensures ∙ ap numberOf (answered (k .before));
+      table = rw (
+        c .number .ensures,
+        asked-refused (k .before .first-of .result) (k .is-done .ensures) (c .before .if1 .taken),
+      );
     }
 
--- 14, or the table
 returns-2 : tie.Need-returns-2
 returns-2 c =
     let t = c .before .before .before in
     let k = t .before .before in
-    let read = k .before .before .before .read in
-    let s = k .before .before .before .before .before .before in
-    let done = accepted (k .before) in
-    let built = t .build-table .ensures in
+    let test = k .before in
+    let given = test .before .before .before .before .before in
+    let s = given .before .before .before in
     record {
-      number =
-          c .number2 .ensures
-          ∙ ap numberOf
-          (first-goes-on (givenChecks (s .args .points .now) (s .args .kind))
-          (lengthCheck (length (s .args .table .now)) ∷ []) (sym (read .ensures .answer) ∙ done)
-          (built .answer
-          ∙ sym (first-goes-on (listChecks (read .result .curve)) (lengthCheck (length (s .args .table .now)) ∷ [])
-          (list-passed (read .ensures) done) refl)));
+      number = c .number2 .ensures ∙ ap numberOf (answered (test .before .before));
       table =
-          rw (c .number2 .ensures)
-          (built .table
+          rw (
+            c .number2 .ensures,
+            asked-done (test .before .before .first-of .result) (test .before .is-done .ensures) (test .if1 .left),
+          )
+          (t .sample-curve .ensures
           ∙ rw (
             k .kind-of .ensures,
-            read .ensures .list done .0,
+            list-given (given .curve-of .ensures) (s .args .kind) (accepted test .0),
             toZ-ofZ (s .fits .start-slope),
             toZ-ofZ (s .fits .end-slope),
           ));
@@ -64,7 +71,9 @@ pub tone-fine-table-spec : {M : Type 1} → statement M
 tone-fine-table-spec =
     tie.close
     (tie.spec
-    (omega arith) (omega arith) (omega arith)
+    (omega arith) (omega arith) (omega arith) (omega arith) (omega arith) (omega arith)
     returns
-    (omega arith) (omega arith) (omega arith) (omega arith)
+    (omega arith)
+    (λ c κs. length-passed _ (accepted (c .before .before) .1))
+    (omega arith) (omega arith)
     returns-2)

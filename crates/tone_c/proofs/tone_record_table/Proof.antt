@@ -8,9 +8,7 @@ use lib.ListN.{length}
 use Rattle.answers.specs.Numbers.{numberOf, asked-refused, asked-done}
 use Rattle.answers.specs.Checks.{firstRefusal, roomCheck, first-then, done-append, has-room}
 use Rattle.tables.specs.Tables.{byteTable}
-use Rattle.points.specs.declared.Heights.the-variants.{Whole}
 use Rattle.sets.specs.Sets.{View}
-use Rattle.sets.specs.Legal.{passed-set, passed-table}
 use Rattle.records.specs.Checks.{recordChecks}
 use Rattle.records.specs.CheckLaws.{read-answer}
 use Rattle.tone_c.specs.Boundary.{toneRecordTableChecks}
@@ -39,7 +37,7 @@ returns c =
 
 copy-bytes-requires : tie.Need-copy-bytes-requires
 copy-bytes-requires c κs =
-    let long : length (c .before .before .byte-table .result) ≡ 256 = search needs in
+    let long : length (c .before .before .entries-of .result) ≡ 256 = search needs in
     let k = c .before .before .before .before in
     let done = sym (answered (k .before .before)) ∙ asked-done _ (k .before .is-done .ensures) (k .if1 .left) in
     let A = k .before .before .before .before .before .before .before .args in
@@ -54,8 +52,7 @@ returns-2 c =
     let k = b .before .before in
     let read = k .before .before .before .before .read-record .ensures in
     let master = ap (λ (set : View). byteTable (set .kind) (set .master)) (read .set) in
-    let long : length (b .byte-table .result) ≡ 256 = search needs in
-    let table = passed-table Whole _ _ (passed-set Whole _ (read .legal) .master) in
+    let long : length (b .entries-of .result) ≡ 256 = search needs in
     record {
       number = c .number2 .ensures ∙ ap numberOf (answered (k .before .before));
       table =
@@ -63,7 +60,7 @@ returns-2 c =
             c .number2 .ensures,
             asked-done (k .before .before .first-of .result) (k .before .is-done .ensures) (k .if1 .left),
           )
-          (rw (long, b .byte-table .ensures ∙ table ∙ master) at (t .copy-bytes .ensures));
+          (rw (long, b .entries-of .ensures ∙ master) at (t .copy-bytes .ensures));
     }
 
 pub tone-record-table-spec : {M : Type 1} → statement M

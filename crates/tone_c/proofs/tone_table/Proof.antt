@@ -9,25 +9,26 @@ use Rattle.answers.specs.declared.Answer.the-variants.{Done}
 use Rattle.answers.specs.Numbers.{numberOf, asked-refused, asked-done}
 use Rattle.answers.specs.Checks.{firstRefusal, roomCheck, first-then, done-append, has-room}
 use Rattle.tone_c.specs.Boundary.{givenChecks, toneTableChecks}
-use Rattle.tone_c.proofs.GivenList.{list-table}
+use Rattle.tone_c.proofs.GivenList.{same-checks, list-given}
 use Rattle.tone_c.proofs.tone_table.Statement.{statement}
 use Rattle.tone_c.proofs.tone_table.Tie as tie
 
 answered : (c : tie.After-first-of)
-    → let A = c .before .before .before .before .before .args in
+    → let A = c .before .before .before .before .before .before .args in
     c .first-of .result ≡ firstRefusal (toneTableChecks (A .points .now) (A .kind) (length (A .table .now)))
 answered c =
-    let A = c .before .before .before .before .before .args in
+    let A = c .before .before .before .before .before .before .args in
     first-then (givenChecks (A .points .now) (A .kind)) (roomCheck 256 (length (A .table .now)) ∷ [])
-    (c .before .before .read .ensures .answer) (c .before .room-for .ensures) (c .first-of .ensures)
+    (c .before .before .check .ensures ∙ same-checks (c .before .before .before .curve-of .ensures) (A .kind))
+    (c .before .room-for .ensures) (c .first-of .ensures)
 
 -- past the refusal
 accepted : (c : tie.Else1)
-    → let A = c .before .before .before .before .before .before .before .args in
+    → let A = c .before .before .before .before .before .before .before .before .args in
     (firstRefusal (givenChecks (A .points .now) (A .kind)) ≡ Done)
     × (firstRefusal (roomCheck 256 (length (A .table .now)) ∷ []) ≡ Done)
 accepted c =
-    let A = c .before .before .before .before .before .before .before .args in
+    let A = c .before .before .before .before .before .before .before .before .args in
     done-append (givenChecks (A .points .now) (A .kind)) (roomCheck 256 (length (A .table .now)) ∷ [])
     (sym (answered (c .before .before)) ∙ asked-done _ (c .before .is-done .ensures) (c .if1 .left))
 
@@ -44,7 +45,7 @@ returns c =
 
 copy-bytes-requires : tie.Need-copy-bytes-requires
 copy-bytes-requires c κs =
-    let long : length (c .before .before .byte-table .result) ≡ 256 = search needs in
+    let long : length (c .before .before .entries-of .result) ≡ 256 = search needs in
     rw long (has-room 256 _ (accepted (c .before .before .before .before) .1))
 
 returns-2 : tie.Need-returns-2
@@ -52,12 +53,9 @@ returns-2 c =
     let t = c .before .before .before in
     let b = t .before .before .before in
     let k = b .before .before in
-    let read = k .before .before .before .before in
-    let s = read .before .before .before in
-    let start = toZ-ofZ (s .fits .start-slope) in
-    let end = toZ-ofZ (s .fits .end-slope) in
-    let long : length (b .byte-table .result) ≡ 256 = search needs in
-    let table = list-table (read .read .ensures) (read .read .ensures .answer ∙ accepted k .0) _ in
+    let given = k .before .before .before .before .before in
+    let s = given .before .before .before in
+    let long : length (b .entries-of .result) ≡ 256 = search needs in
     record {
       number = c .number2 .ensures ∙ ap numberOf (answered (k .before .before));
       table =
@@ -65,7 +63,14 @@ returns-2 c =
             c .number2 .ensures,
             asked-done (k .before .before .first-of .result) (k .before .is-done .ensures) (k .if1 .left),
           )
-          (rw (long, b .byte-table .ensures ∙ table, b .before .kind-of .ensures, start, end)
+          (rw (
+            long,
+            b .entries-of .ensures,
+            b .before .kind-of .ensures,
+            list-given (given .curve-of .ensures) (s .args .kind) (accepted k .0),
+            toZ-ofZ (s .fits .start-slope),
+            toZ-ofZ (s .fits .end-slope),
+          )
           at (t .copy-bytes .ensures));
     }
 
@@ -73,7 +78,7 @@ pub tone-table-spec : {M : Type 1} → statement M
 tone-table-spec =
     tie.close
     (tie.spec
-    (omega arith) (omega arith) (omega arith) (omega arith) (omega arith)
+    (omega arith) (omega arith) (omega arith) (omega arith) (omega arith) (omega arith)
     returns
     (omega arith) (omega arith) (omega arith)
     copy-bytes-requires

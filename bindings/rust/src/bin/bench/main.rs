@@ -8,8 +8,9 @@
 //! Tables: both start from a given list, which for the original means `Curve::new` and then the
 //! table. The last columns have the original's table alone, from a curve made before. A block goes
 //! through so many lists. With few (16), the processor learns their branches by heart; a guide
-//! builds a list once, so 256 is the rule. The original runs with the root in place of `powf`, as
-//! it is compared; the two kinds that call `powf` are timed as published too.
+//! builds a list once, so 256 is the rule. Points are at levels, and each side gets them as it
+//! takes them: the port in three bytes a point. The original runs with the root in place of `powf`,
+//! as it is compared; the two kinds that call `powf` are timed as published too.
 //!
 //! Pictures: the one-table call tones the plane where it stands. In the set call both build their
 //! tables within the call, the port from a record, the original from a set made before; the port

@@ -1,6 +1,7 @@
 //! Records: reading one for its table, and reading and writing it.
 use super::clock::best;
 use std::hint::black_box;
+use tone::boundary;
 use tone::model::record::{write, Set};
 use tone::trial::{rising_list, Random};
 use tone::Kind;
@@ -13,6 +14,8 @@ pub fn all(rounds: u64, records: usize, random: &mut Random) {
     for count in [2, 8, 64] {
         let sets: Vec<Set> = (0..records).map(|_| set(count, random)).collect();
         let records: Vec<Vec<u8>> = sets.iter().map(write).collect();
+        let masters = sets.iter().map(|set| set.master.iter().flat_map(|point| point.to_bytes()));
+        let masters: Vec<Vec<u8>> = masters.map(|bytes| bytes.collect()).collect();
         let mut bytes = [0; tone::LONGEST_RECORD];
         let mut tables = [[0; 256]; 2];
         let [a, b] = &mut tables;
@@ -25,7 +28,7 @@ pub fn all(rounds: u64, records: usize, random: &mut Random) {
             black_box(&bytes);
         };
         let mut alone = |i: usize| {
-            tone::table(black_box(&sets[i].master), Kind::Linear, b).unwrap();
+            boundary::table(black_box(&masters[i]), Kind::Linear.into(), b).unwrap();
             black_box(&b);
         };
         let times = best(rounds, sets.len(), &mut [&mut table, &mut copy, &mut alone]);

@@ -1,9 +1,10 @@
 //! Tables and lookups.
 use super::clock::best;
 use std::hint::black_box;
+use tone::boundary;
 use tone::original::{curves, lookup, published};
 use tone::trial::{rising_list, Random};
-use tone::{Kind, KindNumbers};
+use tone::{Kind, KindNumbers, Point};
 
 const VALUES: usize = 1_000_000;
 
@@ -15,25 +16,43 @@ pub fn all(rounds: u64, lists: usize, random: &mut Random) {
     for number in 0..Kind::NAMES.len() as u8 {
         let numbers = KindNumbers { number, tension: 100, start_slope: 256, end_slope: -300 };
         for count in [2, 8, 64] {
-            let lists: Vec<Vec<u8>> = (0..lists).map(|_| rising_list(random, count)).collect();
+            let lists: Vec<List> = (0..lists).map(|_| List::random(count, random)).collect();
             tables(rounds, &lists, numbers.kind().expect("a number below 10"));
         }
     }
 }
 
-fn tables(rounds: u64, lists: &[Vec<u8>], kind: Kind) {
+/// Points at levels as each side takes them, so that neither has to make them in its time.
+struct List {
+    bytes: Vec<u8>,
+    pairs: Vec<(u8, u8)>,
+}
+
+impl List {
+    fn random(count: usize, random: &mut Random) -> List {
+        let points = rising_list(random, count);
+        let pair = |point: &Point| (point.x, point.level().expect("a level"));
+        List {
+            bytes: points.iter().flat_map(|point| point.to_bytes()).collect(),
+            pairs: points.iter().map(pair).collect(),
+        }
+    }
+}
+
+fn tables(rounds: u64, lists: &[List], kind: Kind) {
     let number = kind.number();
     let name = Kind::NAMES[usize::from(number)];
-    let count = lists[0].len() / 2;
-    let made: Vec<_> = lists.iter().map(|l| curves::curve(l)).collect();
-    let list = |i: usize| black_box(&lists[i]);
+    let count = lists[0].pairs.len();
+    let made: Vec<_> = lists.iter().map(|l| curves::curve_of_pairs(&l.pairs)).collect();
+    let points = |i: usize| black_box(&lists[i].bytes[..]);
+    let pairs = |i: usize| black_box(&lists[i].pairs[..]);
     let mut bytes = [0; 256];
     let mut port = |i: usize| {
-        tone::table(list(i), black_box(kind), &mut bytes).unwrap();
+        boundary::table(points(i), black_box(kind).into(), &mut bytes).unwrap();
         black_box(&bytes);
     };
     let mut original = |i: usize| {
-        black_box(curves::byte_table(&curves::curve(list(i)), black_box(kind)));
+        black_box(curves::byte_table(&curves::curve_of_pairs(pairs(i)), black_box(kind)));
     };
     let mut table_alone = |i: usize| {
         black_box(curves::byte_table(black_box(&made[i]), black_box(kind)));
@@ -45,7 +64,8 @@ fn tables(rounds: u64, lists: &[Vec<u8>], kind: Kind) {
     );
     if number == 5 || number == 6 {
         let mut original = |i: usize| {
-            black_box(published::byte_table(&published::curve(list(i)), black_box(kind)));
+            let curve = published::curve_of_pairs(pairs(i));
+            black_box(published::byte_table(&curve, black_box(kind)));
         };
         case(
             &format!("{name}, with powf"),
@@ -56,11 +76,12 @@ fn tables(rounds: u64, lists: &[Vec<u8>], kind: Kind) {
     for samples in [256, 4096] {
         let mut table = vec![0.0; samples];
         let mut port = |i: usize| {
-            tone::fine_table(list(i), black_box(kind), &mut table).unwrap();
+            boundary::fine_table(points(i), black_box(kind).into(), &mut table).unwrap();
             black_box(&table);
         };
         let mut original = |i: usize| {
-            black_box(curves::fine_table(&curves::curve(list(i)), black_box(kind), samples));
+            let curve = curves::curve_of_pairs(pairs(i));
+            black_box(curves::fine_table(&curve, black_box(kind), samples));
         };
         let mut table_alone = |i: usize| {
             black_box(curves::fine_table(black_box(&made[i]), black_box(kind), samples));

@@ -1,5 +1,5 @@
 //! A run: its sections, what it has counted, and how it judges an answer.
-use super::{pictures, records, segments, tables};
+use super::{finer, pictures, records, segments, tables};
 use std::env;
 use std::fmt::Debug;
 use std::process::exit;
@@ -18,10 +18,21 @@ pub struct Tally {
     pub lookups: u64,
     pub picture_bytes: u64,
     pub records: u64,
+    /// Entries and samples of the model that were held to the original's.
+    pub modelled: u64,
+    /// Tables of finer heights, which were held to the model's.
+    pub finer_tables: u64,
+    pub finer_entries: u64,
+    pub finer_samples: u64,
+    /// Entries of theirs at the x of a kept point, entries near the exact broken line, and tables
+    /// that never fall.
+    pub at_points: u64,
+    pub near_lines: u64,
+    pub in_order: u64,
     /// Accepted pictures on which the original would panic.
     pub beyond: u64,
     /// By their numbers.
-    pub refusals: [u64; 15],
+    pub refusals: [u64; 32],
     pub differences: u64,
 }
 
@@ -34,12 +45,17 @@ pub struct Trial {
 /// A section's name, its share of the time, and what it does again and again.
 type Section = (&'static str, u32, fn(&mut Trial));
 
-const SECTIONS: [Section; 9] = [
+const SECTIONS: [Section; 14] = [
     ("byte tables", 3, tables::byte_table),
     ("fine tables of 256", 1, |t| tables::fine_table(t, 256)),
     ("fine tables of 4,096", 2, |t| tables::fine_table(t, 4096)),
     ("lookups", 1, tables::lookups),
     ("tables and lookups, some refused", 1, tables::refused),
+    ("the model beside the original", 2, finer::model),
+    ("finer heights, byte tables", 3, finer::byte_table),
+    ("finer heights, fine tables of 256", 1, |t| finer::fine_table(t, 256)),
+    ("finer heights, fine tables of 4,096", 2, |t| finer::fine_table(t, 4096)),
+    ("finer heights, some refused", 2, finer::refused),
     ("pictures by one table", 3, pictures::one_table),
     ("pictures by a set", 4, pictures::by_set),
     ("pictures, some refused", 2, pictures::refused),
@@ -64,6 +80,8 @@ impl Trial {
         self.section(&format!("all records of up to {most} bytes"), |t| records::short(t, most));
         if !quick {
             self.section("tables of every slope", tables::every_slope);
+            self.section("tables of every height", finer::every_height);
+            self.section("tables of extreme heights", finer::extremes);
             self.section("pictures at the limits", pictures::at_the_limits);
         }
         let shares: u32 = SECTIONS.iter().map(|s| s.1).sum();
@@ -95,8 +113,16 @@ impl Trial {
         }
     }
 
+    /// A table to build of points at levels.
     pub fn question(&mut self) -> Question {
         let question = Question::random(&mut self.random);
+        self.tally.unsorted += u64::from(!question.rises());
+        question
+    }
+
+    /// A table to build of points at any height.
+    pub fn finer_question(&mut self) -> Question {
+        let question = Question::finer(&mut self.random);
         self.tally.unsorted += u64::from(!question.rises());
         question
     }
@@ -154,6 +180,13 @@ fn since(a: Tally, b: Tally) -> String {
         (b.lookups - a.lookups, "lookups"),
         (b.picture_bytes - a.picture_bytes, "picture bytes"),
         (b.records - a.records, "records"),
+        (b.modelled - a.modelled, "entries and samples of the model"),
+        (b.finer_tables - a.finer_tables, "tables of finer heights"),
+        (b.finer_entries - a.finer_entries, "their byte entries"),
+        (b.finer_samples - a.finer_samples, "their fine samples"),
+        (b.at_points - a.at_points, "bytes at a point's x"),
+        (b.near_lines - a.near_lines, "bytes near the line"),
+        (b.in_order - a.in_order, "tables in order"),
         (b.beyond - a.beyond, "where the original panics"),
         (refusals(b) - refusals(a), "refusals"),
     ];

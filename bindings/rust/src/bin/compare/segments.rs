@@ -2,7 +2,7 @@
 use super::run::Trial;
 use tone::original::curves;
 use tone::trial::grouped;
-use tone::Kind;
+use tone::{Kind, Point};
 
 /// The most segments between the points of a list.
 const MOST: usize = 63;
@@ -43,9 +43,9 @@ fn heights() -> Vec<u8> {
 
 /// A list of `count` segments of one width, its heights from the row.
 fn compare(t: &mut Trial, heights: &[u8], first: usize, start: usize, width: usize, count: usize) {
-    let height = |k: usize| heights[(first + k) % heights.len()];
-    let points: Vec<u8> =
-        (0..=count).flat_map(|k| [(start + k * width) as u8, height(k)]).collect();
+    let level = |k: usize| heights[(first + k) % heights.len()];
+    let points: Vec<Point> =
+        (0..=count).map(|k| Point::at_level((start + k * width) as u8, level(k))).collect();
     let mut table = [0; 256];
     let answer = tone::table(&points, Kind::Linear, &mut table);
     t.answered(answer, Ok(()), &points);

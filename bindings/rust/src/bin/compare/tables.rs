@@ -1,44 +1,73 @@
 //! Tables and lookups beside the original's.
 use super::run::Trial;
+use tone::boundary;
 use tone::model::checks::{self, Answer};
+use tone::model::curve;
 use tone::original::{curves, lookup};
 use tone::trial::{kind, Element, Lent, Question, Random};
-use tone::{Kind, KindNumbers};
+use tone::{Kind, KindNumbers, Point};
 
 pub fn byte_table(t: &mut Trial) {
     let question = t.question();
-    let room = 256 + t.random.below(3) * 7;
-    let mut points = Lent::new(&question.points);
-    let mut table = Lent::new(&vec![t.random.byte(); room]);
-    let answer = tone::table(points.lend(), question.numbers, table.lend());
-    t.answered(answer, Ok(()), &question);
-    same_bytes(t, &question, &table);
-    t.kept(&table, 256, &question);
-    t.kept(&points, 0, &question);
-}
-
-fn same_bytes(t: &mut Trial, question: &Question, table: &Lent<u8>) {
-    let original = curves::byte_table(&curves::curve(&question.points), question.kind());
-    t.same(&table.now()[..256], &original, question);
-    t.tally.entries += 256;
+    make_bytes(t, &question);
 }
 
 pub fn fine_table(t: &mut Trial, samples: usize) {
     let question = t.question();
-    let mut points = Lent::new(&question.points);
-    let mut table = Lent::new(&vec![t.random.float(); samples]);
-    let answer = tone::fine_table(points.lend(), question.numbers, table.lend());
-    t.answered(answer, Ok(()), &question);
-    same_samples(t, &question, &table);
-    t.kept(&table, samples, &question);
-    t.kept(&points, 0, &question);
+    make_samples(t, &question, samples);
 }
 
+/// Asks for a byte table and compares it with the one expected.
+pub fn make_bytes(t: &mut Trial, question: &Question) -> [u8; 256] {
+    let room = 256 + t.random.below(3) * 7;
+    let mut points = Lent::new(&question.bytes());
+    let mut table = Lent::new(&vec![t.random.byte(); room]);
+    let answer = boundary::table(points.lend(), question.numbers, table.lend());
+    t.answered(answer, Ok(()), question);
+    same_bytes(t, question, &table);
+    t.kept(&table, 256, question);
+    t.kept(&points, 0, question);
+    std::array::from_fn(|v| table.now()[v])
+}
+
+/// The original's bytes of points at levels, the model's of others.
+fn same_bytes(t: &mut Trial, question: &Question, table: &Lent<u8>) {
+    let table = &table.now()[..256];
+    if question.is_whole() {
+        let original = curves::byte_table(&curves::curve(&question.points), question.kind());
+        t.same(table, &original, question);
+        t.tally.entries += 256;
+    } else {
+        t.same(table, &curve::byte_table(&question.points, question.kind()), question);
+        t.tally.finer_tables += 1;
+        t.tally.finer_entries += 256;
+    }
+}
+
+/// Asks for a fine table and compares it with the one expected.
+pub fn make_samples(t: &mut Trial, question: &Question, samples: usize) {
+    let mut points = Lent::new(&question.bytes());
+    let mut table = Lent::new(&vec![t.random.float(); samples]);
+    let answer = boundary::fine_table(points.lend(), question.numbers, table.lend());
+    t.answered(answer, Ok(()), question);
+    same_samples(t, question, &table);
+    t.kept(&table, samples, question);
+    t.kept(&points, 0, question);
+}
+
+/// The original's samples of points at levels, the model's of others.
 fn same_samples(t: &mut Trial, question: &Question, table: &Lent<f32>) {
-    let samples = table.now().len();
-    let original = curves::fine_table(&curves::curve(&question.points), question.kind(), samples);
-    t.same(table.now(), &original, question);
-    t.tally.samples += samples as u64;
+    let (table, kind) = (table.now(), question.kind());
+    let samples = table.len();
+    if question.is_whole() {
+        let original = curves::fine_table(&curves::curve(&question.points), kind, samples);
+        t.same(table, &original, question);
+        t.tally.samples += samples as u64;
+    } else {
+        t.same(table, &curve::samples(&question.points, kind, samples), question);
+        t.tally.finer_tables += 1;
+        t.tally.finer_samples += samples as u64;
+    }
 }
 
 /// Each slope, at the start and at the end of a list that is level at 128, with short segments at
@@ -53,7 +82,7 @@ pub fn every_slope(t: &mut Trial) {
 }
 
 fn slopes(t: &mut Trial, start_slope: i16, end_slope: i16) -> [f32; 256] {
-    let points = [0, 128, 5, 128, 250, 128, 255, 128];
+    let points = [0, 5, 250, 255].map(|x| Point::at_level(x, 128));
     let kind = Kind::ClampedCubic { start_slope, end_slope };
     let mut samples = [0.0; 256];
     let answer = tone::fine_table(&points, kind, &mut samples);
@@ -115,28 +144,35 @@ fn value(random: &mut Random) -> f32 {
     }
 }
 
-/// Calls of which some are refused: the first refusal that applies must be the answer.
+/// Calls of points at levels of which some are refused: the first refusal that applies must be the
+/// answer. Some have bytes left over behind the last point.
 pub fn refused(t: &mut Trial) {
-    let mut points: Vec<u8> = (0..t.random.below(140)).map(|_| t.random.byte()).collect();
-    if !t.random.once_in(3) {
-        points.truncate(129);
-    }
-    let number =
-        if t.random.once_in(3) { t.random.byte() } else { t.random.below(Kind::NAMES.len()) as u8 };
-    let numbers: KindNumbers = kind(number, &mut t.random);
-    let listed = checks::given(points.len(), number);
-    let question = Question { points, numbers };
-    refused_table(t, &question, listed);
-    refused_fine_table(t, &question, listed);
+    let count = if t.random.once_in(3) { t.random.below(70) } else { t.random.below(65) };
+    let points = (0..count).map(|_| Point::at_level(t.random.byte(), t.random.byte()));
+    let points: Vec<Point> = points.collect();
+    refused_tables(t, points);
     refused_lookup(t);
 }
 
-fn refused_table(t: &mut Trial, question: &Question, listed: Answer) {
+/// Both table calls with any kind, any room and up to two bytes left over.
+pub fn refused_tables(t: &mut Trial, points: Vec<Point>) {
+    let number =
+        if t.random.once_in(3) { t.random.byte() } else { t.random.below(Kind::NAMES.len()) as u8 };
+    let numbers: KindNumbers = kind(number, &mut t.random);
+    let question = Question { points, numbers };
+    let left_over = t.random.below(3);
+    let bytes = [question.bytes(), t.random.bytes(left_over)].concat();
+    let listed = checks::given(&bytes, number);
+    refused_table(t, &question, &bytes, listed);
+    refused_fine_table(t, &question, &bytes, listed);
+}
+
+fn refused_table(t: &mut Trial, question: &Question, bytes: &[u8], listed: Answer) {
     let room = t.random.below(400);
     let expected = listed.and(checks::table_room(room));
-    let mut points = Lent::new(&question.points);
+    let mut points = Lent::new(bytes);
     let mut table = Lent::new(&vec![t.random.byte(); room]);
-    let answer = tone::table(points.lend(), question.numbers, table.lend());
+    let answer = boundary::table(points.lend(), question.numbers, table.lend());
     judged(t, answer, expected, &table, 256);
     t.kept(&points, 0, question);
     if expected.is_ok() {
@@ -144,16 +180,16 @@ fn refused_table(t: &mut Trial, question: &Question, listed: Answer) {
     }
 }
 
-fn refused_fine_table(t: &mut Trial, question: &Question, listed: Answer) {
+fn refused_fine_table(t: &mut Trial, question: &Question, bytes: &[u8], listed: Answer) {
     let samples = if t.random.once_in(4) {
         t.random.below(5000)
     } else {
         t.random.of(&[0, 1, 2, 255, 256, 257, 4095, 4096, 4097])
     };
     let expected = listed.and(checks::fine_length(samples));
-    let mut points = Lent::new(&question.points);
+    let mut points = Lent::new(bytes);
     let mut table = Lent::new(&vec![t.random.float(); samples]);
-    let answer = tone::fine_table(points.lend(), question.numbers, table.lend());
+    let answer = boundary::fine_table(points.lend(), question.numbers, table.lend());
     judged(t, answer, expected, &table, samples);
     t.kept(&points, 0, question);
     if expected.is_ok() {

@@ -1,9 +1,10 @@
 //! Stores samples of the Rust original's answers for the programs `replay` and
-//! `replay_pictures` of the gate.
+//! `replay_pictures` of the gate, and of the model's for finer heights, which the original does not
+//! have.
 //!
-//! `cargo run --release --bin store` writes their files `stdin`, the questions, and `stdout`, what
-//! the original answers. The port has no part in it. With `--check` it writes nothing, and fails
-//! where a file is not what it would write.
+//! `cargo run --release --bin store` writes their files `stdin`, the questions, and `stdout`, the
+//! answers. The port has no part in it. With `--check` it writes nothing, and fails where a file is
+//! not what it would write.
 #[cfg(original)]
 mod pictures;
 #[cfg(original)]
@@ -53,7 +54,7 @@ fn store(program: &str, sample: Sample) {
     for (path, text) in sample.files(program) {
         std::fs::write(&path, text).unwrap_or_else(|e| panic!("{}: {e}", path.display()));
     }
-    println!("{program}: {} questions and the original's answers", sample.asked.lines().count());
+    println!("{program}: {} questions and their answers", sample.asked.lines().count());
 }
 
 #[cfg(original)]
@@ -64,10 +65,7 @@ fn check(program: &str, sample: Sample) {
             std::process::exit(1);
         }
     }
-    println!(
-        "{program}: {} questions are stored with the original's answers",
-        sample.asked.lines().count()
-    );
+    println!("{program}: {} questions are stored with their answers", sample.asked.lines().count());
 }
 
 #[cfg(original)]
