@@ -245,8 +245,7 @@ pub fn sample_curve(curve: Curve, kind: CurveInterpolation, samples: &mut [f32])
     ensures { λ _. ⌜
         now (samples .exit) ≡ fineTable kind (listOf curve) (length (now (samples .entry))) ⌝ }
 {
-    let sorted = curve.sorted();
-    let knots = sorted.knots();
+    let knots = curve.given_knots();
     let xs = knots.xs;
     let ys = knots.ys;
     let n = knots.count;

@@ -1,4 +1,4 @@
--- `tables::sample_curve`: the knots of a sorted list are from 2 to 66, so `fill` has its rows.
+-- `tables::sample_curve`: the knots of a list are from 2 to 66, so `fill` has its rows.
 use mathlib.Core.Path.{_≡_, refl}
 use mathlib.Core.List.{List}
 use Prim.Native.Nat.{ℕ, _≤_}
@@ -9,8 +9,8 @@ use lib.Ieee.{Float}
 use Rattle.lists.specs.Tabulate.{tabulate}
 use Rattle.points.specs.declared.Curve.{Curve}
 use Rattle.points.specs.declared.Knots.{Knots}
-use Rattle.points.specs.Points.{listOf, kept, SortedList}
-use Rattle.points.specs.Knots.{knots, KnotsOf}
+use Rattle.points.specs.Points.{listOf, kept}
+use Rattle.points.specs.Knots.{givenKnots, KnotsOf}
 use Rattle.points.specs.Joined.{FullRows, places-long}
 use Rattle.points.specs.Owned.{list-length}
 use Rattle.points.specs.Kept.{kept-length}
@@ -23,12 +23,8 @@ use Rattle.tables.specs.Tables.{unclampedAt, sampleOf, fineTable}
 use Rattle.tables.proofs.sample_curve.Statement.{statement}
 use Rattle.tables.proofs.sample_curve.Tie as tie
 
--- ---- what sorting and the knots give
-module _ (given sorted : Curve) {k : Knots}
-    (s : SortedList (listOf given) sorted) (r : KnotsOf (knots (listOf sorted)) k) where
-  rows : KnotsOf (knots (kept (listOf given))) k
-  rows = rw (s .list) at r
-
+-- ---- what the knots give
+module _ (given : Curve) {k : Knots} (rows : KnotsOf (givenKnots (listOf given)) k) where
   count : FullRows given → (2 ≤ k .count) × (k .count ≤ 66)
   count full =
       let l = listOf given in
@@ -48,19 +44,16 @@ module _ (given sorted : Curve) {k : Knots}
 knot-values-requires : tie.Need-knot-values-requires
 knot-values-requires c κs =
     let k = c .before .before .before .before .before in
-    let n = k .before in
-    let given = n .before .before in
-    let few =
-    count (given .args .curve) (n .sorted .result) (n .sorted .ensures) (k .knots .ensures)
+    let given = k .before .before in
+    let few = count (given .args .curve) (k .given-knots .ensures)
     (search (given .good .0, length-unmapped)) in
     (few .0, few .1, refl)
 
 fill-requires : tie.Need-fill-requires
 fill-requires c κs =
     let k = c .before .before .before .before .before .before .before .before .before .before .before in
-    let n = k .before in
-    let given = n .before .before in (
-      count (given .args .curve) (n .sorted .result) (n .sorted .ensures) (k .knots .ensures)
+    let given = k .before .before in (
+      count (given .args .curve) (k .given-knots .ensures)
           (search (given .good .0, length-unmapped)),
       given .pre,
     )
@@ -70,16 +63,14 @@ returns c =
     let f = c .before .before in
     let m = f .before .before .before .before .before in
     let k = m .before .before .before .before .before .before .before in
-    let n = k .before in
-    table (n .before .before .args .curve) (n .sorted .result) (n .sorted .ensures)
-    (k .knots .ensures) _ _ (m .form-of .ensures)
+    table (k .before .before .args .curve) (k .given-knots .ensures) _ _ (m .form-of .ensures)
     (m .before .knot-values .ensures) (f .fill .ensures)
 
 pub sample-curve-spec : {M : Type 1} → statement M
 sample-curve-spec =
     tie.close
     (tie.spec
-    (omega arith) (omega arith)
+    (omega arith)
     knot-values-requires
     (omega arith)
     fill-requires
