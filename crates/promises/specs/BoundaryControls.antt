@@ -12,6 +12,7 @@ use Rattle.answers.specs.declared.Answer.the-variants.{Done}
 use Rattle.answers.specs.Numbers.{numberOf}
 use Rattle.answers.specs.Checks.{firstRefusal}
 use Rattle.points.specs.declared.Curve.{Curve}
+use Rattle.points.specs.Joined.{FullRows}
 use Rattle.points.specs.Points.{pt, allAllowed}
 use Rattle.tables.specs.declared.CurveInterpolation.{CurveInterpolation}
 use Rattle.tables.specs.declared.CurveInterpolation.the-variants.{Linear, MonotoneCubic}
@@ -67,6 +68,11 @@ module _ (kind : CurveInterpolation) (tension : carriedOf kind .tension < 256) w
       interpolation = kind;
     };
   }
+
+  handed-full : Full (handed .set)
+  handed-full =
+      let rows : (n : ℕ) → FullRows (sixtyFour n) = λ n. record { xs = refl; ys = refl } in
+      record { master = rows 1; red = rows 0; green = rows 0; blue = rows 0 }
 
   -- a grey pixel of 5, asked of the C call with a record, and its run
   abbrev askedBy : List ℕ → PictureAsked
@@ -128,8 +134,7 @@ two-records-one-set =
     let byte : carriedOf MonotoneCubic .tension < 256 = lit< tt in
     let short : List ℕ = 0x01 ∷ 1 ∷ 0 ∷ 0 ∷ [] in
     let long : List ℕ = 0x11 ∷ 1 ∷ 0 ∷ 0 ∷ 2 ∷ [] in
-    let full : Full (handed MonotoneCubic byte .set) =
-    record { master = refl; red = refl; green = refl; blue = refl } in (
+    let full = handed-full MonotoneCubic byte in (
       called MonotoneCubic byte short
           (record { answer = refl; set = refl; legal = refl; full = full }) refl,
       called MonotoneCubic byte long
@@ -144,8 +149,7 @@ unfolding Computed.read setAnswer allAllowed formatOf needed
 premises-met =
     let byte : carriedOf Linear .tension < 256 = lit< tt in
     let stored : List ℕ = 0x11 ∷ 1 ∷ 0 ∷ 0 ∷ 0 ∷ [] in
-    let full : Full (handed Linear byte .set) =
-    record { master = refl; red = refl; green = refl; blue = refl } in (
+    let full = handed-full Linear byte in (
       called Linear byte stored
           (record { answer = refl; set = refl; legal = refl; full = full }) refl,
       refl,

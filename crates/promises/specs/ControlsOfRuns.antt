@@ -9,7 +9,7 @@ use mathlib.Core.Path.{_≡_, refl, ap}
 use mathlib.Core.List.{List, [], _∷_, List·Memᴰ, List·Memᴰ·head, List·Memᴰ·tail}
 use lib.Dec.{lit<, lit≤}
 use lib.ListN.{getD, take}
-use lib.Seq.{getD-take, take-length}
+use lib.Seq.{getD-take}
 use Rattle.points.specs.declared.Point.{Point}
 use Rattle.points.specs.Points.{atLevel, straightCurve}
 use Rattle.points.specs.Knots.{OnLine}
@@ -44,7 +44,7 @@ use Rattle.promises.specs.Words.{
 }
 use Rattle.promises.specs.Demand3.{exact, through-points}
 use Rattle.promises.specs.ControlsOfWords.{linear-is-no-spline}
-use Rattle.promises.specs.Pixels.{own, linear, noBytes, byte-at, ranOn, here}
+use Rattle.promises.specs.Pixels.{stored-typed, own, linear, noBytes, byte-at, ranOn, here}
 
 -- ---- runs
 -- the straight master with a red list of zeros; and zeros for master
@@ -81,7 +81,7 @@ module _ (master : List Point) (typed : All Typed master) (format : PixelFormat)
   pixel-types = record {
     plane = byte-at (v ∷ 0 ∷ 0 ∷ 7 ∷ []) (byte, (lit< tt, (lit< tt, (lit< tt, tt))));
     points = record {
-      master = rw (take-length master) typed;
+      master = stored-typed master typed;
       red = zeros-typed;
       green = tt;
       blue = tt;

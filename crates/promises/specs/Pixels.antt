@@ -11,6 +11,7 @@ use lib.Seq.{take-length}
 use Rattle.points.specs.Joined.{curveOf, joined-back}
 use Rattle.points.specs.declared.Point.{Point}
 use Rattle.points.specs.declared.Curve.{Curve}
+use Rattle.points.specs.Points.{listOf}
 use Rattle.points.specs.Order.{All, Typed}
 use Rattle.tables.specs.declared.CurveInterpolation.{CurveInterpolation}
 use Rattle.tables.specs.Kinds.{carriedOf}
@@ -54,6 +55,9 @@ pub record Strip : Type 0 where
 -- a list as a curve holds it, and as a colour that is present
 abbrev stored : List Point → Curve
 stored l = curveOf l (length l)
+
+pub stored-typed : (l : List Point) → All Typed l → All Typed (listOf (stored l))
+stored-typed l typed = rw (joined-back l 0, take-length l) typed
 
 abbrev pub own : List Point → Channel
 own l = record { present = true; curve = stored l }
@@ -112,7 +116,7 @@ pub types-of : (g : Strip) → AreBytes (g .plane) → InTypes (runOf g)
 types-of g bytes = record {
   plane = byte-at (g .plane) bytes;
   points = record {
-    master = rw (joined-back (g .by .list) 0, take-length (g .by .list)) (g .by .typed);
+    master = stored-typed (g .by .list) (g .by .typed);
     red = tt;
     green = tt;
     blue = tt;

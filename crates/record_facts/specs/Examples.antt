@@ -10,7 +10,7 @@ use mathlib.Core.Option.{some}
 use lib.Dec.{lit<, lit≤}
 use lib.IntN.{pos}
 use lib.ListN.{length, take, getD}
-use Rattle.points.specs.Joined.{curveOf}
+use Rattle.points.specs.Joined.{FullRows, curveOf}
 use Rattle.answers.specs.declared.Answer.the-variants.{Done, OutputTooSmall, TrailingBytes}
 use Rattle.answers.specs.Checks.{firstRefusal}
 use Rattle.lists.specs.Tabulate.{tabulate}
@@ -215,10 +215,18 @@ longestSet = record {
 }
 
 -- as the types of code have it
-pub longest-held : Held longestSet
+longest-full : FullRows longestCurve
 unfolding tabulate
+longest-full = record { xs = refl; ys = refl }
+
+pub longest-held : Held longestSet
 longest-held = record {
-  full = record { master = refl; red = refl; green = refl; blue = refl };
+  full = record {
+    master = longest-full;
+    red = longest-full;
+    green = longest-full;
+    blue = longest-full;
+  };
   kind = record { tension = lit< tt; start = lit< tt; end = lit< tt };
 }
 

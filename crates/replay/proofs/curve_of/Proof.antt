@@ -5,10 +5,10 @@ use Rattle.replay.proofs.curve_of.Statement.{statement}
 use Rattle.replay.proofs.curve_of.Tie as tie
 
 abbrev Inv-loop : tie.InvT-loop
-Inv-loop line points₀ i₀ points i = i ≤ 64
+Inv-loop line xs₀ ys₀ i₀ xs ys i = i ≤ 64
 
 abbrev μ-loop : tie.MeasureT-loop
-μ-loop line points₀ i₀ points i = 64 - i
+μ-loop line xs₀ ys₀ i₀ xs ys i = 64 - i
 
 pub curve-of-spec : {M : Type 1} → statement M
 curve-of-spec =
@@ -16,6 +16,6 @@ curve-of-spec =
     (tie.spec
     Inv-loop
     μ-loop
-    (omega arith) (omega arith) (omega arith) (omega arith) (omega arith) (omega arith) (omega arith) (omega arith)
-    (omega arith) (omega arith) (omega arith) (omega arith) (omega arith) (omega arith) (omega arith) (omega arith)
-    (omega arith) (omega arith) (omega arith))
+    (omega arith) (omega arith) (omega arith) (omega arith) (omega arith) (omega arith) (omega arith)
+    (omega arith) (omega arith) (omega arith) (omega arith) (omega arith) (omega arith) (omega arith)
+    (omega arith) (omega arith) (omega arith) (omega arith) (omega arith) (omega arith))

@@ -19,5 +19,5 @@ put-points-spec =
     Inv-loop
     μ-loop
     (omega arith) (omega arith) (omega arith) (omega arith) (omega arith) (omega arith) (omega arith) (omega arith)
-    (omega arith) (omega arith)
+    (omega arith) (omega arith) (omega arith)
     (omega arith) (omega arith) (omega arith))
