@@ -77,18 +77,21 @@ pub fn read_points(edition: Edition, s: &[u8], from: usize, n: usize) -> Curve
         (listOf r ≡ pairs edition n (drop from (now (s .entry)))) × (r .count ≡ n) ⌝ }
 {
     let stride = point_bytes(edition);
-    let mut xs = [0; 64];
-    let mut ys = [0; 64];
+    let mut curve = Curve {
+        xs: [0; 64],
+        ys: [0; 64],
+        count: n,
+    };
     let mut at = from;
     let mut i: usize = 0;
     while i < n {
         let p = read_point(edition, s, at);
-        xs[i] = p.x;
-        ys[i] = p.y;
+        curve.xs[i] = p.x;
+        curve.ys[i] = p.y;
         at += stride;
         i += 1;
     }
-    Curve { xs, ys, count: n }
+    curve
 }
 
 fn no_curve(refusal: Answer) -> CurveRead

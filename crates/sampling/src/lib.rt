@@ -177,10 +177,10 @@ fn begin(
 }
 
 // All samples of the curve with n knots.
-pub fn fill(
+pub fn fill<'a>(
     form: Form,
-    xs: &[f32; 66],
-    ys: &[f32; 66],
+    xs: &'a [f32; 66],
+    ys: &'a [f32; 66],
     ms: &[f32; 66],
     n: usize,
     samples: &mut [f32],

@@ -202,10 +202,10 @@ fn form_of(kind: CurveInterpolation) -> Form
 }
 
 // The values at n knots, tangents or second derivatives, to the front of a row of zeros.
-fn knot_values(
+fn knot_values<'a>(
     kind: CurveInterpolation,
-    xs: &[f32; 66],
-    ys: &[f32; 66],
+    xs: &'a [f32; 66],
+    ys: &'a [f32; 66],
     n: usize,
     row: &mut [f32; 66],
 )
@@ -246,12 +246,10 @@ pub fn sample_curve(curve: Curve, kind: CurveInterpolation, samples: &mut [f32])
         now (samples .exit) ≡ fineTable kind (listOf curve) (length (now (samples .entry))) ⌝ }
 {
     let knots = curve.given_knots();
-    let xs = knots.xs;
-    let ys = knots.ys;
     let n = knots.count;
     let mut ms = [0.0; 66];
-    knot_values(kind, &xs, &ys, n, &mut ms);
-    sampling::fill(form_of(kind), &xs, &ys, &ms, n, samples);
+    knot_values(kind, &knots.xs, &knots.ys, n, &mut ms);
+    sampling::fill(form_of(kind), &knots.xs, &knots.ys, &ms, n, samples);
 }
 
 // Each sample to a byte.

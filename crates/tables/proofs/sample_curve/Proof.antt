@@ -43,7 +43,7 @@ module _ (given : Curve) {k : Knots} (rows : KnotsOf (givenKnots (listOf given))
 
 knot-values-requires : tie.Need-knot-values-requires
 knot-values-requires c κs =
-    let k = c .before .before .before .before .before in
+    let k = c .before .before .before .before in
     let given = k .before .before in
     let few = count (given .args .curve) (k .given-knots .ensures)
     (search (given .good .0, length-unmapped)) in
@@ -61,8 +61,8 @@ fill-requires c κs =
 returns : tie.Need-returns
 returns c =
     let f = c .before .before in
-    let m = f .before .before .before .before .before in
-    let k = m .before .before .before .before .before .before .before in
+    let m = f .before .before .before .before .before .before in
+    let k = m .before .before .before .before .before .before in
     table (k .before .before .args .curve) (k .given-knots .ensures) _ _ (m .form-of .ensures)
     (m .before .knot-values .ensures) (f .fill .ensures)
 

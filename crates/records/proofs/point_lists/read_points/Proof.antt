@@ -9,8 +9,8 @@ use native.Mathlib.Omega.{arith}
 use lib.ListN.{length, take, drop, set, length-set}
 use lib.Seq.{take-suc-set, append-snoc, drop-drop}
 use Rattle.points.specs.declared.Point.{Point}
-use Rattle.points.specs.Points.{joined}
-use Rattle.points.specs.Joined.{joined-length, joined-set}
+use Rattle.points.specs.Points.{joined, placesOf}
+use Rattle.points.specs.Joined.{FullRows, joined-set, places-long}
 use Rattle.records.specs.declared.point_lists.Edition.{Edition}
 use Rattle.records.specs.PointLists.{pointBytes, pointOf, pairs}
 use Rattle.records.proofs.point_lists.read_points.Statement.{statement}
@@ -48,18 +48,19 @@ next-inside : (k n i from at long : ℕ) → i < n → at ≡ from + i * k → f
 next-inside k n i from at long h e room = omega (arith, mul-le-mul-right {m = i + 1} {n = n} k (omega arith))
 
 abbrev Inv-loop : tie.InvT-loop
-Inv-loop edition s from n stride xs₀ ys₀ at₀ i₀ xs ys at i =
-    (i ≤ n) × (at ≡ from + i * pointBytes edition) × (length xs ≡ 64) × (length ys ≡ 64)
-    × (take i (joined xs ys) ++ pairs edition (n - i) (drop at s) ≡ pairs edition n (drop from s))
+Inv-loop edition s from n stride curve₀ at₀ i₀ curve at i =
+    (i ≤ n) × (at ≡ from + i * pointBytes edition) × FullRows curve
+    × (take i (placesOf curve) ++ pairs edition (n - i) (drop at s) ≡ pairs edition n (drop from s))
+    × (curve .count ≡ n)
 
 abbrev μ-loop : tie.MeasureT-loop
-μ-loop edition s from n stride xs₀ ys₀ at₀ i₀ xs ys at i = n - i
+μ-loop edition s from n stride curve₀ at₀ i₀ curve at i = n - i
 
 loop-holds : tie.Need-loop-holds Inv-loop μ-loop
 loop-holds c =
     let n = c .before .before .args .n in
     let all : n - 0 ≡ n = omega arith in
-    (omega arith, omega arith, refl, refl, rw all)
+    (omega arith, omega arith, record { xs = refl; ys = refl }, rw all, refl)
 
 -- the point of a turn is inside
 inside : (c : tie.At-loop Inv-loop μ-loop) → let a = c .before .before .before .args in
@@ -75,25 +76,27 @@ loop-again c =
     let b = c .before .before in
     let bytes = b .before .point-bytes .ensures in
     let a = b .before .before .before .args in
-    let long = joined-length (b .loop .xs) (b .loop .ys) (omega arith) in (
+    let curve = b .loop .curve in
+    let full = b .loop .inv .2 in (
       omega arith,
       rw bytes (omega (arith, b .loop .inv .1)),
-      simp length-set (b .loop .inv .2),
-      simp length-set (b .loop .inv .3),
+      record { xs = simp length-set (full .xs); ys = simp length-set (full .ys) },
       rw bytes
-          (pairs-more (a .edition) (a .s .now) (a .n) (b .loop .i) (b .loop .at) (b .loop .xs) (b .loop .ys)
-          (c .read-point .result) (omega arith) (omega (arith, long)) (c .read-point .ensures)
-          ∙ b .loop .inv .4),
+          (pairs-more (a .edition) (a .s .now) (a .n) (b .loop .i) (b .loop .at) (curve .xs) (curve .ys)
+          (c .read-point .result) (omega arith) (omega (arith, places-long curve full)) (c .read-point .ensures)
+          ∙ b .loop .inv .3),
+      b .loop .inv .4,
     )
 
 returns : tie.Need-returns Inv-loop μ-loop
 returns c =
     let b = c .before in
-    let a = b .before .before .before .args in (
-      pairs-done (a .edition) (a .s .now) (a .n) (b .loop .i) (b .loop .at) (joined (b .loop .xs) (b .loop .ys)) _
-          (omega arith) (b .loop .inv .4),
-      refl,
-    )
+    let a = b .before .before .before .args in
+    let curve = b .loop .curve in
+    let read =
+    pairs-done (a .edition) (a .s .now) (a .n) (b .loop .i) (b .loop .at) (placesOf curve) _ (omega arith)
+    (b .loop .inv .3) in
+    (rw (b .loop .inv .4) read, b .loop .inv .4)
 
 pub read-points-spec : {M : Type 1} → statement M
 read-points-spec =
