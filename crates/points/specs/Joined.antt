@@ -4,12 +4,14 @@ use Prim.Native.Nat.{ℕ, zero, suc, _<_}
 use mathlib.Core.Path.{_≡_, refl, ap}
 use mathlib.Core.List.{List, [], _∷_, map}
 use native.Mathlib.Omega.{arith}
-use lib.ListN.{length, getD, set, replicate}
+use lib.ListN.{length, take, getD, set, replicate}
 use mir.Syntax.{w8, w16}
 use mir.Val.{Fits}
 use Rattle.points.specs.declared.Point.{Point}
 use Rattle.points.specs.declared.Curve.{Curve}
-use Rattle.points.specs.Points.{pt, nth, joined, placesOf}
+use Rattle.points.specs.declared.Heights.{Heights}
+use Rattle.points.specs.Points.{pt, nth, joined, placesOf, risesFrom, allAllowed}
+use Rattle.points.specs.Steps.{rowRises, rowAllowed}
 use Rattle.points.specs.Order.{All, Typed}
 
 pub joined-length : (xs ys : List ℕ) → length xs ≡ length ys → length (joined xs ys) ≡ length xs
@@ -68,3 +70,38 @@ rows-typed [] ys x y = tt
 rows-typed (a ∷ xs) [] x y = tt
 rows-typed (a ∷ xs) (b ∷ ys) x y =
     ((x 0 .fits, y 0 .fits), rows-typed xs ys (λ i. x (suc i)) (λ i. y (suc i)))
+
+-- what the types say of two rows. A function that is lent them does not see it, and asks for it.
+pub record TypedRows (xs ys : List ℕ) : Type 0 where
+  pub xs-long : length xs ≡ 64
+  pub ys-long : length ys ≡ 64
+  pub typed : All Typed (joined xs ys)
+
+pub typed-rows : (c : Curve) → FullRows c → ((i : ℕ) → Fits w8 (getD (c .xs) i 0))
+    → ((i : ℕ) → Fits w16 (getD (c .ys) i 0))
+    → TypedRows (c .xs) (c .ys)
+typed-rows c full x y =
+    record {
+      xs-long = full .xs;
+      ys-long = full .ys;
+      typed = rows-typed (c .xs) (c .ys) x y;
+    }
+
+-- ---- what is asked of the points is asked of one row
+pub joined-rises : (b n : ℕ) (xs ys : List ℕ) → length xs ≡ length ys
+    → risesFrom b (take n (joined xs ys)) ≡ rowRises b (take n xs)
+unfolding risesFrom rowRises
+joined-rises b zero xs ys e = refl
+joined-rises b (suc n) [] ys e = refl
+joined-rises b (suc n) (x ∷ xs) [] e = absurd (omega arith)
+joined-rises b (suc n) (x ∷ xs) (y ∷ ys) e = rw (joined-rises (suc x) n xs ys (omega arith))
+
+pub joined-allowed : (heights : Heights) (n : ℕ) (xs ys : List ℕ) → length xs ≡ length ys
+    → allAllowed heights (take n (joined xs ys)) ≡ rowAllowed heights (take n ys)
+unfolding allAllowed rowAllowed
+joined-allowed heights zero xs ys e = refl
+joined-allowed heights (suc n) [] [] e = refl
+joined-allowed heights (suc n) [] (y ∷ ys) e = absurd (omega arith)
+joined-allowed heights (suc n) (x ∷ xs) [] e = absurd (omega arith)
+joined-allowed heights (suc n) (x ∷ xs) (y ∷ ys) e =
+    rw (joined-allowed heights n xs ys (omega arith))

@@ -36,7 +36,7 @@ pub list-length : (c : Curve) → length (placesOf c) ≡ 64 → length (listOf 
 list-length c long = rw (length-take, long)
 
 -- and a claim cut to 64 leaves the list as it is
-pub limited-list : (l : List Point) (n : ℕ) → length l ≡ 64 → take (min n 64) l ≡ take n l
+pub limited-list : {A : Type 0} (l : List A) (n : ℕ) → length l ≡ 64 → take (min n 64) l ≡ take n l
 limited-list l n long = elim (decLe n 64) [
   | yes few ↦ let same : min n 64 ≡ n = omega arith in rw same
   | no many ↦

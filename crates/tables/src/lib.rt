@@ -3,10 +3,11 @@
 ghost use mathlib.Core.Path.{_≡_};
 ghost use Prim.Native.Nat.{_≤_};
 ghost use mathlib.Core.List.{[], _∷_};
-ghost use lib.ListN.{length, replicate};
+ghost use lib.ListN.{length, take, replicate};
 ghost use Rattle.answers.specs.Checks.{firstRefusal};
 ghost use Rattle.single.specs.Constants.{𝟎};
-ghost use Rattle.points.specs.Points.{listOf};
+ghost use Rattle.points.specs.Points.{joined, listOf};
+ghost use Rattle.points.specs.Joined.{TypedRows};
 ghost use Rattle.tables.specs.Kinds.{
   kindNumber,
   kindOf,
@@ -28,6 +29,7 @@ ghost use Rattle.tables.specs.Tables.{
 use answers::Answer;
 use answers::first_of;
 use points::Curve;
+use points::given_knots;
 use sampling::Form;
 use spline::SplineBoundary;
 use spline::clamped_slope;
@@ -239,13 +241,22 @@ fn knot_values<'a>(
     }
 }
 
-// The samples of a given list, which is not checked.
-pub fn sample_curve(curve: Curve, kind: CurveInterpolation, samples: &mut [f32])
+// The samples of a given list, whose rows are lent. It is not checked.
+pub fn sample_curve<'a>(
+    xs: &'a [u8; 64],
+    ys: &'a [u16; 64],
+    count: usize,
+    kind: CurveInterpolation,
+    samples: &mut [f32],
+)
+    requires { ⌜ TypedRows (now xs) (now ys) ⌝ }
     requires { ⌜ (2 ≤ length (now samples)) × (length (now samples) ≤ 4096) ⌝ }
     ensures { λ _. ⌜
-        now (samples .exit) ≡ fineTable kind (listOf curve) (length (now (samples .entry))) ⌝ }
+        now (samples .exit)
+        ≡ fineTable kind (take count (joined (now (xs .entry)) (now (ys .entry))))
+        (length (now (samples .entry))) ⌝ }
 {
-    let knots = curve.given_knots();
+    let knots = given_knots(xs, ys, count);
     let n = knots.count;
     let mut ms = [0.0; 66];
     knot_values(kind, &knots.xs, &knots.ys, n, &mut ms);
@@ -270,7 +281,7 @@ pub fn entries_of(curve: Curve, kind: CurveInterpolation) -> [u8; 256]
     ensures { λ r. ⌜ r ≡ byteTable kind (listOf curve) ⌝ }
 {
     let mut samples = [0.0; 256];
-    sample_curve(curve, kind, &mut samples);
+    sample_curve(&curve.xs, &curve.ys, curve.count, kind, &mut samples);
     to_bytes(&samples)
 }
 
@@ -309,7 +320,7 @@ pub fn build_table(curve: Curve, kind: CurveInterpolation, samples: &mut [f32]) 
 {
     let answer = first_of(curve.check_given(), length_answer(samples.len()));
     if answer.is_done() {
-        sample_curve(curve, kind, samples);
+        sample_curve(&curve.xs, &curve.ys, curve.count, kind, samples);
     }
     answer
 }

@@ -15,7 +15,7 @@ use Rattle.answers.specs.Checks.{Check, _when_, firstRefusal, roomCheck}
 use Rattle.points.specs.declared.Point.{Point}
 use Rattle.points.specs.declared.Curve.{Curve}
 use Rattle.points.specs.declared.Heights.the-variants.{Fine}
-use Rattle.points.specs.Points.{limit, listOf, countCheck, heightCheck, listChecks}
+use Rattle.points.specs.Points.{limit, listOf, countCheck, heightCheck}
 use Rattle.tables.specs.Kinds.{kindOf}
 use Rattle.tables.specs.Tables.{byteTable, fineTable, lengthCheck}
 use Rattle.sets.specs.declared.Curves.{Curves}
@@ -48,10 +48,6 @@ pairsOf points = pairs Two (countOf points) points
 abbrev pub givenChecks : List ℕ → ℕ → List Check
 givenChecks points kind =
     countCheck (countOf points) ∷ heightCheck Fine (pairsOf points) ∷ kindCheck kind ∷ []
-
--- the same of the list that is made of them
-abbrev pub curveAndKindChecks : Curve → ℕ → List Check
-curveAndKindChecks curve kind = listChecks curve ++ kindCheck kind ∷ []
 
 -- the list made of the points claims as many as there are, and has them unless it is refused for
 -- that

@@ -55,7 +55,8 @@ pub extern "C" fn tone_table(
         ⌝ }
 {
     let curve = given::curve_of(points);
-    let answer = first_of(given::check(curve, kind), room_for(256, table.len()));
+    let of_list = given::check(&curve.ys, curve.count, kind);
+    let answer = first_of(of_list, room_for(256, table.len()));
     if !answer.is_done() {
         return answer.number();
     }
@@ -80,11 +81,13 @@ pub extern "C" fn tone_fine_table(
         ⌝ }
 {
     let curve = given::curve_of(points);
-    let answer = first_of(given::check(curve, kind), length_answer(table.len()));
+    let of_list = given::check(&curve.ys, curve.count, kind);
+    let answer = first_of(of_list, length_answer(table.len()));
     if !answer.is_done() {
         return answer.number();
     }
-    sample_curve(curve, kind_of(kind, tension, start_slope, end_slope), table);
+    let interpolation = kind_of(kind, tension, start_slope, end_slope);
+    sample_curve(&curve.xs, &curve.ys, curve.count, interpolation, table);
     answer.number()
 }
 

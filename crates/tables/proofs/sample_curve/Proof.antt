@@ -3,16 +3,14 @@ use mathlib.Core.Path.{_≡_, refl}
 use mathlib.Core.List.{List}
 use Prim.Native.Nat.{ℕ, _≤_}
 use native.Mathlib.Omega.{arith}
-use borrow.Author.Needs.{length-unmapped}
-use lib.ListN.{length}
+use lib.ListN.{length, take, length-take}
 use lib.Ieee.{Float}
 use Rattle.lists.specs.Tabulate.{tabulate}
-use Rattle.points.specs.declared.Curve.{Curve}
+use Rattle.points.specs.declared.Point.{Point}
 use Rattle.points.specs.declared.Knots.{Knots}
-use Rattle.points.specs.Points.{listOf, kept}
+use Rattle.points.specs.Points.{joined, kept}
 use Rattle.points.specs.Knots.{givenKnots, KnotsOf}
-use Rattle.points.specs.Joined.{FullRows, places-long}
-use Rattle.points.specs.Owned.{list-length}
+use Rattle.points.specs.Joined.{joined-length}
 use Rattle.points.specs.Kept.{kept-length}
 use Rattle.points.specs.Shape.{knots-two, knots-length}
 use Rattle.tables.specs.declared.CurveInterpolation.{CurveInterpolation}
@@ -24,11 +22,9 @@ use Rattle.tables.proofs.sample_curve.Statement.{statement}
 use Rattle.tables.proofs.sample_curve.Tie as tie
 
 -- ---- what the knots give
-module _ (given : Curve) {k : Knots} (rows : KnotsOf (givenKnots (listOf given)) k) where
-  count : FullRows given → (2 ≤ k .count) × (k .count ≤ 66)
-  count full =
-      let l = listOf given in
-      let most = list-length given (places-long given full) in
+module _ (l : List Point) {k : Knots} (rows : KnotsOf (givenKnots l) k) where
+  count : length l ≤ 64 → (2 ≤ k .count) × (k .count ≤ 66)
+  count most =
       rw (rows .count) (
         knots-two (kept l),
         omega (arith, knots-length (kept l), kept-length l, most),
@@ -37,40 +33,43 @@ module _ (given : Curve) {k : Knots} (rows : KnotsOf (givenKnots (listOf given))
   table : (kind : CurveInterpolation) (S : ℕ) {form : Form} {ms new : List Float} → form ≡ formOf kind
       → ms ≡ knotValueRow kind (k .xs) (k .ys) (k .count)
       → new ≡ tabulate S (sampled (heightAt form (k .xs) (k .ys) ms (k .count)) S)
-      → new ≡ fineTable kind (listOf given) S
+      → new ≡ fineTable kind l S
   unfolding sampleOf unclampedAt
   table kind S f m e = rw (f, m, rows .xs, rows .ys, rows .count) at e
+
+-- the rows have 64 places
+short : (c : tie.Start)
+    → length (take (c .args .count) (joined (c .args .xs .now) (c .args .ys .now))) ≤ 64
+short c =
+    let rows = c .pre .0 in
+    let xs = c .args .xs .now in
+    let ys = c .args .ys .now in
+    let long = joined-length xs ys (omega (arith, rows .xs-long, rows .ys-long)) in
+    rw (length-take (c .args .count) (joined xs ys)) (omega (arith, long, rows .xs-long))
 
 knot-values-requires : tie.Need-knot-values-requires
 knot-values-requires c κs =
     let k = c .before .before .before .before in
-    let given = k .before .before in
-    let few = count (given .args .curve) (k .given-knots .ensures)
-    (search (given .good .0, length-unmapped)) in
-    (few .0, few .1, refl)
+    let few = count _ (k .given-knots .ensures) (short (k .before .before)) in (few .0, few .1, refl)
 
 fill-requires : tie.Need-fill-requires
 fill-requires c κs =
     let k = c .before .before .before .before .before .before .before .before .before .before .before in
-    let given = k .before .before in (
-      count (given .args .curve) (k .given-knots .ensures)
-          (search (given .good .0, length-unmapped)),
-      given .pre,
-    )
+    let given = k .before .before in (count _ (k .given-knots .ensures) (short given), given .pre .1)
 
 returns : tie.Need-returns
 returns c =
     let f = c .before .before in
     let m = f .before .before .before .before .before .before in
     let k = m .before .before .before .before .before .before in
-    table (k .before .before .args .curve) (k .given-knots .ensures) _ _ (m .form-of .ensures)
+    table _ (k .given-knots .ensures) _ _ (m .form-of .ensures)
     (m .before .knot-values .ensures) (f .fill .ensures)
 
 pub sample-curve-spec : {M : Type 1} → statement M
 sample-curve-spec =
     tie.close
     (tie.spec
-    (omega arith)
+    (λ c κs. c .before .pre .0)
     knot-values-requires
     (omega arith)
     fill-requires

@@ -8,27 +8,34 @@ use mir.Facts.{toZ-ofZ}
 use Rattle.answers.specs.declared.Answer.the-variants.{Done}
 use Rattle.answers.specs.Numbers.{numberOf, asked-refused, asked-done}
 use Rattle.answers.specs.Checks.{firstRefusal, roomCheck, first-then, done-append, has-room}
+use Rattle.points.specs.Joined.{FullRows}
 use Rattle.tone_c.specs.Boundary.{givenChecks, toneTableChecks}
 use Rattle.tone_c.proofs.GivenList.{same-checks, list-given}
 use Rattle.tone_c.proofs.tone_table.Statement.{statement}
 use Rattle.tone_c.proofs.tone_table.Tie as tie
 
 answered : (c : tie.After-first-of)
-    → let A = c .before .before .before .before .before .before .args in
+    → let A = c .before .before .before .before .before .before .before .before .args in
     c .first-of .result ≡ firstRefusal (toneTableChecks (A .points .now) (A .kind) (length (A .table .now)))
 answered c =
-    let A = c .before .before .before .before .before .before .args in
+    let A = c .before .before .before .before .before .before .before .before .args in
+    let list = c .before .before .before .before .before in
+    let full : FullRows (list .curve-of .result) = search needs in
     first-then (givenChecks (A .points .now) (A .kind)) (roomCheck 256 (length (A .table .now)) ∷ [])
-    (c .before .before .check .ensures ∙ same-checks (c .before .before .before .curve-of .ensures) (A .kind))
+    (c .before .before .check .ensures ∙ same-checks (list .curve-of .ensures) (A .kind) full)
     (c .before .room-for .ensures) (c .first-of .ensures)
+
+check-requires : tie.Need-check-requires
+check-requires c κs =
+    let full : FullRows (c .before .before .curve-of .result) = search needs in full .ys
 
 -- past the refusal
 accepted : (c : tie.Else1)
-    → let A = c .before .before .before .before .before .before .before .before .args in
+    → let A = c .before .before .before .before .before .before .before .before .before .before .args in
     (firstRefusal (givenChecks (A .points .now) (A .kind)) ≡ Done)
     × (firstRefusal (roomCheck 256 (length (A .table .now)) ∷ []) ≡ Done)
 accepted c =
-    let A = c .before .before .before .before .before .before .before .before .args in
+    let A = c .before .before .before .before .before .before .before .before .before .before .args in
     done-append (givenChecks (A .points .now) (A .kind)) (roomCheck 256 (length (A .table .now)) ∷ [])
     (sym (answered (c .before .before)) ∙ asked-done _ (c .before .is-done .ensures) (c .if1 .left))
 
@@ -53,7 +60,7 @@ returns-2 c =
     let t = c .before .before .before in
     let b = t .before .before .before in
     let k = b .before .before in
-    let given = k .before .before .before .before .before in
+    let given = k .before .before .before .before .before .before .before in
     let s = given .before .before .before in
     let long : length (b .entries-of .result) ≡ 256 = search needs in
     record {
@@ -78,7 +85,9 @@ pub tone-table-spec : {M : Type 1} → statement M
 tone-table-spec =
     tie.close
     (tie.spec
-    (omega arith) (omega arith) (omega arith) (omega arith) (omega arith) (omega arith)
+    (omega arith)
+    check-requires
+    (omega arith) (omega arith) (omega arith) (omega arith)
     returns
     (omega arith) (omega arith) (omega arith)
     copy-bytes-requires
