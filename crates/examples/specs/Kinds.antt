@@ -88,7 +88,8 @@ not-a-knot = refl
 -- of a clamped curve and of its slopes shows in a byte, as do the ends of a natural curve (0, no
 -- neighbour's value), both ends of the monotone kinds, and the zeroing of a negative tangent.
 abbrev fivePoints : List Point
-fivePoints = atLevel 0 150 ∷ atLevel 40 220 ∷ atLevel 180 120 ∷ atLevel 210 10 ∷ atLevel 255 110 ∷ []
+fivePoints =
+    atLevel 0 150 ∷ atLevel 40 220 ∷ atLevel 180 120 ∷ atLevel 210 10 ∷ atLevel 255 110 ∷ []
 
 abbrev fivePlaces : List ℕ
 fivePlaces = 26 ∷ 142 ∷ 209 ∷ 250 ∷ []
@@ -147,28 +148,35 @@ unfolding Computed.entry
 box-right = refl
 
 -- the same in a sample, 21.2959995: capped, its last bit would be another
-pub box-sample : bits MonotoneCubicBox (atLevel 0 0 ∷ atLevel 1 11 ∷ atLevel 6 22 ∷ []) 4 ≡ 0x41aa_5e35
+pub box-sample
+    : bits MonotoneCubicBox (atLevel 0 0 ∷ atLevel 1 11 ∷ atLevel 6 22 ∷ []) 4 ≡ 0x41aa_5e35
 unfolding Computed.entry toBits
 box-sample = refl
 
 -- "if a × a + b × b > 9": a sum of exactly 9 changes nothing (from 9 on, the entry would be 205,
 -- the sample 204.5)
-pub circle : entryOf MonotoneCubic (atLevel 0 7 ∷ atLevel 7 97 ∷ atLevel 49 205 ∷ atLevel 91 97 ∷ []) 42 ≡ 204
+pub circle
+    : entryOf MonotoneCubic (atLevel 0 7 ∷ atLevel 7 97 ∷ atLevel 49 205 ∷ atLevel 91 97 ∷ []) 42
+    ≡ 204
 unfolding Computed.entry
 circle = refl
 
-pub circle-sample : bits MonotoneCubic (atLevel 0 7 ∷ atLevel 7 97 ∷ atLevel 49 205 ∷ atLevel 91 97 ∷ []) 42
+pub circle-sample
+    : bits MonotoneCubic (atLevel 0 7 ∷ atLevel 7 97 ∷ atLevel 49 205 ∷ atLevel 91 97 ∷ []) 42
     ≡ 0x434c_7fff
 unfolding Computed.entry toBits
 circle-sample = refl
 
 -- "from the a and b before that zeroing" (from those after it, 19)
-pub before-zeroing : entryOf MonotoneCubic (atLevel 0 20 ∷ atLevel 20 15 ∷ atLevel 25 40 ∷ []) 5 ≡ 18
+pub before-zeroing
+    : entryOf MonotoneCubic (atLevel 0 20 ∷ atLevel 20 15 ∷ atLevel 25 40 ∷ []) 5 ≡ 18
 unfolding Computed.entry
 before-zeroing = refl
 
 -- "at an inner knot the left segment is used" (the right one would give the point's y, 0)
-pub left-segment : entryOf NotAKnotCubic (atLevel 142 0 ∷ atLevel 143 255 ∷ atLevel 144 0 ∷ atLevel 210 255 ∷ []) 142
+pub left-segment
+    : entryOf NotAKnotCubic
+    (atLevel 142 0 ∷ atLevel 143 255 ∷ atLevel 144 0 ∷ atLevel 210 255 ∷ []) 142
     ≡ 1
 unfolding Computed.entry
 left-segment = refl
@@ -214,23 +222,27 @@ tension-divided = refl
 
 -- the three terms are right − across + left (left − across + right, or right − (across − left): 96
 -- and 78; right + left − across: 178 and 101)
-pub terms-centripetal : entryOf CentripetalCatmullRom (atLevel 65 205 ∷ atLevel 130 50 ∷ atLevel 225 130 ∷ []) 188
+pub terms-centripetal
+    : entryOf CentripetalCatmullRom (atLevel 65 205 ∷ atLevel 130 50 ∷ atLevel 225 130 ∷ []) 188
     ≡ 97
 unfolding Computed.entry
 terms-centripetal = refl
 
-pub across-centripetal : entryOf CentripetalCatmullRom (atLevel 0 96 ∷ atLevel 172 236 ∷ atLevel 190 229 ∷ []) 82
+pub across-centripetal
+    : entryOf CentripetalCatmullRom (atLevel 0 96 ∷ atLevel 172 236 ∷ atLevel 190 229 ∷ []) 82
     ≡ 177
 unfolding Computed.entry
 across-centripetal = refl
 
 pub terms-chordal
-    : entryOf ChordalCatmullRom (atLevel 0 75 ∷ atLevel 65 15 ∷ atLevel 110 195 ∷ atLevel 140 220 ∷ atLevel 185 75 ∷ []) 85
+    : entryOf ChordalCatmullRom
+    (atLevel 0 75 ∷ atLevel 65 15 ∷ atLevel 110 195 ∷ atLevel 140 220 ∷ atLevel 185 75 ∷ []) 85
     ≡ 77
 unfolding Computed.entry
 terms-chordal = refl
 
-pub across-chordal : entryOf ChordalCatmullRom (atLevel 0 247 ∷ atLevel 59 223 ∷ atLevel 147 56 ∷ []) 117 ≡ 102
+pub across-chordal
+    : entryOf ChordalCatmullRom (atLevel 0 247 ∷ atLevel 59 223 ∷ atLevel 147 56 ∷ []) 117 ≡ 102
 unfolding Computed.entry
 across-chordal = refl
 
@@ -256,7 +268,8 @@ unfolding Computed.entry toBits
 basis = refl
 
 -- 3 / root × a × secant
-pub circle-product : bits MonotoneCubic (atLevel 10 40 ∷ atLevel 20 230 ∷ atLevel 250 30 ∷ []) 107 ≡ 0x437d_6e7b
+pub circle-product
+    : bits MonotoneCubic (atLevel 10 40 ∷ atLevel 20 230 ∷ atLevel 250 30 ∷ []) 107 ≡ 0x437d_6e7b
 unfolding Computed.entry toBits
 circle-product = refl
 
@@ -267,7 +280,8 @@ pub centripetal-end-tangents : bits CentripetalCatmullRom (atLevel 0 10 ∷ atLe
 unfolding Computed.entry toBits
 centripetal-end-tangents = refl
 
-pub chordal-end-tangents : bits ChordalCatmullRom (atLevel 0 10 ∷ atLevel 255 210 ∷ []) 64 ≡ 0x4270_c8cc
+pub chordal-end-tangents
+    : bits ChordalCatmullRom (atLevel 0 10 ∷ atLevel 255 210 ∷ []) 64 ≡ 0x4270_c8cc
 unfolding Computed.entry toBits
 chordal-end-tangents = refl
 
@@ -277,16 +291,19 @@ pub natural-solve : bits NaturalCubic (atLevel 120 170 ∷ atLevel 220 70 ∷ []
 unfolding Computed.entry toBits
 natural-solve = refl
 
-pub clamped-solve : bits (ClampedCubic (pos 512) (negsuc 299)) (atLevel 0 90 ∷ atLevel 230 140 ∷ []) 143
+pub clamped-solve
+    : bits (ClampedCubic (pos 512) (negsuc 299)) (atLevel 0 90 ∷ atLevel 230 140 ∷ []) 143
     ≡ 0x4315_51d4
 unfolding Computed.entry toBits
 clamped-solve = refl
 
 -- not-a-knot's first and last row, h × 6 × the difference of the secants
-pub first-row : bits NotAKnotCubic (atLevel 0 160 ∷ atLevel 130 20 ∷ atLevel 180 110 ∷ []) 21 ≡ 0x4265_bdf0
+pub first-row
+    : bits NotAKnotCubic (atLevel 0 160 ∷ atLevel 130 20 ∷ atLevel 180 110 ∷ []) 21 ≡ 0x4265_bdf0
 unfolding Computed.entry toBits
 first-row = refl
 
-pub last-row : bits NotAKnotCubic (atLevel 0 160 ∷ atLevel 130 20 ∷ atLevel 180 110 ∷ []) 252 ≡ 0x42e8_801b
+pub last-row
+    : bits NotAKnotCubic (atLevel 0 160 ∷ atLevel 130 20 ∷ atLevel 180 110 ∷ []) 252 ≡ 0x42e8_801b
 unfolding Computed.entry toBits
 last-row = refl

@@ -21,7 +21,8 @@ unfolding tabulate
 P2-rule = refl
 
 P2-entry : (v : ℕ) → v < 256 → entryOf Linear (atLevel 128 200 ∷ []) v ≡ 200
-P2-entry v lt = tabulate-agree (entryOf Linear (atLevel 128 200 ∷ [])) (λ w. 200) (P2 ∙ P2-rule) v lt
+P2-entry v lt =
+    tabulate-agree (entryOf Linear (atLevel 128 200 ∷ [])) (λ w. 200) (P2 ∙ P2-rule) v lt
 
 -- Two rows of 2 bytes with one of padding between them, every byte 5, by P2's list: width 2, two
 -- rows, one plane, step 3, 5 bytes, and an output of 5 bytes, each 0. Every byte of both rows comes

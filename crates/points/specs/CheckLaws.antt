@@ -10,7 +10,8 @@ use Rattle.points.specs.declared.Point.{Point}
 use Rattle.points.specs.declared.Curve.{Curve}
 use Rattle.points.specs.declared.Heights.{Heights}
 use Rattle.points.specs.declared.Heights.the-variants.{Fine}
-use Rattle.points.specs.Points.{limit, listOf, countCheck, allAllowed, heightCheck, listChecks}
+use Rattle.points.specs.Points.{limit, listOf, allAllowed}
+use Rattle.points.specs.Points.{countCheck, heightCheck, listChecks}
 
 pub few-points : (n : ℕ) (cs : List Check) → firstRefusal (countCheck n ∷ cs) ≡ Done → n ≤ limit
 few-points n cs e = ltb-false limit n (all-passed (countCheck n ∷ cs) e .0)

@@ -29,7 +29,8 @@ use Rattle.points.specs.Joined.{curveOf}
 use Rattle.points.specs.Knots.{rest, knots, givenKnots, xOf, OnLine}
 use Rattle.points.specs.Order.{All, Typed, Proper, WholeHeight, Rising, NeverFalls}
 
-pub P3-kept : kept (atLevel 10 5 ∷ atLevel 10 9 ∷ atLevel 0 0 ∷ []) ≡ atLevel 0 0 ∷ atLevel 10 5 ∷ []
+pub P3-kept
+    : kept (atLevel 10 5 ∷ atLevel 10 9 ∷ atLevel 0 0 ∷ []) ≡ atLevel 0 0 ∷ atLevel 10 5 ∷ []
 unfolding kept keptBelow firstAt
 P3-kept = refl
 

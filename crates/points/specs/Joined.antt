@@ -1,5 +1,5 @@
--- The points of two rows: how many there are, which is at a place, what a store does, and the rows of
--- a list, which join to it.
+-- The points of two rows: how many there are, which is at a place, what a store does, and the rows
+-- of a list, which join to it. What is asked of the points is asked of one row.
 use Prim.Native.Nat.{ℕ, zero, suc, _<_}
 use mathlib.Core.Path.{_≡_, refl, ap}
 use mathlib.Core.List.{List, [], _∷_, map}

@@ -225,15 +225,16 @@ order-wants-no-colour-to-fall order =
           (List·Memᴰ·tail (List·Memᴰ·head refl)) refl,
     )
 
--- ---- "near", with P for its premise on the kind, H for that on heights, and IsNear for what it says
--- of an output byte and the line n / d
+-- ---- "near", with P for its premise on the kind, H for that on heights, and IsNear for what it
+-- says of an output byte and the line n / d
 abbrev NearUnder : (Run → Type 0) → (List Point → Type 0) → (ℕ → ℕ → ℕ → Type 0) → Type 0
 NearUnder P H IsNear =
     (a : Call) → Accepted a → P (a .given) → (p : Place) → TonedAt (a .given) p
     → H (listThatTones (a .given) p)
     → (n d : ℕ) → OnLine (listThatTones (a .given) p) (input a p) n d → IsNear n d (output a p)
 
--- the line of the steep list is 3,283 / 65 at 34, here in 256ths, to which 51 is nearest, and not 50
+-- the line of the steep list is 3,283 / 65 at 34, here in 256ths, to which 51 is nearest, and not
+-- 50
 pub steep-line-at-34 : OnLine (steep .list) 34 840448 16640
 unfolding kept keptBelow firstAt knots rest
 steep-line-at-34 = record {

@@ -1,9 +1,9 @@
 -- The third demand, clause by clause, in the mission's order and words. "For every two runs of the
 -- set call, A and B, that share one set, format and size, and neither of which the documents
 -- refuse": a clause that speaks of one run holds of each of the two, and asks nothing of the other.
--- "Heights written in document 01 are levels": where a clause of the mission names a point's y, it is
--- a level here. What document 02's U9 says of other heights is Request9's; the order asks nothing of
--- heights.
+-- "Heights written in document 01 are levels": where a clause of the mission names a point's y, it
+-- is a level here. What document 02's U9 says of other heights is Request9's; the order asks
+-- nothing of heights.
 use Prim.Native.Nat.{ℕ, _≤_}
 use mathlib.Core.Path.{_≡_, _∙_}
 use mathlib.Core.List.{List·Memᴰ}

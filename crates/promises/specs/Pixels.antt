@@ -191,4 +191,5 @@ module _ (s : Toning) (v : ℕ) (byte : v < 256) where
   pub grey-output : Accepted (ranGrey s v byte)
       → output (ranGrey s v byte) here ≡ entryOf (s .kind) (s .list) v
   grey-output ok =
-      exact (ranGrey s v byte) ok .toned here (grey-toned s v) ∙ rw (joined-back (s .list) 0, take-length (s .list))
+      exact (ranGrey s v byte) ok .toned here (grey-toned s v)
+      ∙ rw (joined-back (s .list) 0, take-length (s .list))

@@ -84,7 +84,8 @@ module _ (s : List ℕ) {r : RecordRead} (call : ReadRecordCall s r) where
   reader-never-20 e = Runs.reader-never-20 s call (number-unique (r .answer) HeightRange e)
 
 -- and what its writer takes
-module _ {set : Curves} {old new : List ℕ} {w : Written} (call : WriteRecordCall set old w new) where
+module _ {set : Curves} {old new : List ℕ} {w : Written}
+    (call : WriteRecordCall set old w new) where
   pub written-heights : w .answer ≡ Done → HoldsLevels (viewOf set)
   written-heights = Runs.written-heights call
 

@@ -18,8 +18,8 @@ abbrev pub pointBytes : Edition → ℕ
 pointBytes One = 2
 pointBytes Two = 3
 
--- "Today's stored record holds whole heights only": its y is a level. In edition 2 "each y takes two
--- bytes, low byte first", and so it does where a caller gives points as bytes.
+-- "Today's stored record holds whole heights only": its y is a level. In edition 2 "each y takes
+-- two bytes, low byte first", and so it does where a caller gives points as bytes.
 abbrev pub pointOf : Edition → List ℕ → Point
 pointOf One s = atLevel (getD s 0 0) (getD s 1 0)
 pointOf Two s = pt (getD s 0 0) (getD s 1 0 + getD s 2 0 * 256)

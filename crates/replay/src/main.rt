@@ -1,6 +1,7 @@
 // Replays a stored sample of answers: the questions are in the file stdin, and stdout holds what
-// was answered, by the Rust original where heights are levels, and by a model written from the papers
-// where they are finer.
+// was answered: by the Rust original where heights are levels, and where they are finer by a model
+// written from the papers and, where document 01 leaves the order of operations to it, from the
+// original's file.
 // Both were written by the program `store` of bindings/rust without the port (cargo run --release
 // --bin store), which says how they read.
 ghost use Prim.Native.Nat.{_<_, _≤_};

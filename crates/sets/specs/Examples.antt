@@ -1,6 +1,6 @@
 -- Sets where a slip in the order of the checks would show: each line mends the first fault of the
--- line before it, and has later ones still. U9: 20 is "tested in each list after 3 and 4, before the
--- next list".
+-- line before it, and has later ones still. U9: 20 is "tested in each list after 3 and 4, before
+-- the next list".
 use Prim.Native.Nat.{ℕ, _-_}
 use mathlib.Core.Path.{_≡_, refl}
 use mathlib.Core.List.{List, [], _∷_, _++_}

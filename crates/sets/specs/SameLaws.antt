@@ -57,7 +57,8 @@ module _ (heights : Heights) where
   unfolding curveAnswer
   checked-curve a b e = rw (e .points, e .count)
 
-  checked-channel : (a b : Channel) → SameChannel a b → channelAnswer heights a ≡ channelAnswer heights b
+  checked-channel : (a b : Channel) → SameChannel a b
+      → channelAnswer heights a ≡ channelAnswer heights b
   unfolding channelAnswer curveAnswer
   checked-channel a b e =
       by-test (a .present)
@@ -78,7 +79,10 @@ module _ (heights : Heights) where
 -- ---- sets that pass the check and hold the same are the same
 -- each list is stored in 64 places: so it is of every set that code holds.
 -- A function's need c tells it of a parameter `set`, with `own = c .good .0 .1 .1`:
--- record { master = search (own .0, length-unmapped); red = search (own .1 .0, length-unmapped); .. }
+-- record {
+--   master = search (own .0, length-unmapped);
+--   red = search (own .1 .0, length-unmapped); ..
+-- }
 pub record Full (s : Curves) : Type 0 where
   pub master : FullRows (s .master)
   pub red : FullRows (s .red .curve)
@@ -122,8 +126,8 @@ module _ (heights : Heights) where
       (λ u. let z : _≡_ {A = ℕ} 0 1 = cc (rw (t, u) at e) in absurd (omega arith))
       (λ u. record { present = t ∙ sym u; curve = λ v. absurd (false≢true (sym t ∙ v)) }))
 
-  pub view-same : (a b : Curves) → Full a → Full b → setAnswer heights a ≡ Done → setAnswer heights b ≡ Done
-      → viewOf a ≡ viewOf b → Same a b
+  pub view-same : (a b : Curves) → Full a → Full b → setAnswer heights a ≡ Done
+      → setAnswer heights b ≡ Done → viewOf a ≡ viewOf b → Same a b
   view-same a b a-full b-full a-done b-done e =
       let a-passed = passed-set heights a a-done in
       let b-passed = passed-set heights b b-done in

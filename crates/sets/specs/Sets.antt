@@ -130,8 +130,8 @@ withKind k v =
 abbrev pub risingCheck : List Point → Check
 risingCheck l = PointsNotRising when not (rises l)
 
--- one list that may have such heights: 3, then 4, then 20, "tested in each list after 3 and 4, before
--- the next list and all later checks"
+-- one list that may have such heights: 3, then 4, then 20, "tested in each list after 3 and 4,
+-- before the next list and all later checks"
 abbrev pub curveChecks : Heights → Curve → List Check
 curveChecks heights c =
     countCheck (c .count) ∷ risingCheck (listOf c) ∷ heightCheck heights (listOf c) ∷ []

@@ -1,6 +1,6 @@
--- Linear: a sample is within 1 / 16,384 of the exact broken line at its position; an entry is within
--- 1 / 2 + 1 / 16,384 of the line, and where the kept points have whole heights it is a whole number
--- nearest to the line.
+-- Linear: a sample is within 1 / 16,384 of the exact broken line at its position; an entry is
+-- within 1 / 2 + 1 / 16,384 of the line, and where the kept points have whole heights it is a whole
+-- number nearest to the line.
 use mathlib.Core.Path.{_≡_, ap, _∙_}
 use mathlib.Core.List.{List}
 use Prim.Native.Nat.{ℕ, suc, _+_, _-_, _*_, _/_, _%_, _<_}
@@ -62,8 +62,10 @@ in-levels : (y0 y1 k g n : ℕ) → y0 % 256 ≡ 0 → y1 % 256 ≡ 0
     → (m : ℕ) × (n ≡ m * 256)
 in-levels y0 y1 k g n e0 e1 h =
     let left : y0 ≡ y0 / 256 * 256 = omega arith in
-    let right : y1 ≡ y1 / 256 * 256 = omega arith in
-    (y0 / 256 * g + y1 / 256 * k, omega (arith, ap (λ (t : ℕ). t * g) left, ap (λ (t : ℕ). t * k) right))
+    let right : y1 ≡ y1 / 256 * 256 = omega arith in (
+      y0 / 256 * g + y1 / 256 * k,
+      omega (arith, ap (λ (t : ℕ). t * g) left, ap (λ (t : ℕ). t * k) right),
+    )
 
 -- what is nearest to a float that is close to a line of levels is nearest to the line
 nearest-level : (R : ℕ) (z : Float) (m w : ℕ) → 0 < w → w < 8192 → Nearest R (val z)
@@ -161,8 +163,8 @@ module _ (l : List Point) (proper : All Proper l) where
         let r = sample-256 v h in
         let b = straight-in-range rows x r in
         let same = sample-straight 256 v r in
-        byte-of-range (sampleOf Linear l 256 v) (rw same (straight-finite rows x r)) (rw same (b .0))
-        (rw same (b .1))
+        byte-of-range (sampleOf Linear l 256 v) (rw same (straight-finite rows x r))
+        (rw same (b .0)) (rw same (b .1))
 
     -- within 1 / 2 + 1 / 16,384 of the line
     pub entry-nearly : (n d : ℕ) → OnLine l v n d
@@ -172,7 +174,8 @@ module _ (l : List Point) (proper : All Proper l) where
         nearly (entryOf Linear l v) (val z) (frac n 0 d) (den-pos z) sample-nearest
         (byte-sample-near v h n d o)
 
-    -- the whole number nearest to the line of whole heights, at an exact half one of the two nearest
+    -- the whole number nearest to the line of whole heights, at an exact half one of the two
+    -- nearest
     pub entry-near : All WholeHeight (kept l) → (n d : ℕ) → OnLine l v n d
         → Nearest (entryOf Linear l v) (frac n 0 d)
     entry-near whole n d o =
@@ -188,6 +191,7 @@ module _ (l : List Point) (proper : All Proper l) where
         (all-at WholeHeight ks levels (suc i) (o .inside)) (rw parts (o .height)) in
         let same : d ≡ (b - a) * 256 = omega (arith, o .width) in
         rw (e, same)
-        (nearest-level (entryOf Linear l v) (sampleOf Linear l 256 v) m (b - a) (omega (arith, rise))
+        (nearest-level (entryOf Linear l v) (sampleOf Linear l 256 v) m (b - a)
+        (omega (arith, rise))
         (omega (arith, x-most (given-rows l proper) (suc i) (o .inside))) sample-nearest
         (rw (e, same) at (byte-sample-near v h n d o)))

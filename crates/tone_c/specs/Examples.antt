@@ -55,12 +55,13 @@ this-version = refl
 pub bytes-left-over :
     (pairsOf (10 ∷ 5 ∷ 1 ∷ 0 ∷ 0 ∷ 255 ∷ 77 ∷ []) ≡ pt 10 261 ∷ pt 0 65280 ∷ [])
     × (pairsOf (10 ∷ 5 ∷ 1 ∷ 0 ∷ 0 ∷ 255 ∷ 77 ∷ 78 ∷ []) ≡ pt 10 261 ∷ pt 0 65280 ∷ [])
-    × (pairsOf (10 ∷ 5 ∷ 1 ∷ 0 ∷ 0 ∷ 255 ∷ 77 ∷ 78 ∷ 79 ∷ []) ≡ pt 10 261 ∷ pt 0 65280 ∷ pt 77 20302 ∷ [])
+    × (pairsOf (10 ∷ 5 ∷ 1 ∷ 0 ∷ 0 ∷ 255 ∷ 77 ∷ 78 ∷ 79 ∷ [])
+    ≡ pt 10 261 ∷ pt 0 65280 ∷ pt 77 20302 ∷ [])
 unfolding pairs
 bytes-left-over = (refl, refl, refl)
 
--- 65 points, then a height of 65,535, then kind 10, then an output one byte too short; 64 points and
--- two bytes left over pass
+-- 65 points, then a height of 65,535, then kind 10, then an output one byte too short; 64 points
+-- and two bytes left over pass
 pub table-order : (firstRefusal (toneTableChecks (replicate 195 255) 10 255) ≡ PointCount)
     × (firstRefusal (toneTableChecks (replicate 194 255) 10 255) ≡ HeightRange)
     × (firstRefusal (toneTableChecks (replicate 194 7) 10 255) ≡ UnknownKind)

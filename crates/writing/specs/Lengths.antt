@@ -29,7 +29,8 @@ unfolding pairBytes
 pairs-length [] = refl
 pairs-length (p ∷ l) = omega (arith, pairs-length l)
 
-field-length : (o : Option (List Point)) → LegalColour Whole o → length (fieldBytes o) ≤ longestField
+field-length : (o : Option (List Point)) → LegalColour Whole o
+    → length (fieldBytes o) ≤ longestField
 field-length none h = lit≤ tt
 field-length (some l) h = omega (arith, pairs-length l)
 

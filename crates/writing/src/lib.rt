@@ -95,7 +95,8 @@ impl Draft {
 
     // A list, where it is present: its count, then its points.
     fn field(self, channel: Channel) -> Draft
-        requires { ⌜ (channelAnswer Whole channel ≡ Done) × Room (fieldBytes (channelOf channel)) self ⌝ }
+        requires { ⌜
+            (channelAnswer Whole channel ≡ Done) × Room (fieldBytes (channelOf channel)) self ⌝ }
         ensures { λ r. ⌜ Appended (fieldBytes (channelOf channel)) self r ⌝ }
     {
         if channel.present {

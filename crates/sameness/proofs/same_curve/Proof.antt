@@ -28,7 +28,8 @@ returns-2 c =
     let k = c .before .before in
     let a = k .before .args .a in
     let b = k .before .args .b in
-    by-points a b (a .count) (k .if1 .left) refl (ap (λ n. take n (placesOf b)) (k .if1 .left)) (c .same-points .ensures)
+    by-points a b (a .count) (k .if1 .left) refl (ap (λ n. take n (placesOf b)) (k .if1 .left))
+    (c .same-points .ensures)
 
 returns-3 : tie.Need-returns-3
 returns-3 c =

@@ -57,8 +57,10 @@ loop-again c =
     let h : k .loop .i < k .before .args .n = omega arith in
     let a-long = places-long (a k h) (search needs) in
     let b-long = places-long (b k h) (search needs) in
-    let here = of-a k h ∙ c .before .same-point .ensures .sound (not-false _ (c .if1 .left)) ∙ sym (of-b k h) in
-    (omega arith, one-more (placesOf (a k h)) (placesOf (b k h)) (k .loop .i) (omega arith) (omega arith) (k .loop .inv .1) here)
+    let here = of-a k h ∙ c .before .same-point .ensures .sound (not-false _ (c .if1 .left)) ∙ sym (of-b k h) in (
+      omega arith,
+      one-more (placesOf (a k h)) (placesOf (b k h)) (k .loop .i) (omega arith) (omega arith) (k .loop .inv .1) here,
+    )
 
 returns-2 : tie.Need-returns-2 Inv-loop μ-loop
 returns-2 c =

@@ -48,4 +48,5 @@ returns-3 c =
     (c .check-heights .ensures))
 
 pub check-curve-spec : {M : Type 1} → statement M
-check-curve-spec = tie.close (tie.spec (omega arith) (omega arith) returns (omega arith) returns-2 (omega arith) returns-3)
+check-curve-spec =
+    tie.close (tie.spec (omega arith) (omega arith) returns (omega arith) returns-2 (omega arith) returns-3)

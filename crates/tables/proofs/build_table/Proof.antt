@@ -29,7 +29,8 @@ sample-curve-requires c κs =
     let room = lengthCheck (length (A .samples .now)) ∷ [] in
     let passed =
     done-append (listChecks (A .t1)) room
-    (sym (answered (k .before)) ∙ done-is _ (sym (k .is-done .ensures) ∙ c .before .before .before .before .if1 .taken)) in
+    (sym (answered (k .before))
+    ∙ done-is _ (sym (k .is-done .ensures) ∙ c .before .before .before .before .if1 .taken)) in
     (typed-rows (A .t1) full (λ i. search needs) (λ i. search needs), length-passed _ (passed .1))
 
 returns : tie.Need-returns

@@ -7,8 +7,9 @@ use Rattle.sets.proofs.Curves.check.Tie as tie
 returns : tie.Need-returns
 returns c =
     let lists = c .before .before .before in
+    let a = lists .before .before .before .before .args in
     rw (
-      set-answer (lists .before .before .before .before .args .heights) (lists .before .before .before .before .args .«self»),
+      set-answer (a .heights) (a .«self»),
       c .first-of3 .ensures,
       c .before .first-of2 .ensures,
       c .before .before .first-of .ensures,

@@ -30,7 +30,10 @@ returns c =
     let n = countOf (c .before .before .before .args .points .now) in
     record {
       count = refl;
-      list = λ few. rw (c .read-points .ensures .1, c .before .count-read .ensures, all-read n few) at (c .read-points .ensures .0);
+      list =
+          λ few.
+          rw (c .read-points .ensures .1, c .before .count-read .ensures, all-read n few)
+          at (c .read-points .ensures .0);
     }
 
 pub curve-of-spec : {M : Type 1} → statement M
