@@ -2,7 +2,7 @@
 use Prim.Native.Nat.{ℕ}
 use mathlib.Core.Path.{_≡_}
 use mathlib.Core.List.{List}
-use mathlib.Core.Bool.{cond}
+use mathlib.Core.Bool.{Bool, cond}
 use lib.ListN.{drop}
 use Rattle.answers.specs.declared.Answer.{Answer}
 use Rattle.answers.specs.declared.Answer.the-variants.{Done}
@@ -11,19 +11,24 @@ use Rattle.points.specs.declared.Point.{Point}
 use Rattle.points.specs.declared.Heights.the-variants.{Whole}
 use Rattle.points.specs.Points.{listOf}
 use Rattle.tables.specs.declared.CurveInterpolation.{CurveInterpolation}
-use Rattle.sets.specs.Sets.{View, viewOf, curveAnswer, setAnswer}
+use Rattle.sets.specs.Sets.{viewOf, curveAnswer, setAnswer}
 use Rattle.sets.specs.SameLaws.{Full}
 use Rattle.records.specs.declared.point_lists.CurveRead.{CurveRead}
 use Rattle.records.specs.declared.kinds.NumberRead.{NumberRead}
 use Rattle.records.specs.declared.kinds.KindRead.{KindRead}
-use Rattle.records.specs.declared.Reading.{Reading}
+use Rattle.records.specs.declared.ChannelRead.{ChannelRead}
 use Rattle.records.specs.declared.RecordRead.{RecordRead}
-use Rattle.records.specs.Parse.{Parse, good, refused, _▷_}
+use Rattle.records.specs.Parse.{Parse, good, refused}
+use Rattle.records.specs.PointLists.{readField}
 use Rattle.records.specs.Format.{Read, readRecord}
+
+-- what a reading finds behind an earlier answer: a refusal stays
+abbrev pub after : {A : Type 0} → Answer → Parse A → Parse A
+after before p = cond (isDone before) p (refused before)
 
 -- a value and what follows it from a position on, where the answer is Done
 abbrev pub parsed : {A : Type 0} → Answer → A → List ℕ → ℕ → Parse A
-parsed a v s next = cond (isDone a) (good v (drop next s)) (refused a)
+parsed a v s next = after a (good v (drop next s))
 
 abbrev pub numberParsed : List ℕ → NumberRead → Parse ℕ
 numberParsed s r = parsed (r .answer) (r .number) s (r .next)
@@ -31,19 +36,19 @@ numberParsed s r = parsed (r .answer) (r .number) s (r .next)
 abbrev pub kindParsed : List ℕ → KindRead → Parse CurveInterpolation
 kindParsed s r = parsed (r .answer) (r .kind) s (r .next)
 
-abbrev pub setParsed : List ℕ → Reading → Parse View
-setParsed s r = parsed (r .answer) (viewOf (r .set)) s (r .next)
-
 -- a list is read as p says, and passes the writer's check of a set's list, refused or not
 pub record ListRead (s : List ℕ) (p : Parse (List Point)) (r : CurveRead) : Type 0 where
   pub list : parsed (r .answer) (listOf (r .curve)) s (r .next) ≡ p
   pub legal : curveAnswer Whole (r .curve) ≡ Done
 
--- one field more is read, and a set that passes the writer's check goes on passing it
-pub record ReadOn (s : List ℕ) (step : View → List ℕ → Parse View) (before after : Reading) :
-    Type 0 where
-  pub field : setParsed s after ≡ (setParsed s before ▷ step)
-  pub legal : setAnswer Whole (before .set) ≡ Done → setAnswer Whole (after .set) ≡ Done
+-- a colour is marked present or not; behind an earlier answer its list is read from a position on,
+-- and passes the same check, refused or not
+pub record ColourRead
+    (s : List ℕ) (present : Bool) (before : Answer) (at : ℕ) (r : ChannelRead) : Type 0 where
+  pub mark : r .channel .present ≡ present
+  pub list : parsed (r .answer) (listOf (r .channel .curve)) s (r .next)
+      ≡ after before (readField present 0 (drop at s))
+  pub legal : curveAnswer Whole (r .channel .curve) ≡ Done
 
 -- what a reader hands back: answer and set, and, on a refusal too, that the set passes the writer's
 -- check, "whole heights only", and is stored as the types have it

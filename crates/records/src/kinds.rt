@@ -5,7 +5,7 @@ ghost use lib.ListN.{drop};
 ghost use Rattle.answers.specs.Checks.{firstRefusal};
 ghost use Rattle.records.specs.Kinds.{unnamedKind, storedSlope, kindCheck, readNumber};
 ghost use Rattle.records.specs.Kinds.{readTension, readSlopes, readCarried, readKind};
-ghost use Rattle.records.specs.Views.{numberParsed, kindParsed};
+ghost use Rattle.records.specs.Views.{after, numberParsed, kindParsed};
 use crate::map::has_bit;
 use answers::Answer;
 use tables::CurveInterpolation;
@@ -162,7 +162,7 @@ fn read_carried(s: &[u8], at: usize, k: u8) -> KindRead
 }
 
 // The kind: its byte, then whether bits 5 and 6 agree with it, then what it carries.
-pub fn read_kind(s: &[u8], at: usize, map: u8, unnamed: CurveInterpolation) -> KindRead
+fn read_kind(s: &[u8], at: usize, map: u8, unnamed: CurveInterpolation) -> KindRead
     ensures { λ r. ⌜
         kindParsed (now (s .entry)) r ≡ readKind unnamed map (drop at (now (s .entry))) ⌝ }
 {
@@ -176,5 +176,24 @@ pub fn read_kind(s: &[u8], at: usize, map: u8, unnamed: CurveInterpolation) -> K
         }
     } else {
         no_kind(answer)
+    }
+}
+
+// The kind behind an earlier answer: a refusal stays.
+pub fn kind_after(
+    before: Answer,
+    s: &[u8],
+    at: usize,
+    map: u8,
+    unnamed: CurveInterpolation,
+) -> KindRead
+    ensures { λ r. ⌜
+        kindParsed (now (s .entry)) r
+        ≡ after before (readKind unnamed map (drop at (now (s .entry)))) ⌝ }
+{
+    if before.is_done() {
+        read_kind(s, at, map, unnamed)
+    } else {
+        no_kind(before)
     }
 }

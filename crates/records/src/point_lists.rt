@@ -9,7 +9,7 @@ ghost use Rattle.points.specs.Points.{limit, listOf};
 ghost use Rattle.sets.specs.Sets.{curveAnswer};
 ghost use Rattle.records.specs.PointLists.{pointBytes, pointOf, pairs, countChecks};
 ghost use Rattle.records.specs.PointLists.{readList, readField};
-ghost use Rattle.records.specs.Views.{ListRead};
+ghost use Rattle.records.specs.Views.{after, ListRead};
 use answers::Answer;
 use points::Curve;
 use points::Point;
@@ -156,5 +156,18 @@ pub fn read_field(s: &[u8], at: usize, present: bool, least: usize) -> CurveRead
             next: at,
             curve: Curve::empty(),
         }
+    }
+}
+
+// A field behind an earlier answer: a refusal stays, and the list is then empty.
+pub fn field_after(before: Answer, s: &[u8], at: usize, present: bool, least: usize) -> CurveRead
+    ensures { λ r. ⌜
+        ListRead (now (s .entry))
+        (after before (readField present least (drop at (now (s .entry))))) r ⌝ }
+{
+    if before.is_done() {
+        read_field(s, at, present, least)
+    } else {
+        no_curve(before)
     }
 }
