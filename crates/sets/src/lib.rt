@@ -154,26 +154,6 @@ impl Curves {
         self
     }
 
-    // A colour made present or absent, whichever colour it is.
-    pub fn with_channel(mut self, colour: Colour, channel: Channel) -> Curves
-        ensures { λ r. ⌜ r ≡ replaceColour colour channel self ⌝ }
-    {
-        match colour {
-            Colour::Red => {
-                self.red = channel;
-                self
-            }
-            Colour::Green => {
-                self.green = channel;
-                self
-            }
-            Colour::Blue => {
-                self.blue = channel;
-                self
-            }
-        }
-    }
-
     // The set is made anew: a store to a field that is an enum is not covered.
     pub fn with_interpolation(mut self, i: CurveInterpolation) -> Curves
         ensures { λ r. ⌜ r ≡ replaceKind i self ⌝ }
