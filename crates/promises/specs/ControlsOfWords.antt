@@ -101,6 +101,16 @@ nearly-at-edges = (
   λ h. omega (arith, h .0, h .1),
 )
 
+-- and no farther: 4,095 / 8,191 and 12,287 / 8,191 are 1 / (16,384 × 8,191) too far from 1
+pub nearly-no-farther : NearlyNearest 4096 8191 1 × (NearlyNearest 4095 8191 1 → ⊥)
+    × NearlyNearest 12286 8191 1 × (NearlyNearest 12287 8191 1 → ⊥)
+nearly-no-farther = (
+  (lit≤ tt, lit≤ tt),
+  λ h. omega (arith, h .0, h .1),
+  (lit≤ tt, lit≤ tt),
+  λ h. omega (arith, h .0, h .1),
+)
+
 -- whole heights: every point's
 pub whole-heights-at-edges : WholeHeights (pt 0 0 ∷ pt 1 256 ∷ pt 2 65280 ∷ [])
     × (WholeHeights (pt 0 0 ∷ pt 1 257 ∷ []) → ⊥) × (WholeHeights (pt 0 255 ∷ pt 1 0 ∷ []) → ⊥)
