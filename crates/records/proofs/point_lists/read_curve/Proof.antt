@@ -92,7 +92,8 @@ returns-3 c =
           rw (c .no-curve3 .ensures .0)
           (sym (counted (b .before) ∙ rw (
             length-drop (a .at + 1) (a .s .now),
-            lt-ltb (length (a .s .now) - (a .at + 1)) (w .wide .result * pointBytes One) (rw size at (c .before .if3 .taken)),
+            lt-ltb (length (a .s .now) - (a .at + 1)) (w .wide .result * pointBytes One)
+                (rw size at (c .before .if3 .taken)),
           )));
       legal = c .no-curve3 .ensures .1;
     }
