@@ -1,20 +1,18 @@
 -- The tables chosen by the code are those of the definition.
-use mathlib.Core.Path.{_≡_, refl, sym, _∙_}
-use mathlib.Core.Bool.{Bool, true, false, cond, _&&_, true≢false}
+use mathlib.Core.Path.{_≡_, refl, _∙_}
+use mathlib.Core.Bool.{Bool, true, false, cond, _&&_}
 use mathlib.Core.List.{List}
 use mathlib.Core.Option.{none, some}
 use Prim.Native.Nat.{ℕ, _*_}
-use Rattle.answers.specs.declared.Answer.the-variants.{Done}
 use Rattle.lists.specs.Tabulate.{filled}
 use Rattle.points.specs.declared.Point.{Point}
-use Rattle.points.specs.declared.Heights.the-variants.{Fine}
 use Rattle.points.specs.Points.{listOf}
 use Rattle.tables.specs.declared.CurveInterpolation.{CurveInterpolation}
 use Rattle.tables.specs.Tables.{byteTable}
 use Rattle.sets.specs.declared.Channel.{Channel}
 use Rattle.sets.specs.declared.Colour.{Colour}
 use Rattle.sets.specs.declared.Colour.the-variants.{Red, Green, Blue}
-use Rattle.sets.specs.Sets.{View, colourOf, channelOf, curveAnswer, channelAnswer, chosen, ownOrMaster}
+use Rattle.sets.specs.Sets.{View, colourOf, channelOf, chosen, ownOrMaster}
 use Rattle.rows.specs.Bytes.{three, rowByte}
 use Rattle.rows.specs.Rows.{tightByte, tightAlpha}
 use Rattle.formats.specs.declared.PixelFormat.{PixelFormat}

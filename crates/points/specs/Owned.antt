@@ -17,7 +17,6 @@ use mir.Val.{Val}
 use denote.Array.{each}
 use denote.Shadow.{shadow}
 use denote.Plain.{UInt}
-use Rattle.points.specs.declared.Point.{Point}
 use Rattle.points.specs.declared.Curve.{Curve}
 use Rattle.points.specs.Points.{joined, placesOf, listOf}
 use Rattle.points.specs.Order.{All, Typed}

@@ -3,18 +3,16 @@
 use Prim.Native.Nat.{ℕ, zero, suc, _+_, _-_, _≤_, _<_}
 use native.Mathlib.Omega.{arith}
 use mathlib.Core.Path.{_≡_}
-use mathlib.Core.List.{List, [], _∷_}
-use lib.Dec.{eqb, lit<}
-use lib.ListN.{length, replicate}
+use mathlib.Core.List.{List}
+use lib.ListN.{replicate}
 use lib.Ieee.{Float, nan, lt}
-use borrow.Author.Tests.{eqb-true}
 use Rattle.lists.specs.Tabulate.{getD-filled}
 use Rattle.lists.specs.Test.{by-test}
 use Rattle.single.specs.Constants.{𝟎}
 use Rattle.single.specs.Rules.{clamped}
 use Rattle.points.specs.declared.Point.{Point}
 use Rattle.points.specs.Points.{kept}
-use Rattle.points.specs.Knots.{rest, knots, at}
+use Rattle.points.specs.Knots.{knots, at}
 use Rattle.points.specs.Shape.{knots-two}
 use Rattle.segments.specs.Segments.{seek, segment}
 use Rattle.sampling.specs.Pieces.{pieceHeight, heightAt, sampled}

@@ -1,6 +1,6 @@
 -- The points of a record of edition 1: their heights are levels, whatever the bytes are; and where
 -- their types hold, none is above 65,280. So they pass the writer's test of heights.
-use Prim.Native.Nat.{ℕ, zero, suc, _*_, _%_, _<_, _≤_}
+use Prim.Native.Nat.{ℕ, zero, suc, _*_, _%_, _<_}
 use mathlib.Core.Path.{_≡_, refl}
 use mathlib.Core.Bool.{true}
 use mathlib.Core.List.{List}

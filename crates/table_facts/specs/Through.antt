@@ -1,7 +1,7 @@
 -- All ten kinds: every tangent and second derivative is finite, and so is every sample of both
 -- tables. The seven that are no splines: where a sample is at a kept point's x, it is the point's
 -- height, in the fine table exactly and in the byte table rounded.
-use mathlib.Core.Path.{_≡_, refl, _∙_}
+use mathlib.Core.Path.{_≡_, refl}
 use mathlib.Core.Bool.{true, false}
 use mathlib.Core.List.{List, List·Memᴰ}
 use Prim.Native.Nat.{ℕ, _*_, _≤_, _<_}

@@ -1,7 +1,4 @@
 -- `master_field`: a list is empty where its count is 0.
-use mathlib.Core.Path.{_≡_}
-use lib.ListN.{length}
-use Rattle.points.specs.Points.{placesOf}
 use Rattle.points.specs.Joined.{places-long}
 use Rattle.writing.proofs.Laws.{master-channel, master-passes}
 use borrow.Author.Needs.{needs}
