@@ -11,7 +11,7 @@ use Rattle.points.specs.declared.Point.{Point}
 use Rattle.points.specs.declared.Curve.{Curve}
 use Rattle.points.specs.declared.Heights.{Heights}
 use Rattle.points.specs.Points.{pt, nth, joined, placesOf, risesFrom, allAllowed}
-use Rattle.points.specs.Steps.{rowRises, rowAllowed}
+use Rattle.points.specs.Steps.{atXs, ofHeights}
 use Rattle.points.specs.Order.{All, Typed}
 
 pub joined-length : (xs ys : List ℕ) → length xs ≡ length ys → length (joined xs ys) ≡ length xs
@@ -89,16 +89,16 @@ typed-rows c full x y =
 
 -- ---- what is asked of the points is asked of one row
 pub joined-rises : (b n : ℕ) (xs ys : List ℕ) → length xs ≡ length ys
-    → risesFrom b (take n (joined xs ys)) ≡ rowRises b (take n xs)
-unfolding risesFrom rowRises
+    → risesFrom b (take n (joined xs ys)) ≡ risesFrom b (atXs (take n xs))
+unfolding risesFrom
 joined-rises b zero xs ys e = refl
 joined-rises b (suc n) [] ys e = refl
 joined-rises b (suc n) (x ∷ xs) [] e = absurd (omega arith)
 joined-rises b (suc n) (x ∷ xs) (y ∷ ys) e = rw (joined-rises (suc x) n xs ys (omega arith))
 
 pub joined-allowed : (heights : Heights) (n : ℕ) (xs ys : List ℕ) → length xs ≡ length ys
-    → allAllowed heights (take n (joined xs ys)) ≡ rowAllowed heights (take n ys)
-unfolding allAllowed rowAllowed
+    → allAllowed heights (take n (joined xs ys)) ≡ allAllowed heights (ofHeights (take n ys))
+unfolding allAllowed
 joined-allowed heights zero xs ys e = refl
 joined-allowed heights (suc n) [] [] e = refl
 joined-allowed heights (suc n) [] (y ∷ ys) e = absurd (omega arith)

@@ -13,7 +13,7 @@ use Rattle.points.specs.declared.Point.{Point}
 use Rattle.points.specs.declared.Curve.{Curve}
 use Rattle.points.specs.declared.Heights.the-variants.{Fine}
 use Rattle.points.specs.Points.{limit, listOf, countCheck, heightCheck}
-use Rattle.points.specs.Steps.{rowCheck}
+use Rattle.points.specs.Steps.{ofHeights}
 use Rattle.points.specs.Joined.{FullRows, joined-allowed}
 use Rattle.points.specs.CheckLaws.{few-points}
 use Rattle.records.specs.Kinds.{kindCheck}
@@ -27,7 +27,9 @@ first-same kind {m = m} e same =
 
 module _ {points : List ℕ} {curve : Curve} (given : GivenList points curve) (kind : ℕ) where
   pub same-checks : FullRows curve
-      → firstRefusal (countCheck (curve .count) ∷ rowCheck Fine (take (curve .count) (curve .ys)) ∷ kindCheck kind ∷ [])
+      → firstRefusal
+      (countCheck (curve .count) ∷ heightCheck Fine (ofHeights (take (curve .count) (curve .ys)))
+      ∷ kindCheck kind ∷ [])
       ≡ firstRefusal (givenChecks points kind)
   same-checks full =
       rw (← joined-allowed Fine (curve .count) (curve .xs) (curve .ys) (omega (arith, full .xs, full .ys)))

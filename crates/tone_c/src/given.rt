@@ -7,8 +7,8 @@ ghost use lib.Dec.{ltb};
 ghost use lib.ListN.{length, take};
 ghost use Rattle.answers.specs.Checks.{firstRefusal};
 ghost use Rattle.points.specs.declared.Heights.the-variants.{Fine};
-ghost use Rattle.points.specs.Points.{limit, countCheck};
-ghost use Rattle.points.specs.Steps.{rowCheck};
+ghost use Rattle.points.specs.Points.{limit, countCheck, heightCheck};
+ghost use Rattle.points.specs.Steps.{ofHeights};
 ghost use Rattle.records.specs.Kinds.{kindCheck};
 ghost use Rattle.tone_c.specs.Boundary.{formatCheck, GivenList};
 use answers::Answer;
@@ -45,7 +45,8 @@ pub fn curve_of(points: &[u8]) -> Curve
 pub fn check(ys: &[u16; 64], count: usize, kind: u8) -> Answer
     requires { ⌜ length (now ys) ≡ 64 ⌝ }
     ensures { λ r. ⌜
-        r ≡ firstRefusal (countCheck count ∷ rowCheck Fine (take count (now (ys .entry)))
+        r ≡ firstRefusal
+        (countCheck count ∷ heightCheck Fine (ofHeights (take count (now (ys .entry))))
         ∷ kindCheck kind ∷ []) ⌝ }
 {
     let given = check_given_row(ys, count);
