@@ -117,7 +117,18 @@ def table():
     return {old: to for old, to in new.items() if old != to}
 
 
-def tokens(text, new, fields=None):
+def own(text, new):
+    """The names that turn in a file: not those that it imports from a library."""
+    crates = set(os.listdir("crates"))
+    theirs = set()
+    for path, items in re.findall(r"\buse ([^\s;{]+)\.\{([^}]*)\}", text):
+        steps = path.split(".")
+        if steps[0] != "Rattle" or steps[1] not in crates:
+            theirs |= set(re.split(r"[\s,]+", items))
+    return {old: to for old, to in new.items() if old not in theirs}
+
+
+def tokens(text, new):
     def turn(m):
         name = m[0]
         return new.get(name, name)
@@ -221,7 +232,7 @@ def main():
         else:
             continue
         text = read(path)
-        turned = turn(text, new)
+        turned = turn(text, own(text, new))
         if turned != text:
             with open(path, "w", encoding="utf-8") as it:
                 it.write(turned)

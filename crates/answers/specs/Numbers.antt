@@ -2,7 +2,7 @@
 -- that different answers have different numbers, none of them 1, which document 02 took away.
 use Rattle.std.specs.Prelude.{ℕ, ◌≡◌, refl, Bool, true, false, cond, not, List, [], ◌∷◌, get_or, eqb}
 use Rattle.std.proofs.Common.{arith, sym, ap, ◌∙◌, eqb-true}
-use Rattle.std.proofs.lemmas.Bool.{eqb-false, not_true, not-false}
+use Rattle.std.proofs.lemmas.Bool.{eqb-false, not-true, not-false}
 use Rattle.answers.specs.declared.Answer.{Answer}
 use Rattle.answers.specs.declared.Answer.TheVariants.{
   Done,
@@ -103,7 +103,7 @@ done_is a e = number_unique a Done (eqb-true (number_of a) 0 e)
 -- code asked whether a is done, and tested that it is not
 module _ (a : Answer) {done : Bool} (is : done ≡ is_done a) where
   pub asked_refused : not done ≡ true → is_done a ≡ false
-  asked_refused t = sym is ∙ not_true done t
+  asked_refused t = sym is ∙ not-true done t
 
   pub asked_done : not done ≡ false → a ≡ Done
   asked_done t = done_is a (sym is ∙ not-false done t)

@@ -3,7 +3,7 @@
 -- that the format holds (`Rep f r e`) bounds a result where it bounds the exact result.
 -- Operands have either sign.
 use Rattle.std.specs.Prelude.{◌≡◌, refl, ℕ, ◌+◌, ◌-◌, ◌*◌, ◌^◌, ◌≤◌, ◌<◌, Bool, true, false, ◌&&◌, cond, T, ltb, Float}
-use Rattle.std.proofs.Common.{sym, ◌∙◌, inl, zero-le, lt_of_lt_of_le, le_trans, le_of_eq, zero_add, mul-pos, mul-le-mul, mul-le-mul_right, arith, lit<, ltb-false}
+use Rattle.std.proofs.Common.{sym, ◌∙◌, inl, zero-le, lt_of_lt_of_le, le_trans, le_of_eq, zero-add, mul-pos, mul-le-mul, mul-le-mul_right, arith, lit<, ltb-false}
 use Rattle.std.specs.Bool.{beq}
 use Rattle.std.specs.Float.{nan, inf, fin, Format, binary32}
 use Rattle.std.specs.Float.Ieee.{round, neg, sum, add, sub, mul, div, lt}
@@ -226,11 +226,11 @@ at_least_guarded {a} {c} {x = fin s m k} {guard = fin false n i} p u h e =
 
 -- ---- bounds that are whole numbers, in single precision
 pub whole_most : (x : Float) {n : ℕ} → Is x n 0 1 → AtMost n 1 x
-whole_most x {n} i = at_most_is x n 0 1 n (lit< tt) i (inl (sym (zero_add n)))
+whole_most x {n} i = at_most_is x n 0 1 n (lit< tt) i (inl (sym (zero-add n)))
 
 pub whole_least : (x : Float) {n : ℕ} → Is x n 0 1 → AtLeast n 1 x
 whole_least x {n} i =
-    let size = size_is x n 0 1 n i (inl (sym (zero_add n))) in
+    let size = size_is x n 0 1 n i (inl (sym (zero-add n))) in
     record { fin = i.0; unit = lit< tt; least = le_of_eq (sym size) }
 
 pub mul_most : {a b r : ℕ} {x y : Float} → Rep binary32 r 1 → AtMost a 1 x → AtMost b 1 y

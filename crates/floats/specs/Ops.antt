@@ -1,7 +1,7 @@
 -- What each operation rounds: the exact sum, difference, product and quotient, as a signed fraction
 -- made of any fractions that the operands equal.
 use Rattle.std.specs.Prelude.{◌≡◌, refl, ℕ, ◌+◌, ◌-◌, ◌*◌, ◌≤◌, ◌<◌, Bool, true, false, not, cond, T, ltb, Float}
-use Rattle.std.proofs.Common.{sym, ap, inl, inr, zero_add, add_comm, mul_comm, mul-pos, ne_of_gt, arith, ltb→lt, nltb→le, ne_eqb}
+use Rattle.std.proofs.Common.{sym, ap, inl, inr, zero-add, add_comm, mul_comm, mul-pos, ne_of_gt, arith, ltb→lt, nltb→le, ne_eqb}
 use Rattle.std.specs.Float.{nan, inf, fin, Format}
 use Rattle.std.specs.Float.Ieee.{up, down, unlike, round, neg, sum, add, sub, mul, div}
 use Rattle.std.specs.Float.Ieee.Scale.{finite}
@@ -193,7 +193,7 @@ module _ (f : Format) (x y : Float) (p n c q d : ℕ) (C : 0 < c) (D : 0 < d) (Q
   -- (p - n) / c over q / d is (p - n) * d / (c * q)
   pub div_rounds : Is y q 0 d → Rounds f (div f x y) (p * d) (n * d) (c * q)
   div_rounds k =
-      let apart = inl (sym (zero_add q)) in
+      let apart = inl (sym (zero-add q)) in
       let N = nonzero_is y q 0 d q k apart Q in
       rw (div_is f x y h.0 N, sign_is y q 0 d k Q, unlike_plus)
       (by_size N (size_is y q 0 d q k apart))
@@ -201,7 +201,7 @@ module _ (f : Format) (x y : Float) (p n c q d : ℕ) (C : 0 < c) (D : 0 < d) (Q
   -- and over -q / d it is (n - p) * d / (c * q)
   pub div_rounds_below : Is y 0 q d → Rounds f (div f x y) (n * d) (p * d) (c * q)
   div_rounds_below k =
-      let apart = inr (sym (zero_add q)) in
+      let apart = inr (sym (zero-add q)) in
       let N = nonzero_is y 0 q d q k apart Q in
       rw (div_is f x y h.0 N, sign_is_below y 0 q d k Q, unlike_minus, ← round_opposite)
       (rounds_neg f _ (p * d) (n * d) (c * q) (by_size N (size_is y 0 q d q k apart)))

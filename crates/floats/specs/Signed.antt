@@ -2,7 +2,7 @@
 -- / k, and their sums, products and quotients.
 -- Nothing here is about floats.
 use Rattle.std.specs.Prelude.{◌≡◌, ℕ, ◌+◌, ◌*◌, ◌≤◌, ◌<◌}
-use Rattle.std.proofs.Common.{ap, le_trans, add_zero, zero_add, mul_comm, mul_assoc, mul_left_comm, mul-add, add-mul, mul-le-mul_left, mul-le-mul_right, le_of_mul-le-mul_right, arith}
+use Rattle.std.proofs.Common.{ap, le_trans, add-zero, zero-add, mul_comm, mul_assoc, mul_left_comm, mul-add, add-mul, mul-le-mul_left, mul-le-mul_right, le_of_mul-le-mul_right, arith}
 
 -- A sum of products, multiplied out and sorted, for where omega's own multiplying out meets its
 -- bound: `simp poly at h`, `simp poly (omega arith)`.
@@ -48,12 +48,12 @@ up_through i j k p n c q m d r l e D h g =
 pub le_up : (i k p n c q m d r l e : ℕ) → 0 < d → Le p n c q m d → Up i k q m d r l e
     → Up i k p n c r l e
 le_up i k p n c q m d r l e D h g =
-    rw zero_add at (up_through 0 i k p n c q m d r l e D (le→up 0 k p n c q m d h) g)
+    rw zero-add at (up_through 0 i k p n c q m d r l e D (le→up 0 k p n c q m d h) g)
 
 pub up_le : (i k p n c q m d r l e : ℕ) → 0 < d → Up i k p n c q m d → Le q m d r l e
     → Up i k p n c r l e
 up_le i k p n c q m d r l e D h g =
-    rw add_zero at (up_through i 0 k p n c q m d r l e D h (le→up 0 k q m d r l e g))
+    rw add-zero at (up_through i 0 k p n c q m d r l e D h (le→up 0 k q m d r l e g))
 
 -- ---- both signs changed, and a larger slack
 pub up_flip : (i k p n c q m d : ℕ) → Up i k p n c q m d → Up i k m q d n p c

@@ -1,6 +1,6 @@
 -- Operations that are exact: on fractions of a power of two with few digits, on whole numbers, zero
 -- over a number and a number over itself.
-use Rattle.std.proofs.Common.{sym, inl, zero_add, mul-pos, arith, lit<, lit≤, pow-add, pow_pos}
+use Rattle.std.proofs.Common.{sym, inl, zero-add, mul-pos, arith, lit<, lit≤, pow-add, pow_pos}
 use Rattle.std.specs.Prelude.{ℕ, ◌+◌, ◌-◌, ◌*◌, ◌^◌, ◌≤◌, ◌<◌, Float}
 use Rattle.std.specs.Float.{Format, binary32}
 use Rattle.std.specs.Float.Ieee.{unlike, div}
@@ -74,7 +74,7 @@ whole_mul x y a b s h k =
 pub zero_div : (f : Format) (x y : Float) (q d : ℕ) → 0 < q → 0 < d → Is x 0 0 1 → Is y q 0 d
     → Is (div f x y) 0 0 1
 zero_div f x y q d Q D h k =
-    rw (zero_over f x y h (nonzero_is y q 0 d q k (inl (sym (zero_add q))) Q))
+    rw (zero_over f x y h (nonzero_is y q 0 d q k (inl (sym (zero-add q))) Q))
     (nought_is (unlike (sign x) (sign y)))
 
 pub div_self : (x y : Float) (h d : ℕ) → 0 < h → 0 < d → Is x h 0 d → Is y h 0 d → Is (x ⊘ y) 1 0 1

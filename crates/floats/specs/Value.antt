@@ -2,7 +2,7 @@
 -- den. `Is x p n c` says, for a c above 0, that x is finite and equals (p - n) / c, whichever sign
 -- a zero has. The order of finite floats is the order of their fractions.
 use Rattle.std.specs.Prelude.{◌≡◌, refl, ◌⊎◌, ◌↔◌, ℕ, ◌+◌, ◌*◌, ◌≤◌, ◌<◌, Bool, true, false, not, ◌&&◌, ◌||◌, pos, T, eqb, Float}
-use Rattle.std.proofs.Common.{sym, ap, inl, inr, zero_add, mul-pos, mul-lt-mul_of_pos_right, mul-le-mul_right, le_of_eq, le_of_lt, eq-or-lt_of_le, lt_of_not-le, le_of_suc-le-suc, arith, true≢false, eqb→eq, ltb→lt, lt→ltb, T_not, eq-eqb}
+use Rattle.std.proofs.Common.{sym, ap, inl, inr, zero-add, mul-pos, mul-lt-mul_of_pos_right, mul-le-mul_right, le_of_eq, le_of_lt, eq-or-lt_of_le, lt_of_not-le, le_of_suc-le-suc, arith, true≢false, eqb→eq, ltb→lt, lt→ltb, T_not, eq-eqb}
 use Rattle.std.proofs.Math.Nat.{eq_of_mul-eq-mul_right}
 use Rattle.std.specs.Float.{nan, inf, fin}
 use Rattle.std.specs.Float.Ieee.{up, down, neg, le, lt, eq}
@@ -160,7 +160,7 @@ value_is (inf s) p n c a h e = absurd h.0
 value_is (fin s m k) p n c a h e = (refl, size_is (fin s m k) p n c a h e)
 
 pub unsigned_value : (x : Float) (a c : ℕ) → T (unsigned x) → Is x a 0 c → HasValue x false a c
-unsigned_value x a c u h = rw (unsigned_sign x u) at (value_is x a 0 c a h (inl (sym (zero_add a))))
+unsigned_value x a c u h = rw (unsigned_sign x u) at (value_is x a 0 c a h (inl (sym (zero-add a))))
 
 -- ---- the order: `lt` and `eq` compare the sizes over a common denominator
 equal : (a b : ℕ) → a ≡ b → T (eqb a b && true)

@@ -2,10 +2,10 @@
 -- read, d is what `get_or` answers past the end.
 use Rattle.std.specs.Prelude.{◌≡◌, length, get_or}
 use Rattle.std.proofs.Math.Path.{refl, ap}
-use Rattle.std.proofs.Common.{sym, ◌∙◌, zero_add, add-suc, suc-add, arith, ext_get_or}
+use Rattle.std.proofs.Common.{sym, ◌∙◌, zero-add, add-suc, suc-add, arith, ext_get_or}
 use mathlib.Core.List.{List, [], ◌∷◌}
 use Prim.Native.Nat.{ℕ, suc, zero, ◌+◌, ◌<◌}
-use Rattle.std.proofs.Math.Nat.{add_zero}
+use Rattle.std.proofs.Math.Nat.{add-zero}
 
 module _ {ℓ} {A : Type ℓ} where
   -- the same where the first element's place is i
@@ -26,7 +26,7 @@ module _ {ℓ} {A : Type ℓ} where
       → get_or (each_from f i l) k d ≡ f (i + k) (get_or l k d)
   unfolding each_from
   get_d_each_from f i [] k d h = absurd (omega arith)
-  get_d_each_from f i (x ∷ xs) zero d h = simp add_zero
+  get_d_each_from f i (x ∷ xs) zero d h = simp add-zero
   get_d_each_from f i (x ∷ xs) (suc k) d h =
       get_d_each_from f (suc i) xs k d (omega arith) ∙ simp (add-suc, suc-add)
 
@@ -37,7 +37,7 @@ module _ {ℓ} {A : Type ℓ} where
   pub get_d_each : (f : ℕ → A → A) (l : List A) (k : ℕ) (d : A) → k < length l
       → get_or (each f l) k d ≡ f k (get_or l k d)
   unfolding each
-  get_d_each f l k d h = get_d_each_from f 0 l k d h ∙ ap (λ (i : ℕ). f i (get_or l k d)) (zero_add k)
+  get_d_each f l k d h = get_d_each_from f 0 l k d h ∙ ap (λ (i : ℕ). f i (get_or l k d)) (zero-add k)
 
   -- a list as long as l that has f's element at each place
   pub is_each : {m : List A} (d : A) (f : ℕ → A → A) (l : List A) → length m ≡ length l

@@ -9,7 +9,7 @@ use Rattle.std.proofs.Common.{sym, ap, ◌∙◌, eq-or-lt_of_le, add-suc, add_a
 use Rattle.std.proofs.Math.Logic.{⊎_elim}
 use Prim.Native.Nat.{ℕ, zero, suc, ◌+◌, ◌-◌, ◌<◌, ◌≤◌}
 use Rattle.std.proofs.Math.Decide.{dec_lt}
-use Rattle.std.proofs.Math.Nat.{add_zero, suc-add}
+use Rattle.std.proofs.Math.Nat.{add-zero, suc-add}
 use native.Mathlib.Omega.{arith}
 use Rattle.std.proofs.Math.ListN.{length-set}
 use Rattle.std.proofs.Math.Seq.{get_or-set_other}
@@ -70,7 +70,7 @@ module _ {ℓ} {A : Type ℓ} where
   store_before : (f : ℕ → A) (a n : ℕ) (l : List A)
       → store f a (suc n) l ≡ set (store f (suc a) n l) a (f a)
   unfolding store
-  store_before f a zero l = simp add_zero
+  store_before f a zero l = simp add-zero
   store_before f a (suc n) l =
       rw (store_before f a n l, suc-add, add-suc)
       (set_comm (store f (suc a) n l) a (suc (a + n)) (f a) (f (suc (a + n))) (λ e. omega arith))
@@ -78,7 +78,7 @@ module _ {ℓ} {A : Type ℓ} where
   store_then : (f : ℕ → A) (a n p : ℕ) (l : List A)
       → store f a (n + p) l ≡ store f (a + n) p (store f a n l)
   unfolding store
-  store_then f a n zero l = simp add_zero
+  store_then f a n zero l = simp add-zero
   store_then f a n (suc p) l = rw (add-suc, store, store_then f a n p l, ← add_assoc)
 
   store_as : (f g : ℕ → A) (a n : ℕ) (l : List A) → ((w : ℕ) → a ≤ w → w < a + n → f w ≡ g w)

@@ -3,9 +3,9 @@
 -- Wherever an element is read, d is what `get_or` answers past the end.
 use Rattle.std.specs.Prelude.{◌≡◌, List, [], ◌∷◌, ◌++◌, get_or, drop}
 use Rattle.std.proofs.Math.Path.{refl, ap}
-use Rattle.std.proofs.Common.{sym, ◌∙◌, zero_add, add-suc, suc-add, length-append, length-drop, get_or-append-add, get_or-drop, ext_get_or}
+use Rattle.std.proofs.Common.{sym, ◌∙◌, zero-add, add-suc, suc-add, length-append, length-drop, get_or-append-add, get_or-drop, ext_get_or}
 use Prim.Native.Nat.{ℕ, zero, suc, ◌+◌, ◌-◌, ◌<◌, ◌≤◌}
-use Rattle.std.proofs.Math.Nat.{add_zero}
+use Rattle.std.proofs.Math.Nat.{add-zero}
 use native.Mathlib.Omega.{arith}
 use Rattle.std.proofs.Math.ListN.{length, get_or-append}
 
@@ -27,7 +27,7 @@ module _ {ℓ} {A : Type ℓ} where
   get_d_from : (i n : ℕ) (f : ℕ → A) (k : ℕ) (d : A) → k < n → get_or (from i n f) k d ≡ f (i + k)
   unfolding from
   get_d_from i zero f k d h = absurd (omega arith)
-  get_d_from i (suc n) f zero d h = simp add_zero
+  get_d_from i (suc n) f zero d h = simp add-zero
   get_d_from i (suc n) f (suc k) d h =
       get_d_from (suc i) n f k d (omega arith) ∙ simp (add-suc, suc-add)
 
@@ -37,7 +37,7 @@ module _ {ℓ} {A : Type ℓ} where
 
   pub get_d_tabulate : (n : ℕ) (f : ℕ → A) (k : ℕ) (d : A) → k < n → get_or (tabulate n f) k d ≡ f k
   unfolding tabulate
-  get_d_tabulate n f k d h = get_d_from 0 n f k d h ∙ ap f (zero_add k)
+  get_d_tabulate n f k d h = get_d_from 0 n f k d h ∙ ap f (zero-add k)
 
   -- a list of n elements that has f k at each place k
   pub is_tabulate : {n : ℕ} {f : ℕ → A} {l : List A} (d : A) → length l ≡ n

@@ -3,7 +3,7 @@
 -- those of whole heights, and answers 20 for the others.
 use Rattle.std.specs.Prelude.{ℕ, ◌%◌, ◌≡◌, refl, Bool, true, false, not, List, [], ◌∷◌, leb}
 use Rattle.std.proofs.Common.{sym, ◌∙◌, true≢false, eq-eqb, le-ltb}
-use Rattle.std.proofs.lemmas.Bool.{false≢true, eqb-false, not_true}
+use Rattle.std.proofs.lemmas.Bool.{false≢true, eqb-false, not-true}
 use Rattle.std.proofs.Math.Option.{Option, none, some}
 use Rattle.lists.specs.Test.{by_test}
 use Rattle.answers.specs.declared.Answer.{Answer}
@@ -147,11 +147,11 @@ module _ (v : View) where
   list_heights c e h =
       let p = passed_list Fine c e in
       (λ t. absurd (false≢true (sym (le-ltb limit c.count p.few) ∙ t)))
-      and (λ t. absurd (false≢true (sym (not_true _ t) ∙ p.rising)))
+      and (λ t. absurd (false≢true (sym (not-true _ t) ∙ p.rising)))
       and (λ t. record {
         refused = λ u. refl;
         whole = λ all.
-            absurd (false≢true (sym (not_true _ t) ∙ whole_passes (list_of c) p.high (h all)));
+            absurd (false≢true (sym (not-true _ t) ∙ whole_passes (list_of c) p.high (h all)));
       })
       and no_more
 

@@ -8,7 +8,7 @@ use lib.IntN.{ℤ}
 use mir.Syntax.{Width}
 use mir.Val.{SFits, of_z, to_z}
 use mir.Facts.{to_z-of_z}
-use borrow.Author.Tests.{eqb-true, eq-eqb, not_true}
+use borrow.Author.Tests.{eqb-true, eq-eqb, not-true}
 use Rattle.sameness.specs.Decides.{Decides}
 
 pub yes : {P : Type 0} → P → Decides P true
@@ -40,7 +40,7 @@ pub decides_on : (b : Bool) → Decides (b ≡ true) b
 decides_on b = record { sound = λ e. e; complete = λ e. e }
 
 pub decides_off : (b : Bool) → Decides (b ≡ false) (not b)
-decides_off b = record { sound = not_true b; complete = λ e. rw e }
+decides_off b = record { sound = not-true b; complete = λ e. rw e }
 
 -- signed numbers are compared by their bits
 pub decides_signed : (w : Width) (x y : ℤ) → SFits w x → SFits w y → Decides (x ≡ y) (eqb (of_z w x) (of_z w y))

@@ -2,7 +2,7 @@
 -- guard. Sizes are powers of two, in the units of `Within`, of which 1.0 has 2 ^ 149; a knot's x
 -- and height are at most 2 ^ 8, so 2 ^ 157 units.
 use Rattle.std.specs.Prelude.{◌≡◌, Bool, false, cond, List, ℕ, suc, ◌+◌, ◌-◌, ◌*◌, ◌^◌, max, ◌≤◌, ◌<◌, T, ltb, leb, Float}
-use Rattle.std.proofs.Common.{sym, inl, le_trans, zero_add, mul_right_comm, mul-le-mul_right, arith, lit<, lit≤}
+use Rattle.std.proofs.Common.{sym, inl, le_trans, zero-add, mul_right_comm, mul-le-mul_right, arith, lit<, lit≤}
 use Rattle.std.proofs.Math.Nat.{le-max_left, le-max_right}
 use Rattle.std.specs.Float.Ieee.{lt, le, of_bits}
 use Rattle.std.specs.Float.Ieee.Positive.{den, den_pos}
@@ -36,7 +36,7 @@ use Rattle.segments.specs.SegmentLaws.{nonnegative_is}
 pub most_within : (x : Float) (p c b k : ℕ) → 0 < c → Is x p 0 c → p ≤ b → b * 2 ^ 149 ≤ 2 ^ k * c
     → Within x k
 most_within x p c b k C i l h =
-    within_is x p 0 c p k C i (inl (sym (zero_add p))) (le_trans (mul-le-mul_right (2 ^ 149) l) h)
+    within_is x p 0 c p k C i (inl (sym (zero-add p))) (le_trans (mul-le-mul_right (2 ^ 149) l) h)
 
 -- what is from 0 to the whole number b
 pub upto_within : (x y : Float) (b k : ℕ) → Is y b 0 1 → T (le 𝟎 x) → T (le x y)

@@ -1,7 +1,7 @@
 -- The second derivatives of the three splines are finite: every row of their systems has one of the
 -- shapes that ThomasBounds asks for, as knots are at least 1 apart.
 use Rattle.std.specs.Prelude.{◌≡◌, refl, false, List, T, ltb, leb, eqb, Float}
-use Rattle.std.proofs.Common.{sym, inl, inr, le_trans, le_of_eq, zero_add, mul-le-mul_right, arith, lit<, lit≤, pow_pos}
+use Rattle.std.proofs.Common.{sym, inl, inr, le_trans, le_of_eq, zero-add, mul-le-mul_right, arith, lit<, lit≤, pow_pos}
 use Prim.Native.Nat.{ℕ, zero, suc, ◌+◌, ◌-◌, ◌*◌, ◌^◌, ◌≤◌, ◌<◌, zero-le}
 use borrow.Author.Tests.{eq-eqb, ne_eqb, eqb-false, ltb-false}
 use Rattle.std.specs.Float.Ieee.{lt, of_bits}
@@ -43,7 +43,7 @@ pub least_beyond : (x : Float) (p c b k : ℕ) → 0 < c → Is x p 0 c → b �
 least_beyond x p c b k C i l h =
     beyond_of i.0
     (through (2 ^ k) p (num x) _ c (den x) C (le_trans h (mul-le-mul_right _ l))
-    (le_of_eq (sym (size_is x p 0 c p i (inl (sym (zero_add p)))))))
+    (le_of_eq (sym (size_is x p 0 c p i (inl (sym (zero-add p)))))))
 
 six_within : Within 𝟔 152
 unfolding of_bits
