@@ -65,7 +65,7 @@ APART = {"inOrder": "in_order", "straightLine": "straight_line"}
 
 WORD = r"[^\s(){}.;,@\"«»\[\]`]+"
 DECLARED = re.compile(
-    r"^ *(?:(?:abbrev|unfoldable|pub|opaque) +)*(data|record|ruleset)?\s*"
+    r"^ *(?:(?:abbrev|unfoldable|pub|opaque) +)*(?:(data|record|ruleset) +)?"
     rf"({WORD})(?: \{{[^{{}}]*\}}| \([^()]*\))* :(?!=)"
 )
 PLAIN = re.compile(r"[a-z][A-Za-z0-9'_-]*")
@@ -73,8 +73,8 @@ STANDING = re.compile(r"proofs/(?!\w+\.antt$)")
 
 
 def in_snake_case(name):
-    words = re.sub(r"(?<=[a-z0-9])[A-Z]", lambda m: "_" + m[0].lower(), name)
-    return words.replace("-", "_")
+    words = re.sub(r"(?<=.)[A-Z]", lambda m: "_" + m[0].lower(), name)
+    return re.sub("_+", "_", words.replace("-", "_"))
 
 
 def lemma_files():
@@ -91,8 +91,9 @@ def declared():
     for path in lemma_files():
         for line in read(path).split("\n"):
             m = DECLARED.match(line)
-            if m and PLAIN.fullmatch(m[2]):
-                names.add(m[2])
+            name = m[2] if m else line.removeprefix("pub ") if line.startswith("pub ") else ""
+            if PLAIN.fullmatch(name):
+                names.add(name)
     return names
 
 

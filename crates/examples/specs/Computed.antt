@@ -24,7 +24,7 @@ use Rattle.spline.specs.Second.{
   unknown,
   natural_at,
   ends_recovered,
-  not_aKnot_at,
+  not_a_knot_at,
   second_at,
 }
 use Rattle.spline.specs.Thomas.{scaled, sweep, swept, swept_row, backward, substituted, solution}
@@ -43,7 +43,7 @@ unfolding entry_of sample_of sampled unclamped_at height_at piece_height kept ke
     Straight.straight
     hermite slope catmull_rom_at looseness loose_slope cardinal_at secant_at mean_at boxed circled
     adjusted reached monotone_at chord spacing three_terms alpha_tangent alpha_at between segment_at
-    first_coefficient spline_piece slope_of second_at natural_at not_aKnot_at ends_recovered recovered
+    first_coefficient spline_piece slope_of second_at natural_at not_a_knot_at ends_recovered recovered
     framed unknown row_at solution substituted backward swept_row swept sweep scaled guarded_quotient
     absolute root_of clamped byte_of add sub neg mul div lt of_int of_bits
 entry = entry_of

@@ -159,25 +159,25 @@ pub circle
 unfolding Computed.entry
 circle = refl
 
-pub circle-sample
+pub circle_sample
     : bits MonotoneCubic (at_level 0 7 ∷ at_level 7 97 ∷ at_level 49 205 ∷ at_level 91 97 ∷ []) 42
     ≡ 0x434c_7fff
 unfolding Computed.entry to_bits
-circle-sample = refl
+circle_sample = refl
 
 -- "from the a and b before that zeroing" (from those after it, 19)
-pub before-zeroing
+pub before_zeroing
     : entry_of MonotoneCubic (at_level 0 20 ∷ at_level 20 15 ∷ at_level 25 40 ∷ []) 5 ≡ 18
 unfolding Computed.entry
-before-zeroing = refl
+before_zeroing = refl
 
 -- "at an inner knot the left segment is used" (the right one would give the point's y, 0)
-pub left-segment
+pub left_segment
     : entry_of NotAKnotCubic
     (at_level 142 0 ∷ at_level 143 255 ∷ at_level 144 0 ∷ at_level 210 255 ∷ []) 142
     ≡ 1
 unfolding Computed.entry
-left-segment = refl
+left_segment = refl
 
 pub left_segment_natural : bits NaturalCubic four_points 128 ≡ 0x42c8_0018
 unfolding Computed.entry to_bits
@@ -220,29 +220,29 @@ tension_divided = refl
 
 -- the three terms are right − across + left (left − across + right, or right − (across − left): 96
 -- and 78; right + left − across: 178 and 101)
-pub terms-centripetal
+pub terms_centripetal
     : entry_of CentripetalCatmullRom (at_level 65 205 ∷ at_level 130 50 ∷ at_level 225 130 ∷ []) 188
     ≡ 97
 unfolding Computed.entry
-terms-centripetal = refl
+terms_centripetal = refl
 
-pub across-centripetal
+pub across_centripetal
     : entry_of CentripetalCatmullRom (at_level 0 96 ∷ at_level 172 236 ∷ at_level 190 229 ∷ []) 82
     ≡ 177
 unfolding Computed.entry
-across-centripetal = refl
+across_centripetal = refl
 
-pub terms-chordal
+pub terms_chordal
     : entry_of ChordalCatmullRom
     (at_level 0 75 ∷ at_level 65 15 ∷ at_level 110 195 ∷ at_level 140 220 ∷ at_level 185 75 ∷ []) 85
     ≡ 77
 unfolding Computed.entry
-terms-chordal = refl
+terms_chordal = refl
 
-pub across-chordal
+pub across_chordal
     : entry_of ChordalCatmullRom (at_level 0 247 ∷ at_level 59 223 ∷ at_level 147 56 ∷ []) 117 ≡ 102
 unfolding Computed.entry
-across-chordal = refl
+across_chordal = refl
 
 -- c2 × t × t (as c2 × (t × t): 0)
 pub square_order : entry_of NaturalCubic (at_level 0 45 ∷ at_level 80 10 ∷ []) 175 ≡ 1
@@ -266,10 +266,10 @@ unfolding Computed.entry to_bits
 basis = refl
 
 -- 3 / root × a × secant
-pub circle-product
+pub circle_product
     : bits MonotoneCubic (at_level 10 40 ∷ at_level 20 230 ∷ at_level 250 30 ∷ []) 107 ≡ 0x437d_6e7b
 unfolding Computed.entry to_bits
-circle-product = refl
+circle_product = refl
 
 -- at the ends of the curve the tangents are (dy / dt) / (dx / dt): the two kinds round them unlike
 -- each other, and neither has the secant
@@ -278,10 +278,10 @@ pub centripetal_end_tangents : bits CentripetalCatmullRom (at_level 0 10 ∷ at_
 unfolding Computed.entry to_bits
 centripetal_end_tangents = refl
 
-pub chordal-end-tangents
+pub chordal_end_tangents
     : bits ChordalCatmullRom (at_level 0 10 ∷ at_level 255 210 ∷ []) 64 ≡ 0x4270_c8cc
 unfolding Computed.entry to_bits
-chordal-end-tangents = refl
+chordal_end_tangents = refl
 
 -- the coefficients c1, c2, c3 and their powers, and the solve, which multiplies by the pivot's
 -- inverse
@@ -289,17 +289,17 @@ pub natural_solve : bits NaturalCubic (at_level 120 170 ∷ at_level 220 70 ∷ 
 unfolding Computed.entry to_bits
 natural_solve = refl
 
-pub clamped-solve
+pub clamped_solve
     : bits (ClampedCubic (pos 512) (negsuc 299)) (at_level 0 90 ∷ at_level 230 140 ∷ []) 143
     ≡ 0x4315_51d4
 unfolding Computed.entry to_bits
-clamped-solve = refl
+clamped_solve = refl
 
 -- not-a-knot's first and last row, h × 6 × the difference of the secants
-pub first-row
+pub first_row_lem
     : bits NotAKnotCubic (at_level 0 160 ∷ at_level 130 20 ∷ at_level 180 110 ∷ []) 21 ≡ 0x4265_bdf0
 unfolding Computed.entry to_bits
-first-row = refl
+first_row_lem = refl
 
 pub last_row
     : bits NotAKnotCubic (at_level 0 160 ∷ at_level 130 20 ∷ at_level 180 110 ∷ []) 252 ≡ 0x42e8_801b

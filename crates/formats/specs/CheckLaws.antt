@@ -5,7 +5,7 @@ use Rattle.answers.specs.declared.Answer.TheVariants.{Done}
 use Rattle.answers.specs.Checks.{AllPassed, all_passed}
 use Rattle.rows.specs.Rows.{Rows, needed}
 use Rattle.formats.specs.declared.PixelFormat.{PixelFormat}
-use Rattle.formats.specs.Formats.{bytes_aPixel}
+use Rattle.formats.specs.Formats.{bytes_a_pixel}
 use Rattle.formats.specs.Checks.{too_large, wrong_step, plane_checks, lut_checks, lut_answer}
 
 pub neither : (s t : Bool) → s || t ≡ false → (s ≡ false) × (t ≡ false)
@@ -25,13 +25,13 @@ pub record GoodPlane (f : PixelFormat) (w h step len : ℕ) : Type 0 where
   pub wide : w ≤ 4096
   pub high : h ≤ 4096
   pub stepped : step ≤ 32768
-  pub rows : Rows w h (w * bytes_aPixel f) step len
+  pub rows : Rows w h (w * bytes_a_pixel f) step len
 
 module _ (f : PixelFormat) (w h step len : ℕ) where
-  pub good_plane : too_large w h ≡ false → AllPassed (plane_checks w h (w * bytes_aPixel f) step len)
+  pub good_plane : too_large w h ≡ false → AllPassed (plane_checks w h (w * bytes_a_pixel f) step len)
       → GoodPlane f w h step len
   good_plane small passed =
-      let row = w * bytes_aPixel f in
+      let row = w * bytes_a_pixel f in
       let stepped = steps row step passed.0 in
       record {
         wide = (sides w h small).0;

@@ -13,7 +13,7 @@ use Rattle.answers.specs.Checks.{Check, ◌when◌, first_refusal, room_check}
 use Rattle.rows.specs.Rows.{needed}
 use Rattle.formats.specs.declared.PixelFormat.{PixelFormat}
 use Rattle.formats.specs.declared.Lengths.{Lengths}
-use Rattle.formats.specs.Formats.{bytes_aPixel, planes_read}
+use Rattle.formats.specs.Formats.{bytes_a_pixel, planes_read}
 
 -- the limits of 9 and 11
 abbrev pub largest_side : ℕ
@@ -38,7 +38,7 @@ plane_checks w h row step len =
 -- the one-table call
 abbrev pub lut_checks : PixelFormat → ℕ → ℕ → ℕ → ℕ → List Check
 lut_checks f w h step len =
-    PictureTooLarge when too_large w h ∷ plane_checks w h (w * bytes_aPixel f) step len
+    PictureTooLarge when too_large w h ∷ plane_checks w h (w * bytes_a_pixel f) step len
 
 unfoldable pub lut_answer : PixelFormat → ℕ → ℕ → ℕ → ℕ → Answer
 lut_answer f w h step len = first_refusal (lut_checks f w h step len)
@@ -61,7 +61,7 @@ output_checks f size held =
 -- the set call, after its lists
 abbrev pub picture_checks : PixelFormat → ℕ → ℕ → ℕ → ℕ → Lengths → List Check
 picture_checks f w h planes step held =
-    let row = w * bytes_aPixel f in
+    let row = w * bytes_a_pixel f in
     UnsupportedFormat when eqb (planes_read f) 0
     ∷ PictureTooLarge when too_large w h
     ∷ MissingPlane when ltb planes (planes_read f)

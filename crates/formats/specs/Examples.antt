@@ -21,7 +21,7 @@ use Rattle.formats.specs.declared.PixelFormat.TheVariants.{
   YuvJ444P,
 }
 use Rattle.formats.specs.Formats.{in_order, last_format, format_of}
-use Rattle.formats.specs.Formats.{bytes_aPixel, alpha_of, planes_read, by_colour}
+use Rattle.formats.specs.Formats.{bytes_a_pixel, alpha_of, planes_read, by_colour}
 use Rattle.formats.specs.Checks.{lut_answer, picture_answer}
 
 -- ---- the formats
@@ -42,9 +42,9 @@ unfolding tabulate format_of
 numbered = (refl, refl, refl)
 
 -- "width times 1 (Gray8, luma), 2 (Ya8), 3 (Rgb24), 4 (Rgba, Cmyk, CmykInverted)"
-pub bytes_a_pixel : (others bytes_aPixel ≡ 1 ∷ 2 ∷ 3 ∷ 4 ∷ 4 ∷ 4 ∷ [])
-    × (yuv bytes_aPixel ≡ replicate 6 1)
-bytes_a_pixel = (refl, refl)
+pub bytes_a_pixel_lem : (others bytes_a_pixel ≡ 1 ∷ 2 ∷ 3 ∷ 4 ∷ 4 ∷ 4 ∷ [])
+    × (yuv bytes_a_pixel ≡ replicate 6 1)
+bytes_a_pixel_lem = (refl, refl)
 
 -- "alpha of Ya8 and Rgba, chroma and padding unchanged; Cmyk tones all four inks": alpha is the
 -- channel after grey, 1, or after the colours, 3; elsewhere the number of channels means none

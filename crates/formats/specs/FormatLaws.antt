@@ -17,10 +17,10 @@ use Rattle.formats.specs.declared.PixelFormat.TheVariants.{
   YuvJ422P,
   YuvJ444P,
 }
-use Rattle.formats.specs.Formats.{bytes_aPixel, alpha_of}
+use Rattle.formats.specs.Formats.{bytes_a_pixel, alpha_of}
 use Rattle.formats.specs.Checks.{Supported}
 
-few_in_place : (f : PixelFormat) → (bytes_aPixel f ≤ 4) × InPlace (bytes_aPixel f) (alpha_of f)
+few_in_place : (f : PixelFormat) → (bytes_a_pixel f ≤ 4) × InPlace (bytes_a_pixel f) (alpha_of f)
 few_in_place Gray8 = (omega arith, inl (omega arith))
 few_in_place Ya8 = (omega arith, inr (inl (refl, refl)))
 few_in_place Rgb24 = (omega arith, inl (omega arith))
@@ -35,14 +35,14 @@ few_in_place YuvJ422P = (omega arith, inl (omega arith))
 few_in_place YuvJ444P = (omega arith, inl (omega arith))
 
 -- no row is so long that a number overflows
-pub row_small : (f : PixelFormat) (w : ℕ) → w ≤ 4096 → w * bytes_aPixel f ≤ 4096 * 4
+pub row_small : (f : PixelFormat) (w : ℕ) → w ≤ 4096 → w * bytes_a_pixel f ≤ 4096 * 4
 row_small f w wide = mul-le-mul wide (few_in_place f).0
 
-pub in_place : (f : PixelFormat) → InPlace (bytes_aPixel f) (alpha_of f)
+pub in_place : (f : PixelFormat) → InPlace (bytes_a_pixel f) (alpha_of f)
 in_place f = (few_in_place f).1
 
 pub tight : (f : PixelFormat) → Supported f
-    → Tight (bytes_aPixel f) × (tight_alpha (bytes_aPixel f) ≡ alpha_of f)
+    → Tight (bytes_a_pixel f) × (tight_alpha (bytes_a_pixel f) ≡ alpha_of f)
 unfolding tight_alpha
 tight Gray8 s = (inl refl, refl)
 tight Ya8 s = absurd (s refl)

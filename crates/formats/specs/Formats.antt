@@ -51,8 +51,8 @@ layout_of YuvJ422P = new_layout 1 1 3 false
 layout_of YuvJ444P = new_layout 1 1 3 false
 
 -- "width times 1 (Gray8, luma), 2 (Ya8), 3 (Rgb24), 4 (Rgba, Cmyk, CmykInverted)"
-abbrev pub bytes_aPixel : PixelFormat → ℕ
-bytes_aPixel f = (layout_of f).bytes
+abbrev pub bytes_a_pixel : PixelFormat → ℕ
+bytes_a_pixel f = (layout_of f).bytes
 
 -- "alpha of Ya8 and Rgba": the channel that no table tones; the number of channels where there is
 -- none

@@ -1,7 +1,7 @@
 // The twelve formats, and the checks of the picture calls.
 ghost use Rattle.std.specs.Prelude.{◌≡◌};
 ghost use Rattle.formats.specs.Formats.{format_of, new_layout, layout_of};
-ghost use Rattle.formats.specs.Formats.{bytes_aPixel, alpha_of, planes_read, by_colour};
+ghost use Rattle.formats.specs.Formats.{bytes_a_pixel, alpha_of, planes_read, by_colour};
 
 pub mod checks;
 
@@ -103,7 +103,7 @@ impl PixelFormat {
     }
 
     pub fn bytes_a_pixel(self) -> usize
-        ensures { result ≡ bytes_aPixel self }
+        ensures { result ≡ bytes_a_pixel self }
     {
         self.layout().bytes
     }

@@ -16,7 +16,7 @@ use Rattle.sets.specs.Sets.{View, colour_of, channel_of, chosen, own_or_master}
 use Rattle.rows.specs.Bytes.{three, row_byte}
 use Rattle.rows.specs.Rows.{tight_byte, tight_alpha}
 use Rattle.formats.specs.declared.PixelFormat.{PixelFormat}
-use Rattle.formats.specs.Formats.{bytes_aPixel, by_colour}
+use Rattle.formats.specs.Formats.{bytes_a_pixel, by_colour}
 use Rattle.formats.specs.Checks.{Supported}
 use Rattle.formats.specs.FormatLaws.{tight}
 use Rattle.pictures.specs.Runs.{tables_of, tight_rows}
@@ -42,7 +42,7 @@ channel_table by v c = byte_table v.kind (cond by (own_or_master (colour_of c v)
 -- the kernel's tight rows are the format's
 pub tight_rows_by :
     (f : PixelFormat) (v : View) (w h step : ℕ) (plane out : List ℕ) {by : Bool} {p : ℕ} {red green blue new : List ℕ}
-    → Supported f → by ≡ by_colour f → p ≡ bytes_aPixel f
+    → Supported f → by ≡ by_colour f → p ≡ bytes_a_pixel f
     → red ≡ channel_table by v Red → green ≡ channel_table by v Green → blue ≡ channel_table by v Blue
     → new ≡ filled (h * (w * p)) (tight_byte (w * p) step (row_byte p (tight_alpha p) (three red green blue)) plane) out
     → new ≡ tight_rows f w h step (tables_of f v) plane out

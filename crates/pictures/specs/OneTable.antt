@@ -7,14 +7,14 @@ use Rattle.lists.specs.Each.{each}
 use Rattle.rows.specs.Bytes.{same, row_byte}
 use Rattle.rows.specs.Rows.{plane_byte}
 use Rattle.formats.specs.declared.PixelFormat.{PixelFormat}
-use Rattle.formats.specs.Formats.{bytes_aPixel, alpha_of}
+use Rattle.formats.specs.Formats.{bytes_a_pixel, alpha_of}
 use Rattle.formats.specs.Checks.{lut_answer}
 
 -- "The one-table call tones all 12 formats within the plane: alpha of Ya8 and Rgba, chroma and
 -- padding unchanged; Cmyk tones all four inks"
 abbrev pub toned_within : PixelFormat → ℕ → ℕ → ℕ → List ℕ → List ℕ → List ℕ
 toned_within f w h step table plane =
-    each (plane_byte (w * bytes_aPixel f) h step (row_byte (bytes_aPixel f) (alpha_of f) (same table)))
+    each (plane_byte (w * bytes_a_pixel f) h step (row_byte (bytes_a_pixel f) (alpha_of f) (same table)))
     plane
 
 -- the answer a, and the plane: toned, or on a refusal unchanged

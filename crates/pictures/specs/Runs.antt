@@ -19,7 +19,7 @@ use Rattle.rows.specs.Bytes.{three, row_byte}
 use Rattle.rows.specs.Rows.{tight_byte}
 use Rattle.formats.specs.declared.PixelFormat.{PixelFormat}
 use Rattle.formats.specs.declared.Lengths.{Lengths}
-use Rattle.formats.specs.Formats.{bytes_aPixel, alpha_of, by_colour}
+use Rattle.formats.specs.Formats.{bytes_a_pixel, alpha_of, by_colour}
 use Rattle.formats.specs.Checks.{chroma_read, picture_checks}
 use Rattle.pictures.specs.declared.Job.{Job}
 use Rattle.pictures.specs.declared.Toned.{Toned}
@@ -69,7 +69,7 @@ pub record InTypes (r : Run) : Type 0 where
 module _ (r : Run) where
   -- "row bytes"
   abbrev pub row_bytes : ℕ
-  row_bytes = r.job.width * bytes_aPixel r.job.format
+  row_bytes = r.job.width * bytes_a_pixel r.job.format
 
   -- the bytes of the tight rows
   abbrev pub size : ℕ
@@ -114,8 +114,8 @@ toned_by f v (suc (suc j)) = list_for f v Blue
 -- "tight rows" at the front of an output, alpha copied; "Output bytes past that are unchanged"
 abbrev pub tight_rows : PixelFormat → ℕ → ℕ → ℕ → (ℕ → List ℕ) → List ℕ → List ℕ → List ℕ
 tight_rows f w h step tables plane out =
-    filled (h * (w * bytes_aPixel f))
-    (tight_byte (w * bytes_aPixel f) step (row_byte (bytes_aPixel f) (alpha_of f) tables) plane) out
+    filled (h * (w * bytes_a_pixel f))
+    (tight_byte (w * bytes_a_pixel f) step (row_byte (bytes_a_pixel f) (alpha_of f) tables) plane) out
 
 -- "for YUV each chroma plane is copied whole", to the front of its output
 abbrev pub copied : PlaneOf → List ℕ → List ℕ

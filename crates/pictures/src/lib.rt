@@ -4,7 +4,7 @@ ghost use Rattle.points.specs.Points.{list_of};
 ghost use Rattle.tables.specs.Tables.{byte_table};
 ghost use Rattle.sets.specs.Sets.{view_of};
 ghost use Rattle.rows.specs.Rows.{Rows};
-ghost use Rattle.formats.specs.Formats.{bytes_aPixel};
+ghost use Rattle.formats.specs.Formats.{bytes_a_pixel};
 ghost use Rattle.formats.specs.Checks.{Supported};
 ghost use Rattle.pictures.specs.OneTable.{OneTableCall};
 ghost use Rattle.pictures.specs.Runs.{tables_of, tight_rows, SetCall};
@@ -102,8 +102,8 @@ fn tone_first(
     out: &mut [u8],
 )
     requires supported { Supported format }
-    requires rows { Rows w h (w * bytes_aPixel format) step (length plane.now) }
-    requires format_in_bounds { h * (w * bytes_aPixel format) ≤ length out.old }
+    requires rows { Rows w h (w * bytes_a_pixel format) step (length plane.now) }
+    requires format_in_bounds { h * (w * bytes_a_pixel format) ≤ length out.old }
     ensures { out.new
         ≡ tight_rows format w h step (tables_of format (view_of set)) plane.now
         out.old }

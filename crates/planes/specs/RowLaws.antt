@@ -4,7 +4,7 @@ use Rattle.std.proofs.Common.{◌∙◌, arith, zero-mul, length-take, length-dr
 use Rattle.std.proofs.Math.Decide.{dec_lt}
 use Rattle.rows.specs.Laws.{rows_inside}
 use Rattle.formats.specs.declared.PixelFormat.{PixelFormat}
-use Rattle.formats.specs.Formats.{bytes_aPixel}
+use Rattle.formats.specs.Formats.{bytes_a_pixel}
 use Rattle.formats.specs.CheckLaws.{GoodPlane}
 use Rattle.planes.specs.Planes.{row_of}
 
@@ -24,16 +24,16 @@ row_byte_lem bytes step y n c inside =
 -- where a picture call accepts a plane, each of its rows is whole
 pub row_whole : (f : PixelFormat) (w h step : ℕ) (bytes : List ℕ) (y : ℕ)
     → GoodPlane f w h step (length bytes) → y < h
-    → length (row_of bytes step y (w * bytes_aPixel f)) ≡ w * bytes_aPixel f
+    → length (row_of bytes step y (w * bytes_a_pixel f)) ≡ w * bytes_a_pixel f
 row_whole f w h step bytes y good below = elim (dec_lt 0 w) [
   | yes wide ↦
       omega (
         arith,
-        row_length bytes step y (w * bytes_aPixel f),
+        row_length bytes step y (w * bytes_a_pixel f),
         rows_inside y good.rows (λ e. omega arith) below,
       )
   | no none ↦
       let empty : w ≡ 0 = omega arith in
-      let row : w * bytes_aPixel f ≡ 0 = rw (empty, zero-mul) in
-      omega (arith, row_length bytes step y (w * bytes_aPixel f))
+      let row : w * bytes_a_pixel f ≡ 0 = rw (empty, zero-mul) in
+      omega (arith, row_length bytes step y (w * bytes_a_pixel f))
 ]

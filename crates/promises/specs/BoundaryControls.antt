@@ -16,7 +16,7 @@ use Rattle.sets.specs.Sets.{set_answer}
 use Rattle.sets.specs.SameLaws.{Full}
 use Rattle.tables.specs.Kinds.{carried_of}
 use Rattle.rows.specs.Rows.{needed}
-use Rattle.formats.specs.Formats.{format_of, bytes_aPixel}
+use Rattle.formats.specs.Formats.{format_of, bytes_a_pixel}
 use Rattle.records.specs.declared.RecordRead.{RecordRead}
 use Rattle.records.specs.Views.{ReadRecordCall}
 use Rattle.pictures.specs.Runs.{Run, InTypes, first, chroma}
@@ -37,7 +37,7 @@ use Rattle.promises.specs.Pixels.{no_bytes, byte_at, ran_on, here}
 
 -- ---- a place's byte in y, and in the first output
 pub plain_bytes : (c : AcceptedCall) (p : Place)
-    → let n = bytes_aPixel (format_of c.asked.format) in
+    → let n = bytes_a_pixel (format_of c.asked.format) in
     let y = c.asked.lent.plane in
     let along = p.column * n + p.channel in
     (input c p ≡ get_or y.bytes (p.row * y.step + along) 0)

@@ -1,6 +1,6 @@
 -- The words of the first demand: what it says of a call with these checks. The lists of checks are
 -- those of the calls' contracts, each in document 01's order and said once: `list_checks` of points,
--- `table_checks` of tables, `lookup_checks` of lookup, `set_checks` of sets, `recordChecks` of
+-- `table_checks` of tables, `lookup_checks` of lookup, `set_checks` of sets, `record_checks` of
 -- records, `write_checks` of writing, `lut_checks` and `picture_checks` of formats, `run_checks` of
 -- pictures, and those of the C boundary.
 use Rattle.std.specs.Prelude.{ℕ, ◌<◌, ◌≡◌, false, List, eqb}

@@ -13,7 +13,7 @@ use Rattle.points.specs.Knots.{rest, knots, OnLine}
 use Rattle.points.specs.Order.{NeverFalls}
 use Rattle.segments.specs.Straight.{slope}
 use Rattle.monotone.specs.Monotone.{secant_at, mean_at, boxed, adjusted, reached, monotone_at}
-use Rattle.spline.specs.Second.{recovered, ends_recovered, not_aKnot_at}
+use Rattle.spline.specs.Second.{recovered, ends_recovered, not_a_knot_at}
 use Rattle.tables.specs.declared.CurveInterpolation.{CurveInterpolation}
 use Rattle.tables.specs.declared.CurveInterpolation.TheVariants.{
   Linear,
@@ -72,7 +72,7 @@ use Rattle.promises.specs.Pixels.{
 -- what the computation of an entry opens, under every kind that is used here
 computed : CurveInterpolation → List Point → ℕ → ℕ
 unfolding Computed.entry slope secant_at mean_at boxed adjusted reached monotone_at recovered
-    ends_recovered not_aKnot_at
+    ends_recovered not_a_knot_at
 computed = entry_of
 
 abbrev straight_line : Toning

@@ -23,7 +23,7 @@ use Rattle.lookup.specs.Lookup.{lookup_checks, looked_up, LookupCall}
 use Rattle.sets.specs.declared.Curves.{Curves}
 use Rattle.sets.specs.Sets.{view_of, empty_view, curve_checks, set_checks, set_answer}
 use Rattle.records.specs.declared.RecordRead.{RecordRead}
-use Rattle.records.specs.Checks.{recordChecks}
+use Rattle.records.specs.Checks.{record_checks}
 use Rattle.records.specs.CheckLaws.{read_answer, read_empty}
 use Rattle.records.specs.Views.{ReadRecordCall}
 use Rattle.writing.specs.declared.Written.{Written}
@@ -75,15 +75,15 @@ write_record_lem {set} {old} call =
 -- ---- "record"
 -- `read_record`
 pub read_record_lem : (s : List ℕ) {r : RecordRead} → ReadRecordCall s r
-    → Answers (recordChecks s) (number_of r.answer) (view_of r.set ≡ empty_view)
+    → Answers (record_checks s) (number_of r.answer) (view_of r.set ≡ empty_view)
 read_record_lem s call =
     answers (ap number_of (call.answer ∙ read_answer s))
     (λ no. call.set ∙ read_empty s (rw call.answer at no))
 
 -- `text_of`: "one line, `refused ` and the number"
 pub text_of_lem : (s : List ℕ) (r : Text) → text_of r ≡ printed s
-    → is_done (first_refusal (recordChecks s)) ≡ false
-    → text_of r ≡ refusal_text (number_of (first_refusal (recordChecks s)))
+    → is_done (first_refusal (record_checks s)) ≡ false
+    → text_of r ≡ refusal_text (number_of (first_refusal (record_checks s)))
 unfolding printed
 text_of_lem s r call refused = call ∙ rw (read_answer s, refused)
 

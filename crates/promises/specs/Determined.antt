@@ -11,7 +11,7 @@ use Rattle.answers.specs.declared.Answer.TheVariants.{Done}
 use Rattle.tables.specs.Tables.{entry_of}
 use Rattle.rows.specs.Rows.{in_row}
 use Rattle.formats.specs.declared.PixelFormat.{PixelFormat}
-use Rattle.formats.specs.Formats.{bytes_aPixel, alpha_of}
+use Rattle.formats.specs.Formats.{bytes_a_pixel, alpha_of}
 use Rattle.pictures.specs.Runs.{Run, size, row_bytes, has_chroma}
 use Rattle.promises.specs.Words.{
   Call,
@@ -95,11 +95,11 @@ module _ (a b : Call) (same : a.given ≡ b.given) (c : ExactPicture a) (d : Exa
 
 -- ---- a plane toned by one table
 -- a byte in a row has its pixel and its channel
-pixel_of : (f : PixelFormat) (w h step k : ℕ) → in_row (w * bytes_aPixel f) h step k ≡ true
-    → (y x j : ℕ) × (y < h) × (x < w) × (j < bytes_aPixel f) × (byte_index f step y x j ≡ k)
+pixel_of : (f : PixelFormat) (w h step k : ℕ) → in_row (w * bytes_a_pixel f) h step k ≡ true
+    → (y x j : ℕ) × (y < h) × (x < w) × (j < bytes_a_pixel f) × (byte_index f step y x j ≡ k)
 unfolding in_row
 pixel_of f w h step k inside =
-    let n = bytes_aPixel f in
+    let n = bytes_a_pixel f in
     let both = (and-eq-true_iff (ltb (k / step) h) (ltb (k % step) (w * n))).0 inside in
     let of_row = split_index w n (k % step) (ltb-true (k % step) (w * n) both.1) in (
       k / step,
@@ -115,7 +115,7 @@ pub one_plane : (f : PixelFormat) (w h step : ℕ) (table old a b : List ℕ)
     → ExactPlane f w h step table old a → ExactPlane f w h step table old b → a ≡ b
 one_plane f w h step table old a b c d =
     ext_get_or 0 a b (c.long ∙ sym d.long)
-    (λ k inside. by_test (in_row (w * bytes_aPixel f) h step k)
+    (λ k inside. by_test (in_row (w * bytes_a_pixel f) h step k)
     (λ t.
     let place = pixel_of f w h step k t in
     let y = place.0 in

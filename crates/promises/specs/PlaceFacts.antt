@@ -2,7 +2,7 @@
 use Rattle.std.specs.Prelude.{ℕ, ◌*◌, ◌/◌, ◌%◌, ◌<◌, ◌≡◌}
 use Rattle.std.proofs.Common.{mod-lt, div-lt_iff_lt-mul, eq-zero-or-pos, mul-zero, div-add-mod', arith, ⊎_elim}
 use Rattle.rows.specs.Places.{mul_room}
-use Rattle.formats.specs.Formats.{bytes_aPixel}
+use Rattle.formats.specs.Formats.{bytes_a_pixel}
 use Rattle.pictures.specs.Runs.{Run, row_bytes, size}
 use Rattle.promises.specs.Words.{Place, Within, along, in_output}
 
@@ -16,7 +16,7 @@ split_index m n k h =
 -- every byte of the tight rows has a place
 pub place_of : (r : Run) (k : ℕ) → k < size r → (p : Place) × Within r p × (in_output r p ≡ k)
 place_of r k h =
-    let n = bytes_aPixel r.job.format in
+    let n = bytes_a_pixel r.job.format in
     let row = row_bytes r in
     let of-rows = split_index r.job.height row k h in
     let of_row = split_index r.job.width n (k % row) of-rows.1 in (
@@ -30,6 +30,6 @@ pub along_row : (r : Run) (p : Place) → Within r p → along r p < row_bytes r
 along_row r p w =
     omega (
       arith,
-      mul_room p.column r.job.width (bytes_aPixel r.job.format) w.column,
+      mul_room p.column r.job.width (bytes_a_pixel r.job.format) w.column,
       w.channel,
     )

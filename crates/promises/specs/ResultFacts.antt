@@ -24,7 +24,7 @@ use Rattle.rows.specs.Bytes.{same, row_byte}
 use Rattle.rows.specs.Rows.{plane_byte}
 use Rattle.rows.specs.Laws.{toned_through, toned_kept, plane_pixel, padding_stays}
 use Rattle.formats.specs.declared.PixelFormat.{PixelFormat}
-use Rattle.formats.specs.Formats.{bytes_aPixel, alpha_of}
+use Rattle.formats.specs.Formats.{bytes_a_pixel, alpha_of}
 use Rattle.formats.specs.CheckLaws.{lut_done}
 use Rattle.pictures.specs.OneTable.{toned_within, OneTableCall}
 use Rattle.promises.specs.Results.{ExactPlane}
@@ -58,7 +58,7 @@ apply_tone_lut_tones {f} {w} {h} {step} {table} {old} {new} {r} call zero =
     let rows = (lut_done f w h step (length old)
     (sym call.answer ∙ number_unique r Done zero)).rows in
     let is : new ≡ toned_within f w h step table old = rw zero at call.plane in
-    let p = bytes_aPixel f in
+    let p = bytes_a_pixel f in
     let pixel = plane_pixel w h step p (alpha_of f) (same table) old in
     record {
       plane_is = is;

@@ -13,7 +13,7 @@ use Rattle.spline.specs.Segments.{spline_piece}
 use Rattle.spline.specs.Second.{second_at}
 use Rattle.rows.specs.Rows.{in_row}
 use Rattle.formats.specs.declared.PixelFormat.{PixelFormat}
-use Rattle.formats.specs.Formats.{bytes_aPixel, alpha_of}
+use Rattle.formats.specs.Formats.{bytes_a_pixel, alpha_of}
 use Rattle.pictures.specs.OneTable.{toned_within}
 
 -- ---- a sample of the curve of a list
@@ -73,14 +73,14 @@ module _ (l : List Point) (S v : ℕ) where
 -- ---- a plane toned by one table
 -- the index of a byte in a plane: channel j of the pixel in row y and column x
 abbrev pub byte_index : PixelFormat → ℕ → ℕ → ℕ → ℕ → ℕ
-byte_index f step y x j = y * step + (x * bytes_aPixel f + j)
+byte_index f step y x j = y * step + (x * bytes_a_pixel f + j)
 
 -- it is the plane of the definition; and byte by byte
 pub record ExactPlane (f : PixelFormat) (w h step : ℕ) (table old new : List ℕ) : Type 0 where
   pub plane_is : new ≡ toned_within f w h step table old
-  pub toned : (y x j : ℕ) → y < h → x < w → j < bytes_aPixel f → (j ≡ alpha_of f → ⊥)
+  pub toned : (y x j : ℕ) → y < h → x < w → j < bytes_a_pixel f → (j ≡ alpha_of f → ⊥)
       → get_or new (byte_index f step y x j) 0 ≡ get_or table (get_or old (byte_index f step y x j) 0) 0
-  pub alpha : (y x j : ℕ) → y < h → x < w → j < bytes_aPixel f → j ≡ alpha_of f
+  pub alpha : (y x j : ℕ) → y < h → x < w → j < bytes_a_pixel f → j ≡ alpha_of f
       → get_or new (byte_index f step y x j) 0 ≡ get_or old (byte_index f step y x j) 0
-  pub padding : (k : ℕ) → in_row (w * bytes_aPixel f) h step k ≡ false → get_or new k 0 ≡ get_or old k 0
+  pub padding : (k : ℕ) → in_row (w * bytes_a_pixel f) h step k ≡ false → get_or new k 0 ≡ get_or old k 0
   pub long : length new ≡ length old

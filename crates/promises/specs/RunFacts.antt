@@ -9,7 +9,7 @@ use Rattle.rows.specs.Bytes.{toned, row_byte}
 use Rattle.rows.specs.Rows.{tight_byte}
 use Rattle.rows.specs.Places.{mul_room}
 use Rattle.rows.specs.Laws.{toned_through, toned_kept, rows_inside, tight_pixel}
-use Rattle.formats.specs.Formats.{bytes_aPixel, alpha_of}
+use Rattle.formats.specs.Formats.{bytes_a_pixel, alpha_of}
 use Rattle.pictures.specs.Runs.{Run, row_bytes, size, accepted, tables_of, first}
 use Rattle.pictures.specs.RunLaws as Checked
 use Rattle.promises.specs.Words.{
@@ -48,7 +48,7 @@ module _ (c : Call) (ok : Accepted c) where
 
   pub out_filled : c.after.first ≡ filled (size c.given)
       (tight_byte (row_bytes c.given) c.given.lent.plane.step
-      (row_byte (bytes_aPixel c.given.job.format) (alpha_of c.given.job.format)
+      (row_byte (bytes_a_pixel c.given.job.format) (alpha_of c.given.job.format)
       (tables_in c.given))
       c.given.lent.plane.bytes) c.given.lent.outputs.first
   unfolding first
@@ -62,7 +62,7 @@ module _ (c : Call) (ok : Accepted c) where
       let r = c.given in
       rw out_filled
       (tight_pixel r.job.width r.job.height r.lent.plane.step
-      (bytes_aPixel r.job.format) (alpha_of r.job.format) (tables_in r)
+      (bytes_a_pixel r.job.format) (alpha_of r.job.format) (tables_in r)
       r.lent.plane.bytes r.lent.outputs.first
       p.row p.column p.channel w.row w.column w.channel)
 

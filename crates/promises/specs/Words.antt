@@ -14,7 +14,7 @@ use Rattle.sets.specs.Lists.{EveryList}
 use Rattle.sets.specs.Same.{Same}
 use Rattle.rows.specs.Rows.{in_row}
 use Rattle.pictures.specs.declared.Toned.{Toned}
-use Rattle.formats.specs.Formats.{bytes_aPixel, alpha_of}
+use Rattle.formats.specs.Formats.{bytes_a_pixel, alpha_of}
 use Rattle.pictures.specs.Runs.{
   Outputs,
   Run,
@@ -62,11 +62,11 @@ pub record Place : Type 0 where
 pub record Within (r : Run) (p : Place) : Type 0 where
   pub row : p.row < r.job.height
   pub column : p.column < r.job.width
-  pub channel : p.channel < bytes_aPixel r.job.format
+  pub channel : p.channel < bytes_a_pixel r.job.format
 
 -- how far from its row's start
 abbrev pub along : Run → Place → ℕ
-along r p = p.column * bytes_aPixel r.job.format + p.channel
+along r p = p.column * bytes_a_pixel r.job.format + p.channel
 
 -- the index of its byte in the first plane, and in the tight output
 abbrev pub in_plane : Run → Place → ℕ

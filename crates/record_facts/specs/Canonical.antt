@@ -34,9 +34,9 @@ use Rattle.record_facts.specs.Found.{AllBytes, unnamed_is}
 use Rattle.record_facts.specs.Spelling.{
   map_naming,
   body_naming,
-  recordNaming,
+  record_naming,
   unnamed_kind_lem,
-  record-length,
+  record_length,
   record_is,
 }
 
@@ -85,8 +85,8 @@ named_in_full [] = []
 named_in_full (m ∷ s) = map_in_full m ∷ (s ++ byte_left_out m)
 
 -- ---- the writer's record of a set
-encode_is : (v : View) → encode v ≡ recordNaming true (names_kind v.kind) v
-unfolding encode recordNaming
+encode_is : (v : View) → encode v ≡ record_naming true (names_kind v.kind) v
+unfolding encode record_naming
 encode_is v = refl
 
 -- "sets bit 7 always and leaves the kind out when it is 3"
@@ -126,10 +126,10 @@ full_body newer false v h =
     rw (kind, carries, append-nil lists, append-nil lists)
     (sym (append-nil (lists ++ kind_number (unnamed_kind newer) ∷ [])))
 
-in_full : (m : ℕ) (s : List ℕ) (v : View) → m ∷ s ≡ recordNaming (bit 128 m) (bit 16 m) v
+in_full : (m : ℕ) (s : List ℕ) (v : View) → m ∷ s ≡ record_naming (bit 128 m) (bit 16 m) v
     → (bit 16 m ≡ false → v.kind ≡ unnamed_kind (bit 128 m))
-    → named_in_full (m ∷ s) ≡ recordNaming true true v
-unfolding recordNaming
+    → named_in_full (m ∷ s) ≡ record_naming true true v
+unfolding record_naming
 in_full m s v e unnamed =
     let first : m ≡ map_naming (bit 128 m) (bit 16 m) v = ap (λ (l : List ℕ). get_or l 0 0) e in
     let rest : s ≡ body_naming (bit 16 m) v = ap (λ (l : List ℕ). drop 1 l) e in
@@ -140,8 +140,8 @@ in_full m s v e unnamed =
     ap (λ (n : ℕ). n ∷ (s ++ byte_left_out m)) map
     ∙ ap (λ (l : List ℕ). map_naming true true v ∷ l) body
 
-written_in_full : (v : View) → named_in_full (encode v) ≡ recordNaming true true v
-unfolding encode recordNaming
+written_in_full : (v : View) → named_in_full (encode v) ≡ record_naming true true v
+unfolding encode record_naming
 written_in_full v =
     let named = names_kind v.kind in
     let bits = writer_sets v in
@@ -189,8 +189,8 @@ accepted_is (m ∷ s) bytes accepted e =
     let set = (read_record (m ∷ s)).set in
     encode_is set
     ∙ sym (record_is m s accepted bytes
-    ∙ ap (λ (b : Bool). recordNaming b (bit 16 m) set) w.0
-    ∙ ap (λ (b : Bool). recordNaming true b set) w.1)
+    ∙ ap (λ (b : Bool). record_naming b (bit 16 m) set) w.0
+    ∙ ap (λ (b : Bool). record_naming true b set) w.1)
 
 -- and no other is
 pub writer_form : (s : List ℕ) → (read_record s).answer ≡ Done → encode (read_record s).set ≡ s
@@ -203,8 +203,8 @@ writer_form (m ∷ s) accepted e =
 
 -- ---- how long it is
 naming_length : (newer named : Bool) (v : View)
-    → length (recordNaming newer named v) ≡ length (recordNaming true false v) + one_if named
-unfolding recordNaming
+    → length (record_naming newer named v) ≡ length (record_naming true false v) + one_if named
+unfolding record_naming
 naming_length newer true v = simp length-append (omega arith)
 naming_length newer false v = simp length-append (omega arith)
 
@@ -216,7 +216,7 @@ pub accepted_length : (s : List ℕ) → (read_record s).answer ≡ Done
 accepted_length [] accepted = absurd (no_map accepted)
 accepted_length (m ∷ s) accepted =
     let set = (read_record (m ∷ s)).set in
-    let long = record-length m s accepted ∙ naming_length (bit 128 m) (bit 16 m) set in
+    let long = record_length m s accepted ∙ naming_length (bit 128 m) (bit 16 m) set in
     let made = ap length (encode_is set) ∙ naming_length true (names_kind set.kind) set in
     by_test (bit 16 m)
     (λ named. by_test (names_kind set.kind)

@@ -41,7 +41,7 @@ use Rattle.records.specs.Checks.{
   after_field,
   kind_checks,
   after_kind,
-  recordChecks,
+  record_checks,
 }
 use Rattle.records.specs.CheckLaws.{read_answer}
 use Rattle.record_facts.specs.Found.{handed_has}
@@ -101,9 +101,9 @@ kind_never unnamed present m s = refl also refl also refl also refl also no_more
 end_never : (s : List ℕ) → Never20 (TrailingBytes when not (is_empty s) ∷ [])
 end_never s = refl also no_more
 
-record-never : (s : List ℕ) → Never20 (recordChecks s)
-record-never [] = refl also no_more
-record-never (m ∷ s) =
+record_never : (s : List ℕ) → Never20 (record_checks s)
+record_never [] = refl also no_more
+record_never (m ∷ s) =
     let red = after_field (bit 1 m) s in
     let green = after_field (bit 2 m) red in
     let blue = after_field (bit 4 m) green in
@@ -121,7 +121,7 @@ record-never (m ∷ s) =
 pub never_20 : (s : List ℕ) → number_of (read_record s).answer ≡ 20 → ⊥
 never_20 s =
     eqb-false (number_of (read_record s).answer) 20
-    (rw (read_answer s) (first_has refl (record-never s)))
+    (rw (read_answer s) (first_has refl (record_never s)))
 
 -- ---- what is written
 -- a list of whole heights that may be toned may be written

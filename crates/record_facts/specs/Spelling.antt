@@ -36,8 +36,8 @@ body_naming named v =
     field_bytes (master_field v.master) ++ field_bytes v.red ++ field_bytes v.green
     ++ field_bytes v.blue ++ kind_byte named v.kind ++ carried_bytes v.kind
 
-unfoldable pub recordNaming : Bool → Bool → View → List ℕ
-recordNaming newer named v = map_naming newer named v ∷ body_naming named v
+unfoldable pub record_naming : Bool → Bool → View → List ℕ
+record_naming newer named v = map_naming newer named v ∷ body_naming named v
 
 -- a map is its bits
 bit_back : (n half : ℕ) → half ≡ n / 2 → one_if (eqb (n % 2) 1) + 2 * half ≡ n
@@ -62,14 +62,14 @@ map_is m small =
     (omega (arith, bit_back (m / 1) (m / 2) (omega arith)))
 
 module _ (m : ℕ) (s : List ℕ) (v : View) (f : Fields m v s) where
-  fields_length : suc (length s) ≡ length (recordNaming (bit 128 m) (bit 16 m) v)
-  unfolding recordNaming
+  fields_length : suc (length s) ≡ length (record_naming (bit 128 m) (bit 16 m) v)
+  unfolding record_naming
   fields_length =
       rw (f.bytes, f.lists.bytes, f.kind.bytes)
       (simp length-append (omega (arith, f.kind.carried.long)))
 
-  fields_is : AllBytes (m ∷ s) → m ∷ s ≡ recordNaming (bit 128 m) (bit 16 m) v
-  unfolding recordNaming
+  fields_is : AllBytes (m ∷ s) → m ∷ s ≡ record_naming (bit 128 m) (bit 16 m) v
+  unfolding record_naming
   fields_is h =
       let same = (carried_same f (bytes_rest m s h)).0 in
       rw (
@@ -94,8 +94,8 @@ module _ (m : ℕ) (s : List ℕ) (e : (read_record (m ∷ s)).answer ≡ Done) 
   pub unnamed_kind_lem : bit 16 m ≡ false → set.kind ≡ unnamed_kind (bit 128 m)
   unnamed_kind_lem = (accepted m s e).kind.unnamed
 
-  pub record-length : suc (length s) ≡ length (recordNaming (bit 128 m) (bit 16 m) set)
-  record-length = fields_length m s set (accepted m s e)
+  pub record_length : suc (length s) ≡ length (record_naming (bit 128 m) (bit 16 m) set)
+  record_length = fields_length m s set (accepted m s e)
 
-  pub record_is : AllBytes (m ∷ s) → m ∷ s ≡ recordNaming (bit 128 m) (bit 16 m) set
+  pub record_is : AllBytes (m ∷ s) → m ∷ s ≡ record_naming (bit 128 m) (bit 16 m) set
   record_is = fields_is m s set (accepted m s e)

@@ -58,7 +58,7 @@ use Rattle.records.specs.Checks.{
   kind_checks,
   after_kind,
   map_checks,
-  recordChecks,
+  record_checks,
 }
 
 -- ---- what a reading behind checks finds: a refusal of theirs, or what it finds without them
@@ -230,7 +230,7 @@ result_answer : {cs : List Check} {p : Parse View} → Reads cs [] p
 result_answer {p = good v s} f = f.answer
 result_answer {p = refused a} f = f.answer
 
-pub read_answer : (s : List ℕ) → (read_record s).answer ≡ first_refusal (recordChecks s)
+pub read_answer : (s : List ℕ) → (read_record s).answer ≡ first_refusal (record_checks s)
 unfolding read_record
 read_answer [] = refl
 read_answer (m ∷ s) = result_answer (fields_read m s)

@@ -69,6 +69,6 @@ map_checks m master =
     ++ TrailingBytes when not (is_empty (after_kind unnamed (bit 16 m) kind)) ∷ []
 
 -- `read_record`: a record without its map has nothing else to check
-abbrev pub recordChecks : List ℕ → List Check
-recordChecks [] = RecordTruncated when true ∷ []
-recordChecks (m ∷ s) = map_checks m s
+abbrev pub record_checks : List ℕ → List Check
+record_checks [] = RecordTruncated when true ∷ []
+record_checks (m ∷ s) = map_checks m s

@@ -5,16 +5,16 @@ use Rattle.std.specs.Float.Ieee.{div, of_int, of_bits, to_bits}
 use Rattle.single.specs.Constants.{𝟎}
 use Rattle.spline.specs.declared.SplineBoundary.TheVariants.{Natural, NotAKnot}
 use Rattle.spline.specs.Segments.{segment_at, slope_of}
-use Rattle.spline.specs.Second.{parabola, framed, natural_at, not_aKnot_at, second_at}
+use Rattle.spline.specs.Second.{parabola, framed, natural_at, not_a_knot_at, second_at}
 
 -- ---- not-a-knot: two knots, three knots
 pub two_knots : (xs ys : List Float) (i : ℕ) → second_at xs ys 2 NotAKnot i ≡ 𝟎
-unfolding not_aKnot_at second_at
+unfolding not_a_knot_at second_at
 two_knots xs ys i = refl
 
 pub three_knots : (xs ys : List Float) (i : ℕ)
     → second_at xs ys 3 NotAKnot i ≡ parabola (segment_at xs ys 0) (segment_at xs ys 1)
-unfolding not_aKnot_at second_at
+unfolding not_a_knot_at second_at
 three_knots xs ys i = refl
 
 -- ---- natural: the first knot

@@ -34,8 +34,8 @@ clamped_last s1 p = record { a = p.width; b = 𝟐 ⊗ p.width; c = 𝟎; d = �
 -- there, (M₁ − M₀) / h₀ = (M₂ − M₁) / h₁, so M₀ = M₁ + (h₀ / h₁) (M₁ − M₂). The inner row with this
 -- M₀, times h₁:
 --   (h₀ + h₁) (h₀ + 2 h₁) M₁ + (h₁ − h₀) (h₁ + h₀) M₂ = 6 h₁ (Δ₁ − Δ₀)
-abbrev pub not_aKnot_first : Segment → Segment → Row
-not_aKnot_first p q =
+abbrev pub not_a_knot_first : Segment → Segment → Row
+not_a_knot_first p q =
     let h0 = p.width in
     let h1 = q.width in
     record {
@@ -47,8 +47,8 @@ not_aKnot_first p q =
 
 -- and at the other end, with g₀ = hₙ₋₃ and g₁ = hₙ₋₂, times g₀:
 --   (g₀ − g₁) (g₀ + g₁) Mₙ₋₃ + (g₀ + g₁) (2 g₀ + g₁) Mₙ₋₂ = 6 g₀ (Δₙ₋₂ − Δₙ₋₃)
-abbrev pub not_aKnot_last : Segment → Segment → Row
-not_aKnot_last p q =
+abbrev pub not_a_knot_last : Segment → Segment → Row
+not_a_knot_last p q =
     let g0 = p.width in
     let g1 = q.width in
     record {
@@ -94,7 +94,7 @@ module _ (xs ys : List Float) (n : ℕ) where
   row_at NotAKnot k =
       let p = segment k in
       let q = segment (k + 1) in
-      cond (eqb k 0) (not_aKnot_first p q) (cond (eqb (k + 3) n) (not_aKnot_last p q) (inner p q))
+      cond (eqb k 0) (not_a_knot_first p q) (cond (eqb (k + 3) n) (not_a_knot_last p q) (inner p q))
 
   -- the unknowns of the system
   unfoldable pub unknown : SplineBoundary → ℕ → Float
@@ -114,12 +114,12 @@ module _ (xs ys : List Float) (n : ℕ) where
       (unknown NotAKnot)
 
   -- not-a-knot: "with 2 knots, zeros"
-  unfoldable pub not_aKnot_at : ℕ → Float
-  not_aKnot_at i =
+  unfoldable pub not_a_knot_at : ℕ → Float
+  not_a_knot_at i =
       cond (ltb n 3) 𝟎 (cond (eqb n 3) (parabola (segment 0) (segment 1)) (ends_recovered i))
 
   -- the second derivative at knot i
   unfoldable pub second_at : SplineBoundary → ℕ → Float
   second_at Natural = natural_at
   second_at (Clamped s0 s1) = unknown (Clamped s0 s1)
-  second_at NotAKnot = not_aKnot_at
+  second_at NotAKnot = not_a_knot_at

@@ -4,7 +4,7 @@ ghost use Rattle.lists.specs.Stored.{Stored};
 ghost use Rattle.spline.specs.Thomas.{starting_at};
 ghost use Rattle.spline.specs.Second as Second;
 ghost use Rattle.spline.specs.Second.{row_count, unknown, natural_at, ends_recovered};
-ghost use Rattle.spline.specs.Second.{not_aKnot_at, second_at};
+ghost use Rattle.spline.specs.Second.{not_a_knot_at, second_at};
 
 use crate::system::row_at;
 use crate::thomas::{Swept, substitute, sweep};
@@ -92,7 +92,7 @@ fn ends_recovered(xs: &[f32; 66], ys: &[f32; 66], n: usize, row: &mut [f32; 66])
 // Not-a-knot: two knots give zeros, three the parabola through them.
 fn not_a_knot(xs: &[f32; 66], ys: &[f32; 66], n: usize, row: &mut [f32; 66])
     requires { (2 ≤ n) × (n ≤ 66) × (length row.old ≡ 66) }
-    ensures { Stored (not_aKnot_at xs.now ys.now n) 0 n row.old
+    ensures { Stored (not_a_knot_at xs.now ys.now n) 0 n row.old
         row.new }
 {
     if n < 3 {

@@ -3,7 +3,7 @@ ghost use Rattle.std.specs.Prelude.{◌≡◌, ◌+◌, ◌≤◌, ◌<◌};
 ghost use Rattle.spline.specs.declared.SplineBoundary.TheVariants.{Clamped, NotAKnot};
 ghost use Rattle.spline.specs.Second as Second;
 ghost use Rattle.spline.specs.Second.{clamped_first, clamped_last};
-ghost use Rattle.spline.specs.Second.{not_aKnot_first, not_aKnot_last, row_at, row_count};
+ghost use Rattle.spline.specs.Second.{not_a_knot_first, not_a_knot_last, row_at, row_count};
 
 use crate::thomas::Row;
 use crate::{Segment, SplineBoundary, segment_at};
@@ -46,7 +46,7 @@ fn clamped_last(s1: f32, p: Segment) -> Row
 
 // Not-a-knot: the rows of the first and the last inner knot, each between the segments p and q.
 fn not_a_knot_first(p: Segment, q: Segment) -> Row
-    ensures { result ≡ not_aKnot_first p q }
+    ensures { result ≡ not_a_knot_first p q }
 {
     let h0 = p.width;
     let h1 = q.width;
@@ -59,7 +59,7 @@ fn not_a_knot_first(p: Segment, q: Segment) -> Row
 }
 
 fn not_a_knot_last(p: Segment, q: Segment) -> Row
-    ensures { result ≡ not_aKnot_last p q }
+    ensures { result ≡ not_a_knot_last p q }
 {
     let g0 = p.width;
     let g1 = q.width;

@@ -17,7 +17,7 @@ use Rattle.points.specs.Order.{All, Proper}
 use Rattle.segments.specs.Segments.{step, sample_at, seek, segment}
 use Rattle.spline.specs.Segments.{between, segment_at, first_coefficient, spline_piece, slope_of}
 use Rattle.spline.specs.Second.{row_at, unknown, recovered, ends_recovered, framed}
-use Rattle.spline.specs.Second.{not_aKnot_at, second_at}
+use Rattle.spline.specs.Second.{not_a_knot_at, second_at}
 use Rattle.spline.specs.Thomas.{scaled, sweep, swept, swept_row, backward, substituted, solution}
 use Rattle.sampling.specs.Pieces.{piece_height, height_at, sampled}
 use Rattle.tables.specs.declared.CurveInterpolation.{CurveInterpolation}
@@ -35,7 +35,7 @@ peak_proper =
 unfoldable sample : CurveInterpolation → List Point → ℕ → ℕ → Float
 unfolding sample_of sampled unclamped_at height_at piece_height kept kept_below first_at knots rest x_row
     y_row x_at y_at filled tabulate step sample_at seek segment between segment_at first_coefficient
-    spline_piece slope_of second_at not_aKnot_at ends_recovered recovered framed unknown row_at solution
+    spline_piece slope_of second_at not_a_knot_at ends_recovered recovered framed unknown row_at solution
     substituted backward swept_row swept sweep scaled guarded_quotient absolute clamped add sub neg
     mul div lt of_int of_bits
 sample = sample_of

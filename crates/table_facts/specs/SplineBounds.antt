@@ -26,9 +26,9 @@ use Rattle.spline.specs.declared.SplineBoundary.{SplineBoundary}
 use Rattle.spline.specs.declared.SplineBoundary.TheVariants.{Natural, Clamped, NotAKnot}
 use Rattle.spline.specs.Segments.{segment_at, between}
 use Rattle.spline.specs.Thomas.{sweep, none, swept, swept_row, solution}
-use Rattle.spline.specs.Second.{inner, not_aKnot_first, not_aKnot_last}
+use Rattle.spline.specs.Second.{inner, not_a_knot_first, not_a_knot_last}
 use Rattle.spline.specs.Second.{parabola, recovered, framed, row_count, row_at, unknown}
-use Rattle.spline.specs.Second.{natural_at, ends_recovered, not_aKnot_at, second_at}
+use Rattle.spline.specs.Second.{natural_at, ends_recovered, not_a_knot_at, second_at}
 use Rattle.table_facts.specs.Sizes.{most_within, two_within, knot_small}
 use Rattle.table_facts.specs.Sizes.{plus, minus, times, divided}
 use Rattle.table_facts.specs.SlopeBounds.{slope_within}
@@ -117,13 +117,13 @@ module _ {p q : Segment} {u v : ℕ} (y : Sized p u) (z : Sized q v) where
   free_right : {x : Float} → Within x 157 → AtMost (2 ^ 41) 1 (x ⊗ 𝟔 ⊗ (q.secant ⊖ p.secant))
   free_right w = right_most (times (times w six_within tt) bend_within tt) (lit≤ tt)
 
-  free_starts : (s : Swept) → Steady (sweep 0 s (not_aKnot_first p q))
+  free_starts : (s : Swept) → Steady (sweep 0 s (not_a_knot_first p q))
   free_starts s =
       free_first _ s y.some y.byte z.some z.byte
       (free_diagonal _ _ u (2 * v) (omega arith) (omega arith) y.width (double_is z))
       (apart_most _ _ v u z.byte y.byte z.width y.width) (free_right (width_within z))
 
-  free_ends : {s : Swept} (k : ℕ) → Steady s → Bounded (sweep (suc k) s (not_aKnot_last p q))
+  free_ends : {s : Swept} (k : ℕ) → Steady s → Bounded (sweep (suc k) s (not_a_knot_last p q))
   free_ends k s =
       free_last k _ y.some y.byte z.some z.byte
       (apart_most _ _ u v y.byte z.byte y.width z.width)
@@ -270,7 +270,7 @@ module _ {xs ys : List Float} {n : ℕ} {a h : ℕ → ℕ} (r : Rows xs ys n a 
   -- the second derivatives: at most 2 ^ 76 in size, which is 2 ^ 225 units
   pub second_within : (e : SplineBoundary) → SlopesWithin e → (i : ℕ) → i < n
       → Within (second_at xs ys n e i) 225
-  unfolding second_at natural_at not_aKnot_at
+  unfolding second_at natural_at not_a_knot_at
   second_within Natural slopes i l =
       let end = within_zero 𝟎 225 𝟎-is in
       framed_within n 𝟎 𝟎 _ i l end end (unknown_within Natural slopes)

@@ -35,11 +35,11 @@ ninety_nine = refl
 pub digit_9 : hexadecimal 9 ≡ 0x39
 digit_9 = refl
 
-pub digit_A : hexadecimal 10 ≡ 0x41
-digit_A = refl
+pub digit_a : hexadecimal 10 ≡ 0x41
+digit_a = refl
 
-pub digit_F : hexadecimal 15 ≡ 0x46
-digit_F = refl
+pub digit_f : hexadecimal 15 ≡ 0x46
+digit_f = refl
 
 -- the last entry of a line and the first of the next
 pub entry_15 : behind 15 ≡ newline

@@ -20,7 +20,7 @@ use Rattle.records.specs.declared.point_lists.Edition.TheVariants.{Two}
 use Rattle.records.specs.PointLists.{point_bytes, pairs}
 use Rattle.records.specs.Kinds.{kind_check}
 use Rattle.records.specs.Format.{read_record}
-use Rattle.records.specs.Checks.{recordChecks}
+use Rattle.records.specs.Checks.{record_checks}
 use Rattle.records.specs.Views.{ReadRecordCall}
 use Rattle.writing.specs.Encode.{encode}
 use Rattle.pictures.specs.declared.Toned.{Toned}
@@ -128,7 +128,7 @@ run_of asked set = record {
 -- to 13 of the set call
 abbrev pub tone_picture_checks : PictureAsked → List Check
 tone_picture_checks asked =
-    recordChecks asked.stored ++ (format_check asked.format ∷ [])
+    record_checks asked.stored ++ (format_check asked.format ∷ [])
     ++ picture_checks (format_of asked.format) asked.width asked.height asked.planes
     asked.lent.plane.step (held asked.lent)
 
@@ -151,7 +151,7 @@ pub record TonePictureCall (asked : PictureAsked) (r : ℕ) (after : Outputs) : 
 -- ---- tone_record_table
 -- 2 to 7 of the record, then 13: the table is 256 bytes
 abbrev pub tone_record_table_checks : List ℕ → ℕ → List Check
-tone_record_table_checks stored held = recordChecks stored ++ room_check 256 held ∷ []
+tone_record_table_checks stored held = record_checks stored ++ room_check 256 held ∷ []
 
 -- the number answered; and the output: the master's byte table in place of its first 256 bytes,
 -- or on a refusal unchanged
@@ -168,7 +168,7 @@ copy_of stored = encode (set_of stored)
 -- 2 to 7 of the record, then 13
 abbrev pub tone_record_copy_checks : List ℕ → ℕ → List Check
 tone_record_copy_checks stored held =
-    recordChecks stored ++ room_check (length (copy_of stored)) held ∷ []
+    record_checks stored ++ room_check (length (copy_of stored)) held ∷ []
 
 -- the number answered; the output: the copy in place of its first bytes; and its length; on
 -- a refusal both unchanged

@@ -164,18 +164,18 @@ unfolding format_of needed
 picture_rooms = (refl, refl, refl, refl)
 
 -- ---- records
-pub record-table-order : (first_refusal (tone_record_table_checks longer 255) ≡ TrailingBytes)
+pub record_table_order : (first_refusal (tone_record_table_checks longer 255) ≡ TrailingBytes)
     × (first_refusal (tone_record_table_checks empty 255) ≡ OutputTooSmall)
     × (first_refusal (tone_record_table_checks empty 256) ≡ Done)
-record-table-order = (refl, refl, refl)
+record_table_order = (refl, refl, refl)
 
 -- the copy of a record that names kind 3 leaves it out, 1 byte for 2; where a record has neither
 -- bit 7 nor a kind, it names kind 2, 2 bytes for 1
-pub record-copy-order : (first_refusal (tone_record_copy_checks longer 0) ≡ TrailingBytes)
+pub record_copy_order : (first_refusal (tone_record_copy_checks longer 0) ≡ TrailingBytes)
     × (first_refusal (tone_record_copy_checks empty 1) ≡ OutputTooSmall)
     × (first_refusal (tone_record_copy_checks empty 2) ≡ Done)
     × (first_refusal (tone_record_copy_checks (0x10 ∷ 3 ∷ []) 1) ≡ Done)
     × (first_refusal (tone_record_copy_checks (0x00 ∷ []) 1) ≡ OutputTooSmall)
     × (first_refusal (tone_record_copy_checks (0x00 ∷ []) 2) ≡ Done)
 unfolding read_record read_fields read_kind read_number read_carried encode bits_under kind_of
-record-copy-order = (refl, refl, refl, refl, refl, refl)
+record_copy_order = (refl, refl, refl, refl, refl, refl)

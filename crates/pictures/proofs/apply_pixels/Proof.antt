@@ -73,7 +73,7 @@ tone-first-requires c κs =
 mul-row : tie.Need-overflow-mul-row
 mul-row c =
     let plane = (accepted c.before.before.before.before.before).plane in
-    omega (arith, rw (← c.bytes_a_pixel.ensures) at plane.rows.stepped, plane.stepped)
+    omega (arith, rw (← c.bytes-a-pixel.ensures) at plane.rows.stepped, plane.stepped)
 
 copy-bytes-requires : tie.Need-copy-bytes-requires
 copy-bytes-requires c κs =
@@ -92,7 +92,7 @@ returns-2 c =
     let row = yuv.before.before in
     let k = row.before.before.before.before.before in
     Ends.done _ (in-types k.before.before) (answered k.before.before) (is-done k)
-    (rw row.bytes_a_pixel.ensures)
+    (rw row.bytes-a-pixel.ensures)
     row.before.before.before.tone-first.ensures
     true
     (is-yuv yuv)
@@ -104,7 +104,7 @@ returns-3 c =
     let row = c.before.before in
     let k = row.before.before.before.before.before in
     Ends.done _ (in-types k.before.before) (answered k.before.before) (is-done k)
-    (rw row.bytes_a_pixel.ensures)
+    (rw row.bytes-a-pixel.ensures)
     row.before.before.before.tone-first.ensures
     false
     (ne_eqb _ 3 (λ e. c.if2.false (c.before.planes-read.ensures ∙ e)))

@@ -17,7 +17,7 @@ good c = lut_done _ _ _ _ _
 
 tone-rows-requires : tie.Need-tone-rows-requires
 tone-rows-requires c κs =
-    let p-is = c.before.before.bytes_a_pixel.ensures in
+    let p-is = c.before.before.bytes-a-pixel.ensures in
     let k = c.before.before.before.before in (
       rw (p-is, c.before.alpha.ensures) (in_place k.before.before.before.before.args.format),
       rw p-is (good k).rows,
@@ -33,7 +33,7 @@ returns c =
       plane =
           rw (
             sym k.before.is-done.ensures ∙ k.if1.true,
-            ← alpha.before.bytes_a_pixel.ensures,
+            ← alpha.before.bytes-a-pixel.ensures,
             ← alpha.alpha.ensures,
           ) toned.tone-rows.ensures;
     }

@@ -10,7 +10,7 @@ tone-rows-into-requires : tie.Need-tone-rows-into-requires
 tone-rows-into-requires c κs =
     let k = c.before.before.before.before.before.before.before.before.before.before in
     let start = k.before.before.before.before.before.before.before.before.before.before.before in
-    rw k.bytes_a_pixel.ensures
+    rw k.bytes-a-pixel.ensures
     ((tight start.args.format start.requires.0).0, start.requires.1.0, start.requires.1.1)
 
 returns : tie.Need-returns
@@ -29,7 +29,7 @@ returns c =
     let set = start.args.set in
     let built = master.entries-of.ensures in
     tight_rows_by start.args.format (view_of set) _ _ _ _ _ start.requires.0 by.by-colour.ensures
-    k.bytes_a_pixel.ensures
+    k.bytes-a-pixel.ensures
     (chosen_is _ set.red _ built by.by-colour.read_result own-red.own-table.ensures red.chosen-table.ensures)
     (chosen_is _ set.green _ built by.by-colour.read_result own-green.own-table2.ensures
     green.chosen-table2.ensures)

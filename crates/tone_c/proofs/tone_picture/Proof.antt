@@ -14,7 +14,7 @@ use Rattle.points.specs.declared.Heights.TheVariants.{Fine, Whole}
 use Rattle.sets.specs.Sets.{curve_checks, set_checks, set_answer}
 use Rattle.sets.specs.Legal.{fine_set}
 use Rattle.records.specs.declared.RecordRead.{RecordRead}
-use Rattle.records.specs.Checks.{recordChecks}
+use Rattle.records.specs.Checks.{record_checks}
 use Rattle.records.specs.CheckLaws.{read_answer}
 use Rattle.records.specs.Views.{ReadRecordCall}
 use Rattle.pictures.specs.declared.Toned.{Toned}
@@ -26,7 +26,7 @@ use Rattle.tone_c.proofs.tone_picture.Tie as tie
 
 -- the checks of the record and of the format
 abbrev front : List ℕ → ℕ → List Check
-front stored format = recordChecks stored ++ (format_check format ∷ [])
+front stored format = record_checks stored ++ (format_check format ∷ [])
 
 -- the set call answers for the picture, on a set that has passed
 of-picture : (r : Run) → set_answer Fine r.job.set ≡ Done → answer r ≡ first_refusal (checks_of_picture r)
@@ -73,7 +73,7 @@ answered : (c : tie.After-first-of)
     c.first_of.read_result ≡ first_refusal (front A.«record».now A.format)
 answered c =
     let A = c.before.before.before.before.before.before.before.before.before.before.args in
-    first_then (recordChecks A.«record».now) (format_check A.format ∷ [])
+    first_then (record_checks A.«record».now) (format_check A.format ∷ [])
     (c.before.before.read-record.ensures.answer ∙ read_answer A.«record».now)
     c.before.format-answer.ensures c.first_of.ensures
 

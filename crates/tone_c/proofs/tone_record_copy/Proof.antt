@@ -13,7 +13,7 @@ use Rattle.lists.specs.Test.{by_test}
 use Rattle.sets.specs.Sets.{View}
 use Rattle.records.specs.declared.RecordRead.{RecordRead}
 use Rattle.records.specs.Views.{ReadRecordCall}
-use Rattle.records.specs.Checks.{recordChecks}
+use Rattle.records.specs.Checks.{record_checks}
 use Rattle.records.specs.CheckLaws.{read_answer}
 use Rattle.writing.specs.Encode.{Write, outcome, encode, write_record}
 use Rattle.writing.specs.Cases.{write_passed}
@@ -58,7 +58,7 @@ returns c =
     record {
       number = c.number.ensures
           ∙ ap number_of
-          (first_stops (recordChecks k.before.before.before.before.args.«record».now) _
+          (first_stops (record_checks k.before.before.before.before.args.«record».now) _
           (k.before.read-record.ensures.answer ∙ read_answer _) no);
       out = rw (c.number.ensures, no);
       written = rw (c.number.ensures, no);
@@ -74,7 +74,7 @@ copied-number c =
     let passed =
     sym (k.before.before.read-record.ensures.answer ∙ read_answer _)
     ∙ asked_done _ k.before.is-done.ensures k.if1.false in
-    first_goes_on (recordChecks A.«record».now)
+    first_goes_on (record_checks A.«record».now)
     (room_check (length (copy_of A.«record».now)) (length A.out.now) ∷ [])
     passed (copied c).answer-is
 

@@ -9,7 +9,7 @@ use Rattle.answers.specs.Numbers.{number_of, asked_refused, asked_done}
 use Rattle.answers.specs.Checks.{first_refusal, room_check, first_then, done_append, has_room}
 use Rattle.tables.specs.Tables.{byte_table}
 use Rattle.sets.specs.Sets.{View}
-use Rattle.records.specs.Checks.{recordChecks}
+use Rattle.records.specs.Checks.{record_checks}
 use Rattle.records.specs.CheckLaws.{read_answer}
 use Rattle.tone_c.specs.Boundary.{tone_record_table_checks}
 use Rattle.tone_c.proofs.tone_record_table.Statement.{statement}
@@ -20,7 +20,7 @@ answered : (c : tie.After-first-of)
     c.first_of.read_result ≡ first_refusal (tone_record_table_checks A.«record».now (length A.table.now))
 answered c =
     let A = c.before.before.before.before.before.args in
-    first_then (recordChecks A.«record».now) (room_check 256 (length A.table.now) ∷ [])
+    first_then (record_checks A.«record».now) (room_check 256 (length A.table.now) ∷ [])
     (c.before.before.read-record.ensures.answer ∙ read_answer A.«record».now) c.before.room_for.ensures
     c.first_of.ensures
 
@@ -43,7 +43,7 @@ copy-bytes-requires c κs =
     let A = k.before.before.before.before.before.before.before.args in
     rw long
     (has_room 256 _
-    (done_append (recordChecks A.«record».now) (room_check 256 (length A.table.now) ∷ []) done).1)
+    (done_append (record_checks A.«record».now) (room_check 256 (length A.table.now) ∷ []) done).1)
 
 returns-2 : tie.Need-returns-2
 returns-2 c =

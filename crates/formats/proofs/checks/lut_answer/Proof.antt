@@ -20,7 +20,7 @@ small c = let A = c.before.before.args in sides A.w A.h (sym c.before.too_large.
 mul-plane-answer : tie.Need-overflow-mul-plane-answer
 mul-plane-answer c =
     let A = c.before.before.before.args in
-    omega (arith, rw (← c.bytes_a_pixel.ensures) at (row_small A.format A.w (small c.before).0))
+    omega (arith, rw (← c.bytes-a-pixel.ensures) at (row_small A.format A.w (small c.before).0))
 
 plane-answer-requires : tie.Need-plane-answer-requires
 plane-answer-requires c κs = (small c.before).1
@@ -29,7 +29,7 @@ returns-2 : tie.Need-returns-2
 unfolding lut_answer
 returns-2 c =
     let k = c.before in
-    rw (← k.before.before.too_large.ensures, k.before.if1.false, ← k.bytes_a_pixel.ensures)
+    rw (← k.before.before.too_large.ensures, k.before.if1.false, ← k.bytes-a-pixel.ensures)
     c.plane-answer.ensures
 
 pub lut-answer-spec : {M : Type 1} → statement M

@@ -6,7 +6,7 @@ use native.Mathlib.Omega.{arith}
 use borrow.Author.Rules.{rules}
 use borrow.Author.Tests.{lt-ltb, le-ltb, eq-eqb, ne_eqb}
 use Rattle.answers.specs.Checks.{first_then}
-use Rattle.formats.specs.Formats.{bytes_aPixel}
+use Rattle.formats.specs.Formats.{bytes_a_pixel}
 use Rattle.formats.specs.Checks.{plane_checks, output_checks, picture_answer}
 use Rattle.formats.specs.CheckLaws.{sides}
 use Rattle.formats.specs.FormatLaws.{row_small}
@@ -42,12 +42,12 @@ record Small (w h p : ℕ) : Type 0 where
 
 small : (c : tie.After-bytes-a-pixel)
     → let A = c.before.before.before.before.before.before.args in
-    Small A.w A.h c.bytes_a_pixel.read_result
+    Small A.w A.h c.bytes-a-pixel.read_result
 small c =
     let k = c.before.before in
     let A = k.before.before.before.before.args in
     let q = sides A.w A.h (sym k.before.too_large.ensures ∙ k.if2.false) in
-    record { high = q.1; row = rw c.bytes_a_pixel.ensures (row_small A.format A.w q.0) }
+    record { high = q.1; row = rw c.bytes-a-pixel.ensures (row_small A.format A.w q.0) }
 
 mul-row : tie.Need-overflow-mul-row
 mul-row c = omega (arith, (small c).row)
@@ -65,9 +65,9 @@ returns-4 c =
     let plane = c.before.before in
     let k = plane.before.before in
     let A = k.before.before.before.before.before.args in
-    let row = A.w * bytes_aPixel A.format in
+    let row = A.w * bytes_a_pixel A.format in
     let read = k.before.before.before.before.planes-read.ensures in
-    let p-is = plane.before.bytes_a_pixel.ensures in
+    let p-is = plane.before.bytes-a-pixel.ensures in
     rw (
       ← read,
       ne_eqb _ 0 k.before.before.before.if1.false,
