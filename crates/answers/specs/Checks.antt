@@ -1,11 +1,11 @@
 -- The checks of a call in document 01's order, "When a call says no", and the first refusal among
 -- them. The answer in a call's contract is the first refusal of the call's list of checks, so
 -- that the order is said once.
-use Rattle.std.specs.Prelude.{ℕ, ◌≤◌, ◌≡◌, refl, Bool, true, false, cond, List, [], ◌∷◌, ◌++◌, ltb}
-use Rattle.std.proofs.Common.{sym, ap, ◌∙◌, true≢false, ltb-false}
+use Rattle.std.specs.Prelude.{ℕ, ◌≡◌, refl, Bool, true, false, cond, List, [], ◌∷◌, ◌++◌, ltb}
+use Rattle.std.proofs.Common.{sym, ap, ◌∙◌, true≢false}
 use Rattle.answers.specs.declared.Answer.{Answer}
 use Rattle.answers.specs.declared.Answer.TheVariants.{Done, OutputTooSmall}
-use Rattle.answers.specs.Numbers.{is_done, first_of, both_done}
+use Rattle.answers.specs.Numbers.{is_done, first_of}
 
 -- a check: what it answers, and whether what a call is given fails it
 pub record Check : Type 0 where
@@ -60,27 +60,6 @@ pub first_append : (cs ds : List Check)
 first_append [] ds = refl
 first_append (c ∷ cs) ds = by_check c cs ds (refuses c) refl (first_append cs ds)
 
--- what code answers that asks for the second list whatever the first one says, or only once
--- the first one has passed
-module _ (cs ds : List Check) where
-  pub first_then : {a b r : Answer} → a ≡ first_refusal cs → b ≡ first_refusal ds → r ≡ first_of a b
-      → r ≡ first_refusal (cs ++ ds)
-  first_then {b = b} p q e =
-      e ∙ ap (λ x. first_of x b) p ∙ ap (first_of (first_refusal cs)) q ∙ sym (first_append cs ds)
-
-  pub first_stops : {a : Answer} → a ≡ first_refusal cs → is_done a ≡ false
-      → a ≡ first_refusal (cs ++ ds)
-  first_stops p refused = first_then p refl (rw refused)
-
-  pub first_goes_on : {b : Answer} → first_refusal cs ≡ Done → b ≡ first_refusal ds
-      → b ≡ first_refusal (cs ++ ds)
-  first_goes_on p q = q ∙ ap (λ x. first_of x (first_refusal ds)) (sym p) ∙ sym (first_append cs ds)
-
--- where nothing is refused, neither list has a refusal
-pub done_append : (cs ds : List Check) → first_refusal (cs ++ ds) ≡ Done
-    → (first_refusal cs ≡ Done) × (first_refusal ds ≡ Done)
-done_append cs ds e = both_done (first_refusal cs) (first_refusal ds) (sym (first_append cs ds) ∙ e)
-
 -- ---- where nothing is refused, every check was passed
 abbrev pub AllPassed : List Check → Type 0
 AllPassed [] = Unit {0}
@@ -95,6 +74,3 @@ module _ (c : Check) (cs : List Check) where
 pub all_passed : (cs : List Check) → first_refusal cs ≡ Done → AllPassed cs
 all_passed [] e = tt
 all_passed (c ∷ cs) e = let p = by_passed c cs (refuses c) refl e in (p.0, all_passed cs p.1)
-
-pub has_room : (count held : ℕ) → first_refusal (room_check count held ∷ []) ≡ Done → count ≤ held
-has_room count held e = ltb-false held count (all_passed (room_check count held ∷ []) e).0

@@ -1,10 +1,12 @@
 // The answer of a call: done, or the first refusal of document 01, "When a call says no". Document
 // 02 took the number 1 away and added 20.
+#![tactic(auto)]
+
 ghost use Rattle.std.specs.Prelude.{◌≡◌, [], ◌∷◌};
 ghost use Rattle.answers.specs.Numbers.{number_of, is_done, first_of};
 ghost use Rattle.answers.specs.Checks.{first_refusal, room_check};
 
-#[derive(Drop)]
+#[derive(Clone, Copy)]
 pub enum Answer {
     Done,
     RecordTruncated,

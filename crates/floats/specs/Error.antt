@@ -4,7 +4,7 @@ use Rattle.std.specs.Prelude.{◌≡◌, ℕ, ◌+◌, ◌*◌, ◌^◌, ◌≤�
 use Rattle.std.proofs.Common.{sym, ap, ◌∙◌, le_of_eq, lt_of_lt_of_le, lt_of_le_of_lt, mul-le-mul, mul-le-mul_left, mul_right_comm, mul-lt-mul_of_pos_right, mul-pos, div-lt_iff_lt-mul, arith, pow-add, pow_pos, pow_mono}
 use Rattle.std.proofs.Math.Pow.{pow-lt}
 use Rattle.std.specs.Float.{Format, binary32}
-use Rattle.std.specs.Float.Ieee.{prec, low, size, round}
+use Rattle.std.specs.Float.Ieee.{prec, low, round}
 use Rattle.std.specs.Float.Ieee.Digits.{size-le}
 use Rattle.std.specs.Float.Ieee.Fits.{round_is}
 use Rattle.std.specs.Float.Ieee.Exact.{HasValue, units_val}

@@ -4,12 +4,12 @@
 -- a value of the format as it is, Unique that such a value is known by its fraction. Ops says what
 -- each operation rounds; from that follow the order (Mono), zeros and one as operands (Zero), the
 -- signs (Sign), products in place of quotients (Reciprocal), exact results (Small).
--- NearestFloat says that rounding gives the nearest float, ties to even, and no other; Closest has
--- the same of whole numbers, Parity when a significand is even, Distance how far a float is from a
--- fraction, Overflow where a result is infinite. Error bounds the error of one rounding; Frac
--- reckons with fractions, and Calc and Approx add up the errors of a chain of operations. Bound
--- says how large a result is, Within the same by powers of two. Whole has the whole numbers, and
--- the nearest one by two sums.
+-- NearestFloat says that rounding gives the nearest float, ties to even (and no other:
+-- proofs/NearestLaws); Closest has the same of whole numbers, Parity when a significand is even,
+-- Distance how far a float is from a fraction, Overflow where a result is infinite. Error bounds
+-- the error of one rounding; Frac reckons with fractions, and Calc and Approx add up the errors of
+-- a chain of operations. Bound says how large a result is, Within the same by powers of two. Whole
+-- has the whole numbers, and the nearest one by two sums.
 -- The six after that are about the pieces between two knots. Line has the straight piece as the
 -- program computes it, Minus and Position the part of the way gone, Segment how near it is to the
 -- exact line and that it keeps the order, Nearest what that means for the nearest whole number;

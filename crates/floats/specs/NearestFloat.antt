@@ -1,7 +1,7 @@
 -- Rounding to the nearest float, ties to even, as IEEE 754 has it, for results of every magnitude:
 -- no float of the format is nearer to the exact fraction than the one that an operation gives;
--- where another is as near, the one given has an even significand; and but for a zero's sign (Sign)
--- no other float is so. Where results are finite: Overflow.
+-- where another is as near, the one given has an even significand. That but for a zero's sign (Sign)
+-- no other float is so: proofs/NearestLaws. Where results are finite: Overflow.
 use Rattle.std.specs.Prelude.{◌≡◌, refl, ℕ, ◌+◌, ◌*◌, ◌%◌, ◌^◌, ◌≤◌, ◌<◌, true, false, T, Float}
 use Rattle.std.proofs.Common.{sym, ap, ◌∙◌, le_trans, le_antisymm, zero-mul, mul_right_comm, mul_assoc, mul-pos, arith, pow_pos}
 use Rattle.std.proofs.Math.Nat.{eq_of_mul-eq-mul_right}
@@ -13,8 +13,8 @@ use Rattle.std.specs.Float.Ieee.Exact.{HasValue}
 use Rattle.std.specs.Float.Ieee.Order.{drop, kept}
 use Rattle.std.specs.Float.Ieee.Scale.{finite, round_val, round_under}
 use Rattle.std.specs.Float.Ieee.Positive.{den}
-use Rattle.floats.specs.Value.{top, bot, Is, is_same, is_neg, is_of_pos, is_of_neg, top_neg}
-use Rattle.floats.specs.Value.{bot_neg, den_neg, finite_neg}
+use Rattle.floats.specs.Value.{Is, is_of_pos, is_of_neg}
+use Rattle.floats.specs.Value.{den_neg, finite_neg}
 use Rattle.floats.specs.Round.{Rounds, over, under, round_opposite, neg_twice}
 use Rattle.floats.specs.Exact.{fits_rep}
 use Rattle.floats.specs.Unique.{value_unique}
@@ -57,7 +57,7 @@ module _ (f : Format) (z : Float) (a c p n : ℕ) (C : 0 < c) (e : p ≡ n + a)
   fitting : T (fits f z)
   fitting = rw i (round-fits f false a c)
 
-  value : HasValue z false (q * 2 ^ k) L
+  pub value : HasValue z false (q * 2 ^ k) L
   value = rw i (round_val f a c (round_under f a c (rw i at F)))
 
   mine : distance z p n c * L ≡ far * den z
@@ -132,7 +132,7 @@ module _ (f : Format) (z : Float) (a c p n : ℕ) (C : 0 < c) (e : p ≡ n + a)
   }
 
   -- ---- what is nearest, and even at a tie, has z's value
-  unique_over : (y : Float) → NearestFloat f y p n c → Is y (q * 2 ^ k) 0 L
+  pub unique_over : (y : Float) → NearestFloat f y p n c → Is y (q * 2 ^ k) 0 L
   unique_over nan r = absurd r.number
   unique_over (inf s) r = absurd r.number
   unique_over (fin false m w) r =
@@ -159,13 +159,8 @@ module _ (f : Format) (z : Float) (a c p n : ℕ) (C : 0 < c) (e : p ≡ n + a)
       let h = far_below y _ (refl, o.same) t in
       rw (h.1, zero-mul (2 ^ k)) (is_of_neg y 0 L (refl, o.same ∙ ap (◌* down w) h.0))
 
-  unique_value : (y : Float) → NearestFloat f y p n c → Is y (top z) (bot z) (den z)
-  unique_value y r =
-      let v : Is z (q * 2 ^ k) 0 L = is_of_pos z _ L value in
-      is_same y _ 0 L _ _ _ (pow_pos _) (unique_over y r) (sym v.1)
-
 -- ---- and a negative one: the same with all signs changed
-nearest_neg : {f : Format} {z : Float} {p n c : ℕ} → NearestFloat f z n p c
+pub nearest_neg : {f : Format} {z : Float} {p n c : ℕ} → NearestFloat f z n p c
     → NearestFloat f (neg z) p n c
 nearest_neg {f} {z} {p} {n} {c} r = record {
   number = finite_neg z r.number;
@@ -190,15 +185,3 @@ rounds_nearest f z p n c C (over a e i) F = nearest_over f z a c p n C e i F
 rounds_nearest f z p n c C (under a e i) F =
     let r = nearest_over f _ a c n p C e (ap neg i ∙ round_opposite f true a c) (finite_neg z F) in
     rw neg_twice at (nearest_neg r)
-
--- ---- and nothing else is: what is nearest, and even at a tie, is the result but for a zero's sign
-pub nearest_unique : (f : Format) (y z : Float) (p n c : ℕ) → 0 < c → Rounds f z p n c
-    → T (finite z) → NearestFloat f y p n c
-    → Is y (top z) (bot z) (den z)
-nearest_unique f y z p n c C (over a e i) F r = unique_value f z a c p n C e i F y r
-nearest_unique f y z p n c C (under a e i) F r =
-    let w = neg z in
-    let v =
-    unique_value f w a c n p C e (ap neg i ∙ round_opposite f true a c) (finite_neg z F) _
-    (nearest_neg r) in
-    rw (neg_twice y, top_neg z, bot_neg z, den_neg z) at (is_neg (neg y) _ _ _ v)

@@ -32,7 +32,7 @@ neg_units f q k = go (ltb (q * 2 ^ k) (2 ^ (low f + suc (emax f))))
     go : (b : Bool)
         → neg (cond b (odd (suc (prec f)) false q k (low f)) (inf false))
         ≡ cond b (odd (suc (prec f)) true q k (low f)) (inf true)
-    go true = neg_odd _ q k _
+    go true = neg_odd (suc (prec f)) q k (low f)
     go false = unfold neg in refl
 
 pub round_neg : (f : Format) (a c : ℕ) → neg (round f false a c) ≡ round f true a c
@@ -67,7 +67,7 @@ unfolding units
 units_unsigned f q k = go (ltb (q * 2 ^ k) (2 ^ (low f + suc (emax f))))
   where
     go : (b : Bool) → T (unsigned (cond b (odd (suc (prec f)) false q k (low f)) (inf false)))
-    go true = odd_unsigned _ q k _
+    go true = odd_unsigned (suc (prec f)) q k (low f)
     go false = tt
 
 pub round_unsigned : (f : Format) (a c : ℕ) → T (unsigned (round f false a c))

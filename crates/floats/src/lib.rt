@@ -1,1 +1,2 @@
 // The laws of single precision are in specs/: no code.
+#![tactic(auto)]

@@ -1,1 +1,2 @@
 // Definitions and laws on lists are in specs/: no code.
+#![tactic(auto)]

@@ -1,0 +1,2 @@
+-- nothing but the rounded result is the nearest float
+pub mod NearestLaws
