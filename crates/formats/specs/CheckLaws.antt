@@ -28,7 +28,8 @@ pub record GoodPlane (f : PixelFormat) (w h step len : ℕ) : Type 0 where
   pub rows : Rows w h (w * bytes_a_pixel f) step len
 
 module _ (f : PixelFormat) (w h step len : ℕ) where
-  pub good_plane : too_large w h ≡ false → AllPassed (plane_checks w h (w * bytes_a_pixel f) step len)
+  pub good_plane : too_large w h ≡ false
+      → AllPassed (plane_checks w h (w * bytes_a_pixel f) step len)
       → GoodPlane f w h step len
   good_plane small passed =
       let row = w * bytes_a_pixel f in

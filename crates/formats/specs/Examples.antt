@@ -1,7 +1,20 @@
 -- The tables of the formats and the limits of the checks, computed. Engine and promises read these
 -- tables alike, so that a slip in one would pass every proof. Each value here is document 01's, of
 -- its sections "Pictures" and "When a call says no": the sentence is quoted above it.
-use Rattle.std.specs.Prelude.{◌≡◌, refl, true, false, List, [], ◌∷◌, ◌++◌, ℕ, ◌+◌, length, replicate}
+use Rattle.std.specs.Prelude.{
+  ◌≡◌,
+  refl,
+  true,
+  false,
+  List,
+  [],
+  ◌∷◌,
+  ◌++◌,
+  ℕ,
+  ◌+◌,
+  length,
+  replicate,
+}
 use Rattle.answers.specs.Numbers.{number_of}
 use Rattle.lists.specs.Tabulate.{tabulate}
 use Rattle.rows.specs.Rows.{needed}

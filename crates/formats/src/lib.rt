@@ -1,11 +1,13 @@
 // The twelve formats, and the checks of the picture calls.
+#![tactic(auto)]
+
 ghost use Rattle.std.specs.Prelude.{◌≡◌};
 ghost use Rattle.formats.specs.Formats.{format_of, new_layout, layout_of};
 ghost use Rattle.formats.specs.Formats.{bytes_a_pixel, alpha_of, planes_read, by_colour};
 
 pub mod checks;
 
-#[derive(Drop)]
+#[derive(Clone, Copy)]
 pub enum PixelFormat {
     Gray8,
     Ya8,
@@ -47,7 +49,7 @@ pub fn format_of(n: u8) -> PixelFormat
 }
 
 // What the kernels and the checks need to know of a format.
-#[derive(Drop)]
+#[derive(Clone, Copy)]
 pub struct Layout {
     // of a pixel
     pub bytes: usize,
@@ -128,7 +130,7 @@ impl PixelFormat {
 }
 
 // How many bytes the planes and the outputs of the set call hold.
-#[derive(Drop)]
+#[derive(Clone, Copy)]
 pub struct Lengths {
     pub plane: usize,
     pub cb: usize,

@@ -2,6 +2,8 @@
 // the two samples beside it.
 // It goes in blocks: all indices of a block are found before any of its values is replaced, so that
 // LLVM finds several at once.
+#![tactic(auto)]
+
 ghost use Rattle.std.specs.Prelude.{◌≡◌, ◌+◌, ◌≤◌, min, length, replicate};
 ghost use Rattle.lists.specs.Stored.{Stored};
 ghost use Rattle.single.specs.Rules.{floor_of};

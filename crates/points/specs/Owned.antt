@@ -1,9 +1,10 @@
 -- What a `Curve` that a function is given, or that a call hands back, tells of its points: there
 -- are 64 places, each of a byte and a 16-bit number.
--- The type says neither, but that the value is owned does, in a form that `search` finds. At a need
--- c of a function of a parameter `curve`:
---     let full : FullRows c.args.curve = search needs in
---     let typed : All Typed (list_of c.args.curve) = search (needs, all-take, owned-typed) in ..
+-- The type says neither, but that the value is held does, in a form that `search` finds. At a goal
+-- of a function of a parameter `curve`, with `p = c.args.curve`:
+--     let full : FullRows p = search rules in
+--     let typed : All Typed (list_of p) =
+--         all_take Typed _ _ (rows_typed p.xs p.ys (λ i. search rules) (λ i. search rules)) in ..
 use Rattle.std.specs.Prelude.{◌≡◌, List, map, ℕ, min, length, take}
 use Rattle.std.proofs.Common.{sym, ◌∙◌, arith, length-take, take_all}
 use Rattle.std.proofs.Math.Decide.{dec_le}

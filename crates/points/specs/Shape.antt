@@ -51,12 +51,12 @@ unfolding rest
 rest_length p [] = by_end (λ t. length t ≤ 1) p (λ here. lit≤ tt) (λ other. lit≤ tt)
 rest_length p (q ∷ l) = omega (arith, rest_length q l)
 
-rest_mem : (q : Point) (l : List Point) (p : Point) → Memᴰ p (q ∷ l)
+rest_mem : (p q : Point) (l : List Point) → Memᴰ p (q ∷ l)
     → Memᴰ p (q ∷ rest q l)
 unfolding rest
-rest_mem q l p (Memᴰ.head e) = Memᴰ.head e
-rest_mem q [] p (Memᴰ.tail m) = absurd (Memᴰ.not-nil m)
-rest_mem q (r ∷ l) p (Memᴰ.tail m) = Memᴰ.tail (rest_mem r l p m)
+rest_mem p q l (Memᴰ.head e) = Memᴰ.head e
+rest_mem p q [] (Memᴰ.tail m) = absurd (Memᴰ.not-nil m)
+rest_mem p q (r ∷ l) (Memᴰ.tail m) = Memᴰ.tail (rest_mem p r l m)
 
 -- ---- the knots
 -- what holds both without and with one in front holds of the knots
@@ -149,8 +149,8 @@ knots_length (p ∷ l) =
 pub knots_mem : (l : List Point) (p : Point) → Memᴰ p l → Memᴰ p (knots l)
 knots_mem [] p m = absurd (Memᴰ.not-nil m)
 knots_mem (q ∷ l) p m =
-    by_front (Memᴰ p) q l (λ zero. rest_mem q l p m)
-    (λ above. Memᴰ.tail (rest_mem q l p m))
+    by_front (Memᴰ p) q l (λ zero. rest_mem p q l m)
+    (λ above. Memᴰ.tail (rest_mem p q l m))
 
 -- the knots added at the ends are no higher and no lower than their neighbours
 pub knots_never_fall : (l : List Point) → IsKept l → NeverFalls l → NeverFalls (knots l)

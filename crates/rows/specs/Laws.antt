@@ -1,7 +1,21 @@
 -- What is at each place of a plane and of tight rows: for any function of a place
 -- and a byte, and for tables.
 -- Byte c of row y is at y × step + c in the plane, and at y × row + c in tight rows.
-use Rattle.std.specs.Prelude.{◌≡◌, false, List, ℕ, ◌+◌, ◌-◌, ◌*◌, ◌/◌, ◌%◌, ◌≤◌, ◌<◌, length, get_or}
+use Rattle.std.specs.Prelude.{
+  ◌≡◌,
+  false,
+  List,
+  ℕ,
+  ◌+◌,
+  ◌-◌,
+  ◌*◌,
+  ◌/◌,
+  ◌%◌,
+  ◌≤◌,
+  ◌<◌,
+  length,
+  get_or,
+}
 use Rattle.std.proofs.Common.{sym, ◌∙◌, le-div_iff_mul-le, mul-le-mul_right, arith}
 use Rattle.std.proofs.Math.Bool.{and-false}
 use Rattle.std.proofs.Math.Decide.{dec_lt}
@@ -47,7 +61,8 @@ module _ (row h step : ℕ) where
 
   pub below_rows : (k : ℕ) → 0 < step → h * step ≤ k → in_row row h step k ≡ false
   unfolding in_row
-  below_rows k some past = rw (le-ltb (k / step) h ((le-div_iff_mul-le {x = h} {y = k} some).1 past))
+  below_rows k some past =
+      rw (le-ltb (k / step) h ((le-div_iff_mul-le {x = h} {y = k} some).1 past))
 
   pub no_columns_lem : (k : ℕ) → row ≡ 0 → in_row row h step k ≡ false
   unfolding in_row
@@ -84,23 +99,37 @@ module _ (w h step p kept : ℕ) (tables : ℕ → List ℕ) where
       → get_or (each (plane_byte (w * p) h step (row_byte p kept tables)) plane)
       (y * step + (x * p + j)) 0
       ≡ toned kept tables j (get_or plane (y * step + (x * p + j)) 0)
+  unfolding plane_byte in_row
   plane_pixel plane y x j rows below left channel =
       let inside = rows_inside y rows (λ e. omega arith) below in
       let room = mul_room x w p left in
-      get_d_each _ plane _ 0 (omega arith)
-      ∙ plane_row (w * p) h step _ y (x * p + j) _ rows.stepped below (omega arith)
-      ∙ row_channel p kept tables x j _ channel
+      let stepped = rows.stepped in
+      let at = y * step + (x * p + j) in
+      rw (
+        get_d_each (plane_byte (w * p) h step (row_byte p kept tables)) plane at 0 (omega arith),
+        place_row y step (x * p + j) (omega arith),
+        place_in y step (x * p + j) (omega arith),
+        lt-ltb y h below,
+        lt-ltb (x * p + j) (w * p) (omega arith),
+      )
+      (row_channel p kept tables x j _ channel)
 
   pub tight_pixel : (plane dst : List ℕ) (y x j : ℕ) → y < h → x < w → j < p
       → get_or (filled (h * (w * p)) (tight_byte (w * p) step (row_byte p kept tables) plane) dst)
       (y * (w * p) + (x * p + j)) 0
       ≡ toned kept tables j (get_or plane (y * step + (x * p + j)) 0)
+  unfolding tight_byte
   tight_pixel plane dst y x j below left channel =
       let room = mul_room x w p left in
       let rows = mul_room y h (w * p) below in
-      get_d_filled (h * (w * p)) _ dst _ 0 (omega arith)
-      ∙ tight_row (w * p) step _ plane y (x * p + j) (omega arith)
-      ∙ row_channel p kept tables x j _ channel
+      let at = y * (w * p) + (x * p + j) in
+      let rule = tight_byte (w * p) step (row_byte p kept tables) plane in
+      rw (
+        get_d_filled (h * (w * p)) rule dst at 0 (omega arith),
+        place_row y (w * p) (x * p + j) (omega arith),
+        place_in y (w * p) (x * p + j) (omega arith),
+      )
+      (row_channel p kept tables x j _ channel)
 
 -- padding is as it was; so are bytes after tight rows, by `get_d_filled_rest`
 pub padding_stays : (row h step : ℕ) (g : ℕ → ℕ → ℕ) (plane : List ℕ) (k : ℕ)

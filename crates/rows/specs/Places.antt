@@ -1,7 +1,21 @@
 -- Where a byte lies: index y × step + c is byte c of row y, and c = x × p + j is channel j of pixel
 -- x. Laws of whole numbers.
 use Rattle.std.specs.Prelude.{◌≡◌, ℕ, ◌+◌, ◌*◌, ◌/◌, ◌%◌, ◌≤◌, ◌<◌}
-use Rattle.std.proofs.Common.{ap, ◌∙◌, add-zero, add-mul, suc-mul, le_antisymm, le_trans, mul-le-mul_right, mul-le-mul_left, mod-eq_of_lt, add-one, add-one-le, arith}
+use Rattle.std.proofs.Common.{
+  ap,
+  ◌∙◌,
+  add-zero,
+  add-mul,
+  suc-mul,
+  le_antisymm,
+  le_trans,
+  mul-le-mul_right,
+  mul-le-mul_left,
+  mod-eq_of_lt,
+  add-one,
+  add-one-le,
+  arith,
+}
 use Rattle.std.proofs.Math.Nat.{div-eq_of_lt, mul-add-div_right, mul-add-mod_self_right}
 
 -- c is below the step, or j below p: the row, or the pixel, and the place in it

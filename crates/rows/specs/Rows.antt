@@ -3,7 +3,24 @@
 -- "A plane is its bytes together with its row step. The row at y is the plane's part from y × step,
 -- of row bytes". In tight rows the step is row.
 -- g is any function of a byte's place in its row and of the byte.
-use Rattle.std.specs.Prelude.{ℕ, ◌+◌, ◌-◌, ◌*◌, ◌/◌, ◌%◌, ◌≤◌, ◌≡◌, ◌⊎◌, Bool, cond, ◌&&◌, List, eqb, ltb, get_or}
+use Rattle.std.specs.Prelude.{
+  ℕ,
+  ◌+◌,
+  ◌-◌,
+  ◌*◌,
+  ◌/◌,
+  ◌%◌,
+  ◌≤◌,
+  ◌≡◌,
+  ◌⊎◌,
+  Bool,
+  cond,
+  ◌&&◌,
+  List,
+  eqb,
+  ltb,
+  get_or,
+}
 
 -- index k of a plane lies in a row; what lies in none is "padding"
 unfoldable pub in_row : ℕ → ℕ → ℕ → ℕ → Bool

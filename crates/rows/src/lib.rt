@@ -3,6 +3,8 @@
 // calls this: what it requires, its callers have checked.
 // Loops that are to be fast name the place by one counter and what is left by another. LLVM then
 // steps a pointer alone, and a store that needs no index register takes two thirds of the time.
+#![tactic(auto)]
+
 ghost use Rattle.std.specs.Prelude.{◌≡◌, ◌+◌, ◌-◌, ◌*◌, ◌%◌, ◌≤◌, ◌<◌, min, ◌++◌, length, drop};
 ghost use Rattle.lists.specs.Each.{each};
 ghost use Rattle.lists.specs.Tabulate.{filled};

@@ -10,9 +10,8 @@ use Rattle.std.specs.Float.Ieee.{up, down, odd, units, fits, of_bits}
 use Rattle.std.specs.Float.Ieee.Fits.{down_pos}
 use Rattle.floats.specs.Value.{sign}
 use Rattle.floats.specs.Exact.{fits_parts}
-use Rattle.single.specs.Constants.{𝟏}
 use Rattle.single.specs.Root.{nearest_root, root_of_units, root_of}
-use Rattle.single.specs.RootUnits.{dropped, part, Rooted, units_rooted, rooted_unique}
+use Rattle.single.specs.RootUnits.{dropped, part, Rooted, units_rooted}
 
 -- ---- the root of a positive float
 -- 2 ^ e in units, where it is a whole number of them
@@ -111,8 +110,8 @@ unfolding root_of
 root_of_negative m e = refl
 
 -- ---- why `Rooted` has the binade
--- the float just below 1 is its own root; 1 is not, though it is half of its own, wider, step
--- away
+-- the float just below 1 is its own root; 1 is not (proofs/Binade), though it is half of its own,
+-- wider, step away
 abbrev pub below_one : Float
 below_one = of_bits binary32 0x3f7f_ffff
 
@@ -127,10 +126,3 @@ root_of_below_one = refl
 pub below_one_rooted : Rooted below_one_units below_one
 unfolding of_bits fits
 below_one_rooted = rw root_of_below_one at (root_is 16777214 (negsuc 23) tt)
-
-pub one_not_rooted : Rooted below_one_units 𝟏 → ⊥
-unfolding of_bits fits
-one_not_rooted h =
-    let e : below_one ≡ 𝟏 = rooted_unique below_one_rooted h in
-    let z : ◌≡◌ {A = ℕ} 0 1 = cc in
-    omega arith

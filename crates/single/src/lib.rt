@@ -2,6 +2,8 @@
 // quotient, whole numbers as floats;
 // the square root in `root`. Every open function equals a definition of specs/ on every float: NaN,
 // infinities and both zeros included.
+#![tactic(auto)]
+
 ghost use Rattle.std.specs.Prelude.{◌≡◌, ◌≤◌, ◌^◌};
 ghost use Rattle.floats.specs.Value.{absolute};
 ghost use Rattle.single.specs.Rules as R;

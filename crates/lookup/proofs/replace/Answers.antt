@@ -1,0 +1,28 @@
+-- `lookup::replace` meets its contract: the loop replaces one value after another; the place it
+-- reads is as it was when the loop began.
+use Rattle.std.proofs.Common.{arith, rules}
+use Rattle.std.specs.Float.{nan}
+use Rattle.lists.specs.Stored.{stored_none, stored_next, stored_end, stored_here, stored_inside}
+use Rattle.lookup.specs.Lookup.{index_from, looked}
+use Rattle.lookup.proofs.replace.Goals as goal
+
+pub loop-j-init : goal.loop-j-init
+loop-j-init c = (search rules, stored_end stored_none (omega arith))
+
+pub blend-y-requires : goal.blend-y-requires
+unfolding index_from
+blend-y-requires c =
+    let found = c.requires.stored in (
+      search rules,
+      rw (stored_here c.loop-j.invariant.1 nan)
+          (stored_inside found c.loop-j.j 0 (omega arith) (omega arith) (omega arith)),
+    )
+
+pub loop-j-preserved : goal.loop-j-preserved
+unfolding looked
+loop-j-preserved c =
+    let r = c.loop-j.invariant.1 in
+    (search rules, stored_end (stored_next r (rw (← stored_here r nan) c.blend-y.ensures)) (omega arith))
+
+pub returns : goal.returns
+returns c = stored_end c.loop-j.invariant.1 (omega arith)
