@@ -1,6 +1,8 @@
 // The tangents of CentripetalCatmullRom and ChordalCatmullRom at the knots, by the chords between
 // them. n knots are in the rows xs and ys; what is behind them is not read. The tangents go to
 // the front of a lent row.
+#![tactic(auto)]
+
 ghost use Rattle.std.specs.Prelude.{◌≡◌, ◌-◌, ◌≤◌};
 ghost use Rattle.lists.specs.Stored.{Stored};
 ghost use Rattle.chords.specs.Alpha as Alpha;

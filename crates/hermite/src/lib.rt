@@ -1,4 +1,6 @@
 // The cubic piece between two knots with a tangent at each.
+#![tactic(auto)]
+
 ghost use Rattle.std.specs.Prelude.{◌≡◌};
 ghost use Rattle.hermite.specs.Hermite as Hermite;
 

@@ -2,6 +2,8 @@
 // their letters: Δ is the secant of a segment, alpha and beta are the tangents at its ends over Δ,
 // and tau is 3 / √(alpha² + beta²). n knots are in the rows xs and ys; what is behind them is
 // not read. The tangents go to the front of a lent row.
+#![tactic(auto)]
+
 ghost use Rattle.std.specs.Prelude.{◌≡◌, ◌-◌, ◌≤◌, ◌<◌};
 ghost use Rattle.floats.specs.Notation.{◌⊘◌};
 ghost use Rattle.lists.specs.Stored.{Stored};
@@ -13,7 +15,7 @@ use single::root::sqrt;
 use single::tiny;
 
 // The tangents at the two ends of a segment.
-#[derive(Drop)]
+#[derive(Clone, Copy)]
 pub struct Tangents {
     pub left: f32,
     pub right: f32,

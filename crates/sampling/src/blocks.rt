@@ -9,7 +9,7 @@ use crate::{Piece, piece_at, position};
 
 // Where the drawing of the samples is: at the next sample, v, and a piece, i, that it does not
 // lie left of.
-#[derive(Drop)]
+#[derive(Clone, Copy)]
 pub struct Cursor {
     pub v: usize,
     pub i: usize,

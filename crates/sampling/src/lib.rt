@@ -3,6 +3,8 @@
 // short piece takes one block, and the loop has no branch for the processor to guess wrong. Where
 // each piece ends is found beforehand. Each form has a module with a loop of its own: of one loop
 // over all forms LLVM makes code that takes twice the time.
+#![tactic(auto)]
+
 ghost use Rattle.std.specs.Prelude.{◌≡◌, ◌+◌, ◌-◌, ◌<◌, ◌≤◌, length};
 ghost use Rattle.lists.specs.Tabulate.{tabulate};
 ghost use Rattle.segments.specs.Segments as S;
@@ -19,7 +21,7 @@ mod splines;
 mod straights;
 
 // How a piece is drawn.
-#[derive(Drop)]
+#[derive(Clone, Copy)]
 pub enum Form {
     Straight,
     Cubic,
@@ -27,7 +29,7 @@ pub enum Form {
 }
 
 // A piece of a curve: its two knots, and at each a number: a tangent, or a second derivative.
-#[derive(Drop)]
+#[derive(Clone, Copy)]
 pub struct Piece {
     pub a: Knot,
     pub b: Knot,
@@ -108,7 +110,7 @@ fn rest(
     from: Cursor,
     samples: &mut [f32],
 )
-    requires n_bound { (n ≤ 66) × (length samples.old ≤ 4096) × (step ≡ S.step (length samples.old)) }
+    requires counts { (n ≤ 66) × (length samples.old ≤ 4096) × (step ≡ S.step (length samples.old)) }
     requires state { State form xs.now ys.now ms.now n (length samples.old) from samples.old }
     ensures { samples.new ≡ tabulate (length samples.old)
         (sampled (height_at form xs.now ys.now ms.now n)
@@ -157,8 +159,8 @@ fn begin(
     step: f32,
     samples: &mut [f32],
 ) -> Cursor
-    requires le_n { (2 ≤ n) × (n ≤ 66) }
-    requires in_bounds { (2 ≤ length samples.old) × (length samples.old ≤ 4096)
+    requires knots { (2 ≤ n) × (n ≤ 66) }
+    requires counts { (2 ≤ length samples.old) × (length samples.old ≤ 4096)
         × (step ≡ S.step (length samples.old)) }
     ensures { State form xs.now ys.now ms.now n
         (length samples.old) result samples.new }
@@ -180,8 +182,8 @@ pub fn fill<'a>(
     n: usize,
     samples: &mut [f32],
 )
-    requires le_n { (2 ≤ n) × (n ≤ 66) }
-    requires in_bounds { (2 ≤ length samples.old) × (length samples.old ≤ 4096) }
+    requires knots { (2 ≤ n) × (n ≤ 66) }
+    requires counts { (2 ≤ length samples.old) × (length samples.old ≤ 4096) }
     ensures { samples.new ≡ tabulate (length samples.old)
         (sampled (height_at form xs.now ys.now ms.now n)
         (length samples.old)) }

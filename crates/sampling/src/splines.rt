@@ -26,9 +26,9 @@ fn coefficients(
     c3s: &mut [f32; 66],
 )
     requires { (2 ≤ n) × (n ≤ 66) }
-    ensures stored { Stored (first_coefficient_at xs.now ys.now ms.now) 0 (n - 1)
+    ensures first { Stored (first_coefficient_at xs.now ys.now ms.now) 0 (n - 1)
         c1s.old c1s.new }
-    ensures stored_2 { Stored (third_coefficient_at xs.now ys.now ms.now) 0 (n - 1)
+    ensures third { Stored (third_coefficient_at xs.now ys.now ms.now) 0 (n - 1)
         c3s.old c3s.new }
 {
     let mut i: usize = 0;

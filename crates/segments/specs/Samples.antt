@@ -32,25 +32,30 @@ sample_byte v h =
     (div_self 𝟐𝟓𝟓 (float 255) 255 1 (lit< tt) (lit< tt) 𝟐𝟓𝟓-is (float_is 255 (lit≤ tt)))
 
 -- ---- of 4,096 samples, sample 273 * j is at 17 * j, from 0 up to 4,095 at 255
-fine_samples : tabulate 16 (λ j. sample_at (step 4096) (273 * j)) ≡ tabulate 16 (λ j. float (17 * j))
-unfolding tabulate sample_at step mul div of_int of_bits
-fine_samples = refl
-
 pub sample_fine : (j : ℕ) → j < 16 → sample_at (step 4096) (273 * j) ≡ float (17 * j)
+unfolding tabulate sample_at step mul div of_int of_bits
 sample_fine =
-    tabulate_agree (λ i. sample_at (step 4096) (273 * i)) (λ i. float (17 * i)) fine_samples
+    let fine : tabulate 16 (λ j. sample_at (step 4096) (273 * j)) ≡ tabulate 16 (λ j. float (17 * j))
+    = refl in
+    tabulate_agree (λ i. sample_at (step 4096) (273 * i)) (λ i. float (17 * i)) fine
 
 -- ---- of S samples
+-- 255 by a whole number is a number from 0 to 255
+quotient_between : (n : ℕ) → 1 ≤ n → n ≤ 2 ^ 24
+    → T (finite (𝟐𝟓𝟓 ⊘ float n)) × T (le 𝟎 (𝟐𝟓𝟓 ⊘ float n)) × T (le (𝟐𝟓𝟓 ⊘ float n) 𝟐𝟓𝟓)
+unfolding of_bits fits
+quotient_between n some most =
+    rounds_between binary32 𝟎 (𝟐𝟓𝟓 ⊘ float n) 𝟐𝟓𝟓 (255 * 1) (0 * 1) (1 * n) (omega arith) tt tt tt
+    tt
+    (div_rounds binary32 𝟐𝟓𝟓 (float n) 255 0 1 n 1 (lit< tt) (lit< tt) (omega arith)
+    𝟐𝟓𝟓-is (float_is n (omega arith)))
+    (omega arith) (omega arith)
+
 module _ (S : ℕ) (two : 2 ≤ S) (most : S ≤ 2 ^ 24) where
-  -- the step is a number from 0 to 255
+  -- so is the step
   step_between : T (finite (step S)) × T (le 𝟎 (step S)) × T (le (step S) 𝟐𝟓𝟓)
-  unfolding step of_bits fits
-  step_between =
-      rounds_between binary32 𝟎 (step S) 𝟐𝟓𝟓 (255 * 1) (0 * 1) (1 * (S - 1)) (omega arith) tt tt tt
-      tt
-      (div_rounds binary32 𝟐𝟓𝟓 (float (S - 1)) 255 0 1 (S - 1) 1 (lit< tt) (lit< tt) (omega arith)
-      𝟐𝟓𝟓-is (float_is (S - 1) (omega arith)))
-      (omega arith) (omega arith)
+  unfolding step
+  step_between = quotient_between _ (omega arith) (omega arith)
 
   step_is : Is (step S) (top (step S)) 0 (den (step S))
   step_is = nonnegative_is (step S) step_between.0 step_between.1

@@ -1,4 +1,6 @@
 // The straight line between two knots, unclamped.
+#![tactic(auto)]
+
 ghost use Rattle.std.specs.Prelude.{◌≡◌};
 ghost use Rattle.segments.specs.Straight as S;
 

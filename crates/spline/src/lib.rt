@@ -1,6 +1,8 @@
 // Cubic splines through the knots (de Boor 1978): here the segments and the pieces drawn by second
 // derivatives, in `second` these derivatives under three boundary rules, from the rows in `system`
 // by the solve in `thomas`.
+#![tactic(auto)]
+
 ghost use Rattle.std.specs.Prelude.{◌≡◌, ◌+◌, ◌<◌};
 ghost use Rattle.spline.specs.Segments as S;
 ghost use Rattle.spline.specs.Segments.{segment_at, polynomial_from, spline_piece, slope_of};
@@ -18,7 +20,7 @@ mod system;
 mod thomas;
 
 // "The edge rule": natural, clamped with its start slope and end slope, or not-a-knot.
-#[derive(Drop)]
+#[derive(Clone, Copy)]
 pub enum SplineBoundary {
     Natural,
     Clamped { s0: f32, s1: f32 },
@@ -27,7 +29,7 @@ pub enum SplineBoundary {
 
 // What lies between two neighbouring knots: the distance of their x, and the slope of the
 // straight line through them.
-#[derive(Drop)]
+#[derive(Clone, Copy)]
 pub struct Segment {
     pub width: f32,
     pub secant: f32,

@@ -8,7 +8,7 @@ ghost use Rattle.spline.specs.Thomas.{swept_in, substituted, starting_at};
 use single::guarded_quotient;
 
 // A row of the tridiagonal system, a x(k-1) + b x(k) + c x(k+1) = d.
-#[derive(Drop)]
+#[derive(Clone, Copy)]
 pub struct Row {
     pub a: f32,
     pub b: f32,
@@ -17,7 +17,7 @@ pub struct Row {
 }
 
 // A row after the forward sweep, x(k) + c' x(k+1) = d': above is c', right is d'.
-#[derive(Drop)]
+#[derive(Clone, Copy)]
 pub struct Swept {
     pub above: f32,
     pub right: f32,

@@ -1,5 +1,7 @@
 // Tables of a curve: the kinds of interpolation, S samples into a lent slice, and
 // the byte table by value.
+#![tactic(auto)]
+
 ghost use Rattle.std.specs.Prelude.{◌≡◌, ◌≤◌, [], ◌∷◌, length, take, replicate};
 ghost use Rattle.answers.specs.Checks.{first_refusal};
 ghost use Rattle.single.specs.Constants.{𝟎};
@@ -31,7 +33,7 @@ use spline::second::second_derivatives;
 use spline::{SplineBoundary, clamped_slope};
 
 // The kinds, in the order of document 01's numbers.
-#[derive(Drop)]
+#[derive(Clone, Copy)]
 pub enum CurveInterpolation {
     Linear,
     CatmullRom,
@@ -51,7 +53,7 @@ pub enum CurveInterpolation {
 }
 
 // What a kind carries beside its number.
-#[derive(Drop)]
+#[derive(Clone, Copy)]
 pub struct Carried {
     pub tension: u8,
     pub start: i16,
@@ -174,7 +176,7 @@ pub fn carried_by(kind: CurveInterpolation) -> Carried
 }
 
 // A byte table, beside the answer.
-#[derive(Drop)]
+#[derive(Clone, Copy)]
 pub struct Lut {
     pub answer: Answer,
     pub table: [u8; 256],
@@ -247,8 +249,8 @@ pub fn sample_curve<'a>(
     kind: CurveInterpolation,
     samples: &mut [f32],
 )
-    requires typed_rows { TypedRows xs.now ys.now }
-    requires in_bounds { (2 ≤ length samples.old) × (length samples.old ≤ 4096) }
+    requires rows { TypedRows xs.now ys.now }
+    requires counts { (2 ≤ length samples.old) × (length samples.old ≤ 4096) }
     ensures { samples.new
         ≡ fine_table kind (take count (joined xs.now ys.now))
         (length samples.old) }

@@ -1,5 +1,7 @@
 // The tangents of CatmullRom and Cardinal at the knots. n knots are in the rows xs and ys; what
 // is behind them is not read. The tangents go to the front of a lent row.
+#![tactic(auto)]
+
 ghost use Rattle.std.specs.Prelude.{◌≡◌, ◌≤◌, ◌<◌};
 ghost use Rattle.lists.specs.Stored.{Stored};
 ghost use Rattle.points.specs.Knots as K;

@@ -1,0 +1,19 @@
+-- `chords`: the loop stores the rule's element at each place.
+use Rattle.std.proofs.Common.{arith, rules}
+use Rattle.lists.specs.Stored.{stored_none, stored_next, stored_end}
+use Rattle.chords.specs.Alpha.{chord_at}
+use Rattle.chords.proofs.chords.Goals as goal
+
+pub loop-i-preserved : goal.loop-i-preserved
+unfolding chord_at
+loop-i-preserved c = (
+  search rules,
+  stored_next c.loop-i.invariant.1
+      (rw (← c.knot_at.ensures, ← c.knot_at-in-loop-i.ensures) c.chord.ensures),
+)
+
+pub returns : goal.returns
+returns c = stored_end c.loop-i.invariant.1 (omega arith)
+
+pub loop-i-init : goal.loop-i-init
+loop-i-init c = (search rules, stored_none)

@@ -1,0 +1,15 @@
+-- `quotients`: the loop stores the rule's element at each place.
+use Rattle.std.proofs.Common.{refl, arith, rules}
+use Rattle.lists.specs.Stored.{stored_none, stored_next, stored_end}
+use Rattle.monotone.specs.Monotone.{quotient_of}
+use Rattle.monotone.proofs.quotients.Goals as goal
+
+pub loop-i-preserved : goal.loop-i-preserved
+unfolding quotient_of
+loop-i-preserved c = (search rules, stored_next c.loop-i.invariant.1 refl)
+
+pub returns : goal.returns
+returns c = stored_end c.loop-i.invariant.1 (omega arith)
+
+pub loop-i-init : goal.loop-i-init
+loop-i-init c = (search rules, stored_none)

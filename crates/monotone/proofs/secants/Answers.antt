@@ -1,0 +1,13 @@
+-- `secants`: the loop stores the rule's element at each place.
+use Rattle.std.proofs.Common.{arith, rules}
+use Rattle.lists.specs.Stored.{stored_none, stored_next, stored_end}
+use Rattle.monotone.proofs.secants.Goals as goal
+
+pub loop-i-preserved : goal.loop-i-preserved
+loop-i-preserved c = (search rules, stored_next c.loop-i.invariant.1 c.secant.ensures)
+
+pub returns : goal.returns
+returns c = stored_end c.loop-i.invariant.1 (omega arith)
+
+pub loop-i-init : goal.loop-i-init
+loop-i-init c = (search rules, stored_none)

@@ -1,0 +1,13 @@
+-- `splines::four`: the loop stores sample v + j.
+use Rattle.std.proofs.Common.{arith, rules}
+use Rattle.lists.specs.Stored.{stored_none, stored_next, stored_end}
+use Rattle.sampling.proofs.splines.four.Goals as goal
+
+pub loop-j-init : goal.loop-j-init
+loop-j-init c = (search rules, stored_end stored_none (omega arith))
+
+pub loop-j-preserved : goal.loop-j-preserved
+loop-j-preserved c = (search rules, stored_end (stored_next c.loop-j.invariant.1 c.sample.ensures) (omega arith))
+
+pub returns : goal.returns
+returns c = stored_end c.loop-j.invariant.1 (omega arith)

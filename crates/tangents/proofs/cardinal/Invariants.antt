@@ -1,0 +1,11 @@
+-- `tangents::cardinal`: the loop stores the rule's element at each place.
+use Rattle.std.proofs.Common.{◌≤◌, ◌-◌}
+use Rattle.lists.specs.Stored.{Stored}
+use Rattle.tangents.specs.CatmullRom.{cardinal_at}
+use Rattle.tangents.proofs.cardinal.Given as goal
+
+abbrev pub invariant-loop-i : goal.invariant-loop-i
+invariant-loop-i l = (l.i ≤ l.n) × Stored (cardinal_at l.q l.xs l.ys l.n) 0 l.i l.initial.tangents l.tangents
+
+abbrev pub decreases-loop-i : goal.decreases-loop-i
+decreases-loop-i l = l.n - l.i
