@@ -85,7 +85,7 @@ named_in_full [] = []
 named_in_full (m ∷ s) = map_in_full m ∷ (s ++ byte_left_out m)
 
 -- ---- the writer's record of a set
-encode_is : (v : View) → encode v ≡ record_naming true (names_kind v.kind) v
+pub encode_is : (v : View) → encode v ≡ record_naming true (names_kind v.kind) v
 unfolding encode record_naming
 encode_is v = refl
 
@@ -149,7 +149,7 @@ written_in_full v =
     (λ e. rw bits.0 (left_out v.kind (sym bits.1 ∙ e)))
 
 -- ---- an accepted record
-no_map : (read_record []).answer ≡ Done → ⊥
+pub no_map : (read_record []).answer ≡ Done → ⊥
 unfolding read_record
 no_map e = true≢false (ap is_done (sym e))
 
@@ -167,7 +167,7 @@ module _ (m : ℕ) (s : List ℕ) (accepted : (read_record (m ∷ s)).answer ≡
   abbrev set : View
   set = (read_record (m ∷ s)).set
 
-  as_written : has_writer_form (m ∷ s) ≡ true
+  pub as_written : has_writer_form (m ∷ s) ≡ true
       → (bit 128 m ≡ true) × (bit 16 m ≡ names_kind set.kind)
   as_written e =
       by_test (bit 128 m)
@@ -180,19 +180,8 @@ module _ (m : ℕ) (s : List ℕ) (accepted : (read_record (m ∷ s)).answer ≡
       ))
       (λ older. absurd (false≢true (rw older at e)))
 
--- one that has the writer's form is what the writer makes of its set
-pub accepted_is : (s : List ℕ) → AllBytes s → (read_record s).answer ≡ Done → has_writer_form s ≡ true
-    → encode (read_record s).set ≡ s
-accepted_is [] bytes accepted e = absurd (no_map accepted)
-accepted_is (m ∷ s) bytes accepted e =
-    let w = as_written m s accepted e in
-    let set = (read_record (m ∷ s)).set in
-    encode_is set
-    ∙ sym (record_is m s accepted bytes
-    ∙ ap (λ (b : Bool). record_naming b (bit 16 m) set) w.0
-    ∙ ap (λ (b : Bool). record_naming true b set) w.1)
-
--- and no other is
+-- what the writer makes of its set has the writer's form; that no other record has it is in
+-- proofs/WriterFormLaws
 pub writer_form : (s : List ℕ) → (read_record s).answer ≡ Done → encode (read_record s).set ≡ s
     → has_writer_form s ≡ true
 writer_form [] accepted e = absurd (no_map accepted)

@@ -11,7 +11,8 @@ use Rattle.std.proofs.lemmas.Bool.{not-false}
 use Rattle.lists.specs.Test.{by_test}
 use Rattle.answers.specs.declared.Answer.{Answer}
 use Rattle.answers.specs.declared.Answer.TheVariants.{Done, RecordTruncated, UnknownKind}
-use Rattle.answers.specs.Numbers.{is_done, done_is}
+use Rattle.answers.specs.Numbers.{is_done}
+use Rattle.answers.proofs.NumberLaws.{done_is}
 use Rattle.points.specs.declared.Point.{Point}
 use Rattle.points.specs.Points.{limit, rises, rises_from}
 use Rattle.points.specs.Order.{All, WholeHeight}

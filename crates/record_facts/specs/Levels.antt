@@ -43,7 +43,7 @@ use Rattle.records.specs.Checks.{
   after_kind,
   record_checks,
 }
-use Rattle.records.specs.CheckLaws.{read_answer}
+use Rattle.records.proofs.AnswerLaws.{read_answer}
 use Rattle.record_facts.specs.Found.{handed_has}
 use Rattle.record_facts.specs.Refusals.{
   Never,

@@ -1,10 +1,11 @@
--- 522 bytes always suffice: into so long a buffer the writer never answers 13.
+-- 522 bytes always suffice: into so long a buffer the writer answers what the check of the set's
+-- lists does. That this is never 13 is in proofs/RoomLaws.
 use Rattle.std.specs.Prelude.{ℕ, ◌≤◌, ◌≡◌, refl, List, [], ◌∷◌, length}
-use Rattle.std.proofs.Common.{arith, sym, ap, ◌∙◌}
-use borrow.Author.Tests.{le-ltb, eqb-false}
+use Rattle.std.proofs.Common.{arith, ◌∙◌}
+use borrow.Author.Tests.{le-ltb}
 use Rattle.lists.specs.Test.{by_test}
-use Rattle.answers.specs.declared.Answer.TheVariants.{OutputTooSmall}
-use Rattle.answers.specs.Numbers.{number_of, is_done, done_is}
+use Rattle.answers.specs.Numbers.{is_done}
+use Rattle.answers.proofs.NumberLaws.{done_is}
 use Rattle.answers.specs.Checks.{Check, room_check, first_append}
 use Rattle.points.specs.declared.Curve.{Curve}
 use Rattle.points.specs.declared.Heights.TheVariants.{Whole}
@@ -33,7 +34,7 @@ list_never c = refl also refl also refl also no_more
 colour_never : (c : Channel) → Refusals (Never 13) (channel_checks (curve_checks Whole) c)
 colour_never c = refusals_if c.present (λ t. list_never c.curve)
 
-set_never : (s : Curves) → Never 13 (set_answer Whole s)
+pub set_never : (s : Curves) → Never 13 (set_answer Whole s)
 unfolding set_answer
 set_never s =
     first_has refl
@@ -56,9 +57,3 @@ module _ (s : Curves) (buffer : List ℕ) (enough : longest ≤ length buffer) w
       let short = encode_length (view_of s) (legal_view Whole s passed) in
       rw (passed, le-ltb (length buffer) (length (encode (view_of s))) (omega arith)))
       (λ t. rw t)
-
-  -- and is never 13
-  pub never_thirteen : (write_record s buffer).answer ≡ OutputTooSmall → ⊥
-  never_thirteen e =
-      eqb-false (number_of (set_answer Whole s)) 13 (set_never s)
-      (ap number_of (sym longest_suffices ∙ e))

@@ -1,9 +1,8 @@
--- Reading what the writer wrote gives the same set back, for every set that the writer takes, and
--- so with whole heights, and every buffer with room.
-use Rattle.std.specs.Prelude.{ℕ, ◌+◌, ◌-◌, ◌*◌, ◌/◌, ◌%◌, ◌≤◌, ◌<◌, ◌≡◌, refl, List, [], ◌∷◌, ◌++◌, true, length, take, drop, ℤ, pos, negsuc, eqb}
+-- What the writer wrote for a list of whole heights, and for a kind, is read back. Of a whole set
+-- proofs/RoundTripLaws says so.
+use Rattle.std.specs.Prelude.{ℕ, ◌+◌, ◌-◌, ◌*◌, ◌/◌, ◌%◌, ◌≤◌, ◌<◌, ◌≡◌, refl, List, [], ◌∷◌, ◌++◌, true, length, ℤ, pos, negsuc, eqb}
 use Rattle.std.proofs.Common.{arith, sym, ap, ◌∙◌, append_assoc, length-append, drop_at, le-ltb, lt-ltb, eqb-true, eq-eqb}
 use Rattle.std.proofs.Math.Option.{Option, none, some}
-use Rattle.std.proofs.Math.Seq.{take-append_seam}
 use Rattle.std.specs.Int.Signed.{mag}
 use Rattle.lists.specs.Test.{by_test}
 use Rattle.points.specs.declared.Point.{Point}
@@ -21,15 +20,12 @@ use Rattle.tables.specs.Kinds.{
   carried_of,
 }
 use Rattle.tables.specs.KindLaws.{number_known, kind_with, carried_for, kind_carries}
-use Rattle.answers.specs.declared.Answer.TheVariants.{Done}
-use Rattle.sets.specs.declared.Curves.{Curves}
-use Rattle.sets.specs.Legal.{LegalList, LegalColour, Legal, legal_view}
-use Rattle.sets.specs.Sets.{View, view_of}
+use Rattle.sets.specs.Legal.{LegalList}
 use Rattle.points.specs.Points.{limit}
 use Rattle.records.specs.declared.point_lists.Edition.TheVariants.{One}
 use Rattle.records.specs.Parse.{good}
 use Rattle.records.specs.Map.{bit, carried_bits}
-use Rattle.records.specs.PointLists.{point_bytes, pairs, read_points, read_list, read_field}
+use Rattle.records.specs.PointLists.{point_bytes, pairs, read_points, read_list}
 use Rattle.records.specs.Kinds.{
   unnamed_kind,
   stored_slope,
@@ -40,22 +36,9 @@ use Rattle.records.specs.Kinds.{
   read_agreed,
   read_kind,
 }
-use Rattle.records.specs.Format.{colour_list, read_fields, read_record}
-use Rattle.writing.specs.Encode.{
-  pair_bytes,
-  field_bytes,
-  master_field,
-  names_kind,
-  kind_bytes,
-  unsigned16,
-  carried_bytes,
-  there,
-  encode,
-  write_record,
-}
-use Rattle.writing.specs.Cases.{write_done, done_case}
+use Rattle.records.specs.Format.{colour_list}
+use Rattle.writing.specs.Encode.{pair_bytes, names_kind, kind_bytes, unsigned16, carried_bytes, there}
 use Rattle.writing.specs.Lengths.{pairs_length}
-use Rattle.writing.specs.Map.{map_back}
 
 -- ---- a list
 -- of whole heights the level is stored, and a level is all that is read
@@ -67,7 +50,7 @@ pairs_back (p ∷ l) t h =
     let level : p.y / 256 * 256 ≡ p.y = omega (arith, h.0) in
     rw level (ap (λ (m : List Point). p ∷ m) (pairs_back l t h.1))
 
-list_back : (least : ℕ) (l : List Point) (t : List ℕ) → LegalList Whole l → least ≤ length l
+pub list_back : (least : ℕ) (l : List Point) (t : List ℕ) → LegalList Whole l → least ≤ length l
     → read_list least (length l ∷ (pair_bytes l ++ t)) ≡ good l t
 unfolding read_list read_points
 list_back least l t h enough =
@@ -84,23 +67,13 @@ list_back least l t h enough =
 
 -- ---- a field
 -- the list of a colour, empty where there is none
-abbrev list_or : Option (List Point) → List Point
+abbrev pub list_or : Option (List Point) → List Point
 list_or none = []
 list_or (some l) = l
 
-field_back : (o : Option (List Point)) (t : List ℕ) → LegalColour Whole o
-    → read_field (there o) 0 (field_bytes o ++ t) ≡ good (list_or o) t
-field_back none t h = refl
-field_back (some l) t h = list_back 0 l t h (omega arith)
-
-colour_back : (o : Option (List Point)) → colour_list (there o) (list_or o) ≡ o
+pub colour_back : (o : Option (List Point)) → colour_list (there o) (list_or o) ≡ o
 colour_back none = refl
 colour_back (some l) = refl
-
-master_back : (l : List Point) (t : List ℕ) → LegalList Whole l
-    → read_field (there (master_field l)) 1 (field_bytes (master_field l) ++ t) ≡ good l t
-master_back [] t h = refl
-master_back (p ∷ l) t h = list_back 1 (p ∷ l) t h (omega arith)
 
 -- ---- the kind
 sixteen : (n : ℕ) → n % 256 + n / 256 * 256 ≡ n
@@ -132,7 +105,7 @@ agreed_back : (k : CurveInterpolation) (m n : ℕ) → LegalKind k → n ≡ kin
 agreed_back k m n h e carried =
     rw (e, eq-eqb (carried_bits m) (kind_bits (kind_number k)) carried) (carried_back k h)
 
-kind_back : (k : CurveInterpolation) (m : ℕ) → LegalKind k → bit 16 m ≡ names_kind k
+pub kind_back : (k : CurveInterpolation) (m : ℕ) → LegalKind k → bit 16 m ≡ names_kind k
     → carried_bits m ≡ kind_bits (kind_number k)
     → read_kind (unnamed_kind true) m (kind_bytes k ++ carried_bytes k) ≡ good k []
 unfolding read_kind read_number
@@ -143,45 +116,5 @@ kind_back k m h named carried =
     (λ t. rw (named, t, le-ltb last_kind n (number_known k)) (agreed_back k m n h refl carried))
 
 -- ---- the record
-regroup : (a b c d e f : List ℕ) → a ++ b ++ c ++ d ++ e ++ f ≡ a ++ (b ++ (c ++ (d ++ (e ++ f))))
+pub regroup : (a b c d e f : List ℕ) → a ++ b ++ c ++ d ++ e ++ f ≡ a ++ (b ++ (c ++ (d ++ (e ++ f))))
 regroup a b c d e f = simp append_assoc
-
--- for every set whose lists, with whole heights, and kind are legal
-pub round_trip : (v : View) → Legal Whole v → LegalKind v.kind
-    → read_record (encode v) ≡ record { answer = Done; set = v }
-unfolding read_record encode read_fields
-round_trip v h legal =
-    let master = master_field v.master in
-    let red = field_bytes v.red in
-    let green = field_bytes v.green in
-    let blue = field_bytes v.blue in
-    let kind = kind_bytes v.kind in
-    let carried = carried_bytes v.kind in
-    let map = map_back master v.red v.green v.blue v.kind in
-    rw (
-      map.newer,
-      regroup (field_bytes master) red green blue kind carried,
-      map.master,
-      master_back v.master (red ++ (green ++ (blue ++ (kind ++ carried)))) h.master,
-      map.red,
-      field_back v.red (green ++ (blue ++ (kind ++ carried))) h.red,
-      map.green,
-      field_back v.green (blue ++ (kind ++ carried)) h.green,
-      map.blue,
-      field_back v.blue (kind ++ carried) h.blue,
-      kind_back v.kind _ legal map.kind map.carried,
-      colour_back v.red,
-      colour_back v.green,
-      colour_back v.blue,
-    )
-
--- what the writer leaves in the buffer, read up to the length written
-pub written_back : (s : Curves) (buffer : List ℕ) → LegalKind s.interpolation
-    → (write_record s buffer).answer ≡ Done
-    → read_record (take (write_record s buffer).length (write_record s buffer).buffer)
-    ≡ record { answer = Done; set = view_of s }
-written_back s buffer legal done =
-    let d = done_case s buffer done in
-    let e = encode (view_of s) in
-    rw (write_done s buffer d.0 d.1, take-append_seam e (drop (length e) buffer))
-    (round_trip (view_of s) (legal_view Whole s d.0) legal)

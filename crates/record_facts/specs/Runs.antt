@@ -1,29 +1,30 @@
--- What holds of any runs of the reader and the writer, from their contracts alone: the round trip,
--- the same bytes for the same set, room for every record, and which heights are read and written.
-use Rattle.std.specs.Prelude.{ℕ, ◌+◌, ◌≤◌, ◌≡◌, List, [], ◌∷◌, true, false, not, eqb, ltb, length, get_or, take, drop}
+-- What holds of any runs of the reader and the writer, from their contracts alone: the same bytes
+-- for the same set, room for a record that was read, and which heights are read and written. Others
+-- are in proofs/: the round trip in RoundTripLaws, room for every record in RoomLaws, and which
+-- come back byte for byte in WriterFormLaws.
+use Rattle.std.specs.Prelude.{ℕ, ◌+◌, ◌≤◌, ◌≡◌, List, [], ◌∷◌, true, false, not, eqb, ltb, length, get_or}
 use Rattle.std.proofs.Common.{arith, ap, ◌∙◌, le-ltb}
 use Rattle.std.proofs.Math.Path.{refl, sym}
-use Rattle.std.proofs.Math.Seq.{take-append_seam}
 use Rattle.lists.specs.Test.{by_test}
 use Rattle.answers.specs.declared.Answer.TheVariants.{Done, OutputTooSmall, HeightRange}
-use Rattle.answers.specs.Numbers.{number_of, is_done, done_is}
-use Rattle.answers.specs.Checks.{first_refusal, room_check, first_stops, first_goes_on}
+use Rattle.answers.specs.Numbers.{number_of, is_done}
+use Rattle.answers.proofs.NumberLaws.{done_is}
+use Rattle.answers.specs.Checks.{first_refusal, room_check}
+use Rattle.answers.proofs.CheckLaws.{first_stops, first_goes_on}
 use Rattle.points.specs.declared.Heights.TheVariants.{Fine, Whole}
 use Rattle.tables.specs.Kinds.{kind_number}
 use Rattle.sets.specs.declared.Curves.{Curves}
 use Rattle.sets.specs.Sets.{view_of, curve_checks, set_checks, set_answer}
 use Rattle.sets.specs.Legal.{fine_set}
 use Rattle.sets.specs.Same.{Same}
-use Rattle.sets.specs.SameLaws.{view_same}
 use Rattle.records.specs.declared.RecordRead.{RecordRead}
 use Rattle.records.specs.Map.{bit}
-use Rattle.records.specs.Format.{longest, read_record}
+use Rattle.records.specs.Format.{read_record}
 use Rattle.records.specs.Views.{ReadRecordCall}
 use Rattle.writing.specs.declared.Written.{Written}
 use Rattle.writing.specs.Encode.{one_if, Write, encode}
 use Rattle.writing.specs.Cases.{write_answer, write_done, done_case}
 use Rattle.writing.specs.Statements.{WriteRecordCall}
-use Rattle.record_facts.specs.Found.{AllBytes}
 use Rattle.record_facts.specs.Levels.{
   HoldsLevels,
   read_whole,
@@ -32,31 +33,7 @@ use Rattle.record_facts.specs.Levels.{
   whole_set_passes,
   refused_20,
 }
-use Rattle.record_facts.specs.Canonical.{
-  leaves_two_out,
-  has_writer_form,
-  same_written,
-  writer_sets,
-  accepted_is,
-}
-use Rattle.record_facts.specs.NotLonger.{not_longer}
-use Rattle.record_facts.specs.Room.{longest_suffices, never_thirteen}
-use Rattle.record_facts.specs.RoundTrip.{written_back}
-
-module _ {set : Curves} {before after : List ℕ} {w : Written} {r : RecordRead} where
-  -- "reading what the writer wrote gives the same set back": of a run that answers done, the bytes
-  -- up to its length are read as the same set
-  pub written_then_read : WriteRecordCall set before w after → w.answer ≡ Done
-      → ReadRecordCall (take w.length after) r
-      → (r.answer ≡ Done) × Same r.set set
-  written_then_read wrote done handed =
-      let written = sym wrote.answer ∙ done in
-      let back = written_back set before (wrote.held done).kind written in
-      let h = rw (wrote.length, wrote.buffer, back) at handed in (
-        h.answer,
-        view_same Whole r.set set h.full (wrote.held done).full h.legal
-            (done_case set before written).0 h.set,
-      )
+use Rattle.record_facts.specs.Canonical.{leaves_two_out, accepted_length, same_written, writer_sets}
 
 -- a set that passes the writer's check of its lists is refused for its room alone
 passed_not_refused : {set : Curves} {before after : List ℕ} {w : Written}
@@ -82,7 +59,7 @@ pub accepted_fits : (s : List ℕ) {before after : List ℕ} {r : RecordRead} {w
     → WriteRecordCall r.set before w after
     → length s + one_if (leaves_two_out s) ≤ length before → w.answer ≡ Done
 accepted_fits s {before} handed accepted wrote room =
-    let short = not_longer s (sym handed.answer ∙ accepted) in
+    let long = accepted_length s (sym handed.answer ∙ accepted) in
     accepted_not_refused s handed wrote
     ∙ rw (le-ltb (length before) (length (encode (read_record s).set)) (omega arith))
 
@@ -97,20 +74,8 @@ same_runs {a} {b} {before} same left right =
       left.buffer ∙ ap (λ (r : Write). r.buffer) e ∙ sym right.buffer,
     )
 
--- a record that was accepted and has the writer's form comes back byte for byte
-pub returned : (s : List ℕ) {before after : List ℕ} {r : RecordRead} {w : Written} → AllBytes s
-    → ReadRecordCall s r → r.answer ≡ Done
-    → has_writer_form s ≡ true → WriteRecordCall r.set before w after → w.answer ≡ Done
-    → (w.length ≡ length s) × (take w.length after ≡ s)
-returned s {before} {r = r} {w} bytes handed accepted form wrote done =
-    let d = done_case r.set before (sym wrote.answer ∙ done) in
-    let made : encode (view_of r.set) ≡ s =
-    rw handed.set (accepted_is s bytes (sym handed.answer ∙ accepted) form) in
-    let e = write_done r.set before d.0 d.1 in
-    let long : w.length ≡ length s = wrote.length ∙ rw (e, made) in
-    (long, rw (long, wrote.buffer, e, made) (take-append_seam s (drop (length s) before)))
-
--- the first byte of the buffer is then a map with bit 7, and with bit 4 unless the kind is 3
+-- of a run that answers done, the first byte of the buffer is a map with bit 7, and with bit 4
+-- unless the kind is 3
 pub written_map : {set : Curves} {before after : List ℕ} {w : Written}
     → WriteRecordCall set before w after → w.answer ≡ Done
     → (bit 128 (get_or after 0 0) ≡ true)
@@ -119,16 +84,6 @@ unfolding encode
 written_map {set} {before} wrote done =
     let d = done_case set before (sym wrote.answer ∙ done) in
     rw (wrote.buffer, write_done set before d.0 d.1) (writer_sets (view_of set))
-
--- into a buffer of 522 bytes or more every set is written that passes the writer's check of its
--- lists, and none is refused with 13
-pub always_fits : {set : Curves} {before after : List ℕ} {w : Written}
-    → WriteRecordCall set before w after
-    → longest ≤ length before
-    → (w.answer ≡ set_answer Whole set) × (w.answer ≡ OutputTooSmall → ⊥)
-always_fits {set} {before} wrote room =
-    let same = wrote.answer in
-    (same ∙ longest_suffices set before room, λ e. never_thirteen set before room (sym same ∙ e))
 
 -- ---- heights
 module _ (s : List ℕ) {r : RecordRead} (handed : ReadRecordCall s r) where

@@ -1,1 +1,2 @@
-// Theorems about records are in specs/: no code.
+// Theorems about records are in specs/ and proofs/: no code.
+#![tactic(auto)]

@@ -19,7 +19,8 @@ use Rattle.tables.specs.declared.CurveInterpolation.{CurveInterpolation}
 use Rattle.sets.specs.declared.Channel.{Channel}
 use Rattle.sets.specs.declared.Colour.{Colour}
 use Rattle.sets.specs.declared.Curves.{Curves}
-use Rattle.sets.specs.Legal.{set_answer_lem, Passed}
+use Rattle.sets.specs.Legal.{Passed}
+use Rattle.sets.proofs.AnswerLaws.{set_answer_lem}
 use Rattle.sets.specs.Sets.{View, view_of, channel_of, empty_view, with_master, with_colour, with_kind}
 use Rattle.sets.specs.Sets.{curve_answer, channel_answer, set_answer}
 use Rattle.records.specs.declared.point_lists.CurveRead.{CurveRead}

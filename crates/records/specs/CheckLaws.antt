@@ -1,15 +1,10 @@
--- The record reader answers the first refusal of the record's checks, and hands back the empty set
--- where one of them fails.
+-- What the record reader's steps answer beside the record's checks, and that it hands back the
+-- empty set where one of them fails. That it answers their first refusal is in proofs/AnswerLaws.
 use Rattle.std.specs.Prelude.{ℕ, ◌*◌, ◌≡◌, refl, Bool, true, false, cond, not, List, [], ◌∷◌, ◌++◌, ltb, length, get_or, drop}
 use Rattle.std.proofs.Common.{arith, sym, ap, true≢false, le-ltb}
 use Rattle.lists.specs.Test.{by_test}
 use Rattle.answers.specs.declared.Answer.{Answer}
-use Rattle.answers.specs.declared.Answer.TheVariants.{
-  Done,
-  RecordTruncated,
-  UnknownKind,
-  TrailingBytes,
-}
+use Rattle.answers.specs.declared.Answer.TheVariants.{Done, RecordTruncated, TrailingBytes}
 use Rattle.answers.specs.Numbers.{is_done}
 use Rattle.answers.specs.Checks.{
   Check,
@@ -18,14 +13,11 @@ use Rattle.answers.specs.Checks.{
   first_refusal,
   refusal,
   first_append,
-  first_stops,
   AllPassed,
   all_passed,
 }
-use Rattle.tables.specs.declared.CurveInterpolation.{CurveInterpolation}
-use Rattle.tables.specs.Kinds.{kind_number, last_kind, carries_tension, carries_slopes}
-use Rattle.tables.specs.KindLaws.{number_known}
-use Rattle.sets.specs.declared.Colour.TheVariants.{Red, Green, Blue}
+use Rattle.answers.proofs.CheckLaws.{first_stops}
+use Rattle.tables.specs.Kinds.{carries_tension, carries_slopes}
 use Rattle.sets.specs.Sets.{View, empty_view}
 use Rattle.records.specs.Parse.{Parse, good, refused, ◌▷◌, checked}
 use Rattle.records.specs.Map.{bit}
@@ -38,27 +30,14 @@ use Rattle.records.specs.Kinds.{
   read_slopes,
   read_carried,
   read_agreed,
-  read_number,
-  read_kind,
 }
-use Rattle.records.specs.Format.{
-  colour_step,
-  kind_step,
-  end_step,
-  read_result,
-  read_fields,
-  read_record,
-}
+use Rattle.records.specs.Format.{end_step, read_result, read_fields, read_record}
 use Rattle.records.specs.Checks.{
   is_empty,
   stored_list_checks,
   field_checks,
   after_field,
   carried_length,
-  kind_checks,
-  after_kind,
-  map_checks,
-  record_checks,
 }
 
 -- ---- what a reading behind checks finds: a refusal of theirs, or what it finds without them
@@ -101,15 +80,15 @@ GoesOn t (good v s) = s ≡ t
 GoesOn t (refused a) = is_done a ≡ false
 
 -- a reading answers the first refusal of the checks, and where it refuses nothing it goes on with t
-record Reads {A : Type 0} (cs : List Check) (t : List ℕ) (p : Parse A) : Type 0 where
-  answer : answer_of p ≡ first_refusal cs
-  goes_on : GoesOn t p
+pub record Reads {A : Type 0} (cs : List Check) (t : List ℕ) (p : Parse A) : Type 0 where
+  pub answer : answer_of p ≡ first_refusal cs
+  pub goes_on : GoesOn t p
 
 reads_on : {A : Type 0} (v : A) (s : List ℕ) → Reads [] s (good v s)
 reads_on v s = record { answer = refl; goes_on = refl }
 
 -- one reading after another
-reads_then :
+pub reads_then :
     {A B : Type 0} {cs ds : List Check} {t u : List ℕ} {p : Parse A} (next : A → List ℕ → Parse B)
     → Reads cs t p
     → ((v : A) → Reads ds u (next v t)) → Reads (cs ++ ds) u (p ▷ next)
@@ -128,7 +107,7 @@ behind : {A : Type 0} (c : Check) (t : Bool) → refuses c ≡ t
 behind c true e f = (refl, refusal c e)
 behind c false e f = (f.answer, f.goes_on)
 
-checked_read : {A : Type 0} (cs : List Check) {ds : List Check} {u : List ℕ} {p : Parse A}
+pub checked_read : {A : Type 0} (cs : List Check) {ds : List Check} {u : List ℕ} {p : Parse A}
     → Reads ds u p
     → Reads (cs ++ ds) u (checked cs p)
 checked_read [] f = f
@@ -146,13 +125,14 @@ list_read least (n ∷ s) =
     checked_read (stored_list_checks least (n ∷ s))
     (reads_on (pairs One n s) (drop (n * point_bytes One) s))
 
-field_read : (present : Bool) (least : ℕ) (s : List ℕ)
+pub field_read : (present : Bool) (least : ℕ) (s : List ℕ)
     → Reads (field_checks present least s) (after_field present s) (read_field present least s)
 field_read true least s = list_read least s
 field_read false least s = reads_on [] s
 
 -- a field read, and a member replaced by it
-step_read : {A B : Type 0} {cs : List Check} {t : List ℕ} {p : Parse A} (f : A → B) → Reads cs t p
+pub step_read : {A B : Type 0} {cs : List Check} {t : List ℕ} {p : Parse A} (f : A → B)
+    → Reads cs t p
     → Reads cs t (p ▷ λ v s. good (f v) s)
 step_read {p = good v s} f h = record { answer = h.answer; goes_on = h.goes_on }
 step_read {p = refused a} f h = record { answer = h.answer; goes_on = h.goes_on }
@@ -179,61 +159,20 @@ carried_read k s =
     (λ u. rw (t, u, le-ltb (length s) 0 (omega arith))
     (checked_read (RecordTruncated when false ∷ []) (reads_on _ s))))
 
-agreed_read : (m k : ℕ) (s : List ℕ)
+pub agreed_read : (m k : ℕ) (s : List ℕ)
     → Reads (bits_check m k ∷ RecordTruncated when ltb (length s) (carried_length k) ∷ [])
     (drop (carried_length k) s) (read_agreed m k s)
 agreed_read m k s = checked_read (bits_check m k ∷ []) (carried_read k s)
 
-kind_read_lem : (unnamed : CurveInterpolation) (present : Bool) (m : ℕ) (s : List ℕ)
-    → Reads (kind_checks unnamed present m s) (after_kind unnamed present s)
-    (read_number unnamed present s ▷ read_agreed m)
-unfolding read_number
-kind_read_lem unnamed false m s =
-    rw (le-ltb last_kind (kind_number unnamed) (number_known unnamed))
-    (checked_read (RecordTruncated when false ∷ UnknownKind when false ∷ [])
-    (agreed_read m (kind_number unnamed) s))
-kind_read_lem unnamed true m [] = record { answer = refl; goes_on = refl }
-kind_read_lem unnamed true m (k ∷ s) =
-    by_test (ltb last_kind k) (λ t. rw t (record { answer = refl; goes_on = refl }))
-    (λ t.
-    rw t (checked_read (RecordTruncated when false ∷ UnknownKind when false ∷ [])
-    (agreed_read m k s)))
-
-end_read : (v : View) (s : List ℕ)
+pub end_read : (v : View) (s : List ℕ)
     → Reads (TrailingBytes when not (is_empty s) ∷ []) [] (end_step v s)
 end_read v [] = checked_read (TrailingBytes when false ∷ []) (reads_on v [])
 end_read v (b ∷ s) = record { answer = refl; goes_on = refl }
 
--- the fields in their order
-fields_read : (m : ℕ) (s : List ℕ)
-    → Reads (map_checks m s) [] (read_fields (unnamed_kind (bit 128 m)) m s)
-unfolding read_fields read_kind
-fields_read m s =
-    let red = after_field (bit 1 m) s in
-    let green = after_field (bit 2 m) red in
-    let blue = after_field (bit 4 m) green in
-    let kind = after_field (bit 8 m) blue in
-    let unnamed = unnamed_kind (bit 128 m) in
-    reads_then end_step
-    (reads_then (kind_step unnamed m)
-    (reads_then (colour_step Blue m)
-    (reads_then (colour_step Green m)
-    (reads_then (colour_step Red m) (step_read _ (field_read (bit 1 m) 1 s))
-    (λ v. step_read _ (field_read (bit 2 m) 0 red)))
-    (λ v. step_read _ (field_read (bit 4 m) 0 green)))
-    (λ v. step_read _ (field_read (bit 8 m) 0 blue)))
-    (λ v. step_read _ (kind_read_lem unnamed (bit 16 m) m kind)))
-    (λ v. end_read v (after_kind unnamed (bit 16 m) kind))
-
-result_answer : {cs : List Check} {p : Parse View} → Reads cs [] p
+pub result_answer : {cs : List Check} {p : Parse View} → Reads cs [] p
     → (read_result p).answer ≡ first_refusal cs
 result_answer {p = good v s} f = f.answer
 result_answer {p = refused a} f = f.answer
-
-pub read_answer : (s : List ℕ) → (read_record s).answer ≡ first_refusal (record_checks s)
-unfolding read_record
-read_answer [] = refl
-read_answer (m ∷ s) = result_answer (fields_read m s)
 
 -- ---- a refused record holds nothing
 result_empty : (p : Parse View) → is_done (read_result p).answer ≡ false → (read_result p).set ≡ empty_view

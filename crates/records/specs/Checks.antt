@@ -1,7 +1,7 @@
 -- The checks of a stored record in document 01's order, "When a call says no", as a flat
 -- list: the places of the fields are reckoned from their counts, so that the order can be
 -- read without the parser of `Format`, whose answer is the first refusal of the list
--- (`CheckLaws`). Definitions only.
+-- (proofs/AnswerLaws). Definitions only.
 use Rattle.std.specs.Prelude.{ℕ, ◌*◌, Bool, true, false, cond, not, ◌&&◌, List, [], ◌∷◌, ◌++◌, ltb, length, get_or, drop}
 use Rattle.answers.specs.declared.Answer.TheVariants.{RecordTruncated, TrailingBytes}
 use Rattle.answers.specs.Checks.{Check, ◌when◌}

@@ -10,14 +10,14 @@ use answers::Answer;
 use tables::{CurveInterpolation, carries_slopes, carries_tension, kind_bits, kind_of};
 
 // The kind's number and the kind, as read, each with where the next field starts.
-#[derive(Drop)]
+#[derive(Clone, Copy)]
 struct NumberRead {
     answer: Answer,
     next: usize,
     number: u8,
 }
 
-#[derive(Drop)]
+#[derive(Clone, Copy)]
 pub struct KindRead {
     pub answer: Answer,
     pub next: usize,

@@ -2,13 +2,15 @@
 // a list, `kinds` the kind, and `map` has the bits of the first byte.
 // A field is read from a position on; past the end there is nothing, so no position is asked
 // to lie within the record.
+#![tactic(auto)]
+
 ghost use Rattle.std.specs.Prelude.{◌≡◌, not, [], ◌∷◌, drop};
 ghost use Rattle.answers.specs.declared.Answer.TheVariants.{TrailingBytes};
 ghost use Rattle.answers.specs.Numbers.{first_of};
 ghost use Rattle.answers.specs.Checks.{◌when◌, first_refusal};
 ghost use Rattle.records.specs.Parse.{refused};
 ghost use Rattle.records.specs.Map.{bit, colour_bit};
-ghost use Rattle.records.specs.Format.{read_fields, result};
+ghost use Rattle.records.specs.Format.{read_fields, read_result};
 ghost use Rattle.records.specs.Checks.{is_empty};
 ghost use Rattle.records.specs.Views.{ColourRead, HandedBack, ReadRecordCall};
 
@@ -24,7 +26,7 @@ mod map;
 pub mod point_lists;
 
 // A colour as read, and where the next field starts.
-#[derive(Drop)]
+#[derive(Clone, Copy)]
 struct ChannelRead {
     answer: Answer,
     next: usize,
@@ -32,7 +34,7 @@ struct ChannelRead {
 }
 
 // The set that a record holds, beside the answer.
-#[derive(Drop)]
+#[derive(Clone, Copy)]
 pub struct RecordRead {
     pub answer: Answer,
     pub set: Curves,
@@ -40,7 +42,7 @@ pub struct RecordRead {
 
 // A refused record: the empty set of the default kind, without colours.
 fn no_record(refusal: Answer) -> RecordRead
-    ensures* { λ r. ⌜ HandedBack (result (refused refusal)) r ⌝ }
+    ensures { HandedBack (read_result (refused refusal)) result }
 {
     RecordRead {
         answer: refusal,
@@ -50,7 +52,7 @@ fn no_record(refusal: Answer) -> RecordRead
 
 // A colour behind an earlier answer: a refusal stays, and the list is then empty.
 fn colour_after(before: Answer, s: &[u8], at: usize, map: u8, colour: Colour) -> ChannelRead
-    ensures* { λ r. ⌜ ColourRead s.now (bit (colour_bit colour) map) before at r ⌝ }
+    ensures { ColourRead s.now (bit (colour_bit colour) map) before at result }
 {
     let present = has_bit(map, colour_bit(colour));
     let read = field_after(before, s, at, present, 0);
@@ -65,9 +67,8 @@ fn colour_after(before: Answer, s: &[u8], at: usize, map: u8, colour: Colour) ->
 
 // 7: bytes follow the last field. An earlier refusal stays.
 fn check_end(before: Answer, s: &[u8], at: usize) -> Answer
-    ensures* { λ r. ⌜
-        r ≡ first_of before
-        (first_refusal (TrailingBytes when not (is_empty (drop at s.now)) ∷ [])) ⌝ }
+    ensures { result
+        ≡ first_of before (first_refusal (TrailingBytes when not (is_empty (drop at s.now)) ∷ [])) }
 {
     if !before.is_done() {
         return before;
@@ -82,7 +83,7 @@ fn check_end(before: Answer, s: &[u8], at: usize) -> Answer
 // The fields from a position on, from bit 0 of the map, and then the end; unnamed is the kind of
 // a record that names none. The set is put together once, after the end.
 fn read_fields(s: &[u8], at: usize, map: u8, unnamed: CurveInterpolation) -> RecordRead
-    ensures* { λ r. ⌜ HandedBack (result (read_fields unnamed map (drop at s.now))) r ⌝ }
+    ensures { HandedBack (read_result (read_fields unnamed map (drop at s.now))) result }
 {
     let master = read_field(s, at, has_bit(map, 1), 1);
     let answer = master.answer;
@@ -117,7 +118,7 @@ fn read_fields(s: &[u8], at: usize, map: u8, unnamed: CurveInterpolation) -> Rec
 
 // Reads a stored record.
 pub fn read_record(s: &[u8]) -> RecordRead
-    ensures* { λ r. ⌜ ReadRecordCall s.now r ⌝ }
+    ensures { ReadRecordCall s.now result }
 {
     if s.len() == 0 {
         return no_record(Answer::RecordTruncated);

@@ -14,14 +14,14 @@ use points::{Curve, Point, check_count};
 
 // How a point is stored: its x, then its height, as a level in one byte, or in 256ths, low byte
 // first.
-#[derive(Drop)]
+#[derive(Clone, Copy)]
 pub enum Edition {
     One,
     Two,
 }
 
 // A list as read, and where the next field starts.
-#[derive(Drop)]
+#[derive(Clone, Copy)]
 pub struct CurveRead {
     pub answer: Answer,
     pub next: usize,

@@ -45,4 +45,5 @@ decides_off b = record { sound = not-true b; complete = λ e. rw e }
 -- signed numbers are compared by their bits
 pub decides_signed : (w : Width) (x y : ℤ) → SFits w x → SFits w y → Decides (x ≡ y) (eqb (of_z w x) (of_z w y))
 decides_signed w x y f g =
-    decides_as (λ e. sym (to_z-of_z f) ∙ ap (to_z w) e ∙ to_z-of_z g) (ap (of_z w)) (decides_equal (of_z w x) (of_z w y))
+    decides_as (λ e. sym (to_z-of_z f) ∙ ap (to_z w) e ∙ to_z-of_z g) (ap (of_z w))
+    (decides_equal (of_z w x) (of_z w y))

@@ -1,5 +1,7 @@
 // Whether two sets of curves are the same. `same` answers for any two sets,
 // whatever their lists claim.
+#![tactic(auto)]
+
 ghost use Rattle.std.specs.Prelude.{◌≡◌, ◌≤◌, take};
 ghost use Rattle.points.specs.Points.{places_of};
 ghost use Rattle.sets.specs.Same.{Same, SameCurve, SameChannel};

@@ -7,8 +7,9 @@ use borrow.Author.Tests.{ltb-false, le-ltb, not-false}
 use Rattle.lists.specs.Test.{by_test}
 use Rattle.answers.specs.declared.Answer.{Answer}
 use Rattle.answers.specs.declared.Answer.TheVariants.{Done}
-use Rattle.answers.specs.Numbers.{first_of, both_done}
+use Rattle.answers.specs.Numbers.{first_of}
 use Rattle.answers.specs.Checks.{Check, first_refusal, first_append, all_passed}
+use Rattle.answers.proofs.CheckLaws.{done_append, first_goes_on}
 use Rattle.points.specs.declared.Point.{Point}
 use Rattle.points.specs.declared.Curve.{Curve}
 use Rattle.points.specs.declared.Heights.{Heights}
@@ -48,6 +49,24 @@ pub record LegalSet (heights : Heights) (v : View) : Type 0 where
   pub kind : LegalKind v.kind
 
 -- ---- from the check
+-- two lists of checks pass behind one another where each does
+append_done : (cs ds : List Check) → first_refusal cs ≡ Done → first_refusal ds ≡ Done
+    → first_refusal (cs ++ ds) ≡ Done
+append_done cs ds p q = sym (first_goes_on cs ds p (sym q))
+
+-- a list of checks that passes where the whole does
+record Within (whole part : List Check) : Type 0 where
+  passes : first_refusal whole ≡ Done → first_refusal part ≡ Done
+
+within_self : (cs : List Check) → Within cs cs
+within_self cs = record { passes = λ e. e }
+
+within_left : (cs ds part : List Check) → Within cs part → Within (cs ++ ds) part
+within_left cs ds part w = record { passes = λ e. w.passes (done_append cs ds e).0 }
+
+within_right : (cs ds part : List Check) → Within ds part → Within (cs ++ ds) part
+within_right cs ds part w = record { passes = λ e. w.passes (done_append cs ds e).1 }
+
 -- the answer of a set by those of its lists, whatever is checked of a list
 module _ (checks : Curve → List Check) (s : Curves) where
   abbrev of_master : Answer
@@ -68,15 +87,24 @@ module _ (checks : Curve → List Check) (s : Curves) where
       (first_append (master ++ red) green
       ∙ ap (λ a. first_of a (of_colour s.green)) (first_append master red))
 
-module _ (heights : Heights) where
-  pub set_answer_lem : (s : Curves)
-      → set_answer heights s
-      ≡ first_of
-      (first_of (first_of (curve_answer heights s.master) (channel_answer heights s.red))
-      (channel_answer heights s.green))
-      (channel_answer heights s.blue)
-  unfolding set_answer curve_answer channel_answer
-  set_answer_lem s = lists_answer (curve_checks heights) s
+  -- a set passes where each of its lists does, in whatever order they go
+  part_done : (part : List Check) → Within (set_checks checks s) part
+      → first_refusal (set_checks checks s) ≡ Done → first_refusal part ≡ Done
+  part_done part w = w.passes
+
+  every_done : first_refusal (set_checks checks s) ≡ Done
+      → (of_master ≡ Done) × (of_colour s.red ≡ Done) × (of_colour s.green ≡ Done)
+      × (of_colour s.blue ≡ Done)
+  every_done e = (
+    part_done (checks s.master) (search (within_self, within_left, within_right)) e,
+    part_done (channel_checks checks s.red) (search (within_self, within_left, within_right)) e,
+    part_done (channel_checks checks s.green) (search (within_self, within_left, within_right)) e,
+    part_done (channel_checks checks s.blue) (search (within_self, within_left, within_right)) e,
+  )
+
+  done_of_every : of_master ≡ Done → of_colour s.red ≡ Done → of_colour s.green ≡ Done
+      → of_colour s.blue ≡ Done → first_refusal (set_checks checks s) ≡ Done
+  done_of_every master red green blue = search append_done
 
 module _ (heights : Heights) where
   -- a set passes where each of its lists does
@@ -87,12 +115,16 @@ module _ (heights : Heights) where
     pub blue : channel_answer heights s.blue ≡ Done
 
   pub passed_set : (s : Curves) → set_answer heights s ≡ Done → Passed s
+  unfolding set_answer channel_answer curve_answer
   passed_set s e =
-      let b = both_done _ (channel_answer heights s.blue) (sym (set_answer_lem heights s) ∙ e) in
-      let g = both_done _ (channel_answer heights s.green) b.0 in
-      let r = both_done (curve_answer heights s.master) (channel_answer heights s.red) g.0 in
-      record { master = r.0; red = r.1; green = g.1; blue = b.1 }
+      let p = every_done (curve_checks heights) s e in
+      record { master = p.0; red = p.1; green = p.2; blue = p.3 }
 
+  passing_set : (s : Curves) → Passed s → set_answer heights s ≡ Done
+  unfolding set_answer channel_answer curve_answer
+  passing_set s p = done_of_every (curve_checks heights) s p.master p.red p.green p.blue
+
+module _ (heights : Heights) where
   -- a list that passes claims no more points than it may have, rises, and has such heights
   pub record PassedList (c : Curve) : Type 0 where
     pub few : c.count ≤ 64
@@ -105,8 +137,8 @@ module _ (heights : Heights) where
       let p = all_passed (curve_checks heights c) e in
       record {
         few = ltb-false 64 c.count p.0;
-        rising = not-false _ p.1.0;
-        high = not-false _ p.1.1.0;
+        rising = not-false (rises (list_of c)) search;
+        high = not-false (all_allowed heights (list_of c)) search;
       }
 
   pub passed_count : (c : Curve) → curve_answer heights c ≡ Done → c.count ≤ 64
@@ -125,14 +157,13 @@ module _ (heights : Heights) where
 
   pub fine_set : (s : Curves) → set_answer heights s ≡ Done → set_answer Fine s ≡ Done
   fine_set s e =
-      let p = passed_set s e in
-      set_answer_lem Fine s
-      ∙ rw (
-        fine_list s.master p.master,
-        fine_colour_lem s.red p.red,
-        fine_colour_lem s.green p.green,
-      )
-      (fine_colour_lem s.blue p.blue)
+      let p = passed_set heights s e in
+      passing_set Fine s (record {
+        master = fine_list s.master p.master;
+        red = fine_colour_lem s.red p.red;
+        green = fine_colour_lem s.green p.green;
+        blue = fine_colour_lem s.blue p.blue;
+      })
 
   legal_list : (c : Curve) → curve_answer heights c ≡ Done → LegalList heights (list_of c)
   legal_list c e =
@@ -150,7 +181,7 @@ module _ (heights : Heights) where
 
   pub legal_view : (s : Curves) → set_answer heights s ≡ Done → Legal heights (view_of s)
   legal_view s e =
-      let p = passed_set s e in
+      let p = passed_set heights s e in
       record {
         master = legal_list s.master p.master;
         red = legal_colour s.red p.red;

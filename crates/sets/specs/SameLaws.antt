@@ -1,12 +1,13 @@
 -- A set is the same as itself; same sets hold the same and are checked alike; and sets that pass
 -- the check and hold the same are the same.
-use Rattle.std.specs.Prelude.{ℕ, refl, length}
+use Rattle.std.specs.Prelude.{ℕ, refl, List, length}
 use Rattle.std.proofs.Common.{arith, ap, ◌∙◌}
 use Rattle.std.proofs.Math.Path.{◌≡◌, sym}
 use Rattle.std.proofs.lemmas.Bool.{false≢true}
 use Rattle.std.proofs.Math.Option.{some}
 use Rattle.lists.specs.Test.{by_test}
 use Rattle.answers.specs.declared.Answer.TheVariants.{Done}
+use Rattle.answers.specs.Checks.{Check, first_refusal}
 use Rattle.points.specs.declared.Curve.{Curve}
 use Rattle.points.specs.declared.Heights.{Heights}
 use Rattle.points.specs.Points.{list_of}
@@ -14,9 +15,19 @@ use Rattle.points.specs.Joined.{FullRows, places_long}
 use Rattle.points.specs.Owned.{list_length}
 use Rattle.sets.specs.declared.Channel.{Channel}
 use Rattle.sets.specs.declared.Curves.{Curves}
-use Rattle.sets.specs.Sets.{View, view_of, channel_of, curve_answer, channel_answer, set_answer}
+use Rattle.sets.specs.Sets.{
+  View,
+  view_of,
+  channel_of,
+  curve_checks,
+  channel_checks,
+  set_checks,
+  curve_answer,
+  channel_answer,
+  set_answer,
+}
 use Rattle.sets.specs.Same.{SameCurve, SameChannel, Same}
-use Rattle.sets.specs.Legal.{set_answer_lem, passed_count, passed_set}
+use Rattle.sets.specs.Legal.{passed_count, passed_set}
 
 -- ---- a set is the same as itself
 same_curve_refl : (c : Curve) → SameCurve c c
@@ -51,37 +62,37 @@ same_view a b e =
     )
 
 -- ---- and are checked alike
+same_checks : (checks : Curve → List Check) (a b : Curves) → checks a.master ≡ checks b.master
+    → channel_checks checks a.red ≡ channel_checks checks b.red
+    → channel_checks checks a.green ≡ channel_checks checks b.green
+    → channel_checks checks a.blue ≡ channel_checks checks b.blue
+    → set_checks checks a ≡ set_checks checks b
+same_checks checks a b master red green blue = rw (master, red, green, blue)
+
 module _ (heights : Heights) where
-  checked_curve : (a b : Curve) → SameCurve a b → curve_answer heights a ≡ curve_answer heights b
-  unfolding curve_answer
+  checked_curve : (a b : Curve) → SameCurve a b → curve_checks heights a ≡ curve_checks heights b
   checked_curve a b e = rw (e.points, e.count)
 
   checked_channel : (a b : Channel) → SameChannel a b
-      → channel_answer heights a ≡ channel_answer heights b
-  unfolding channel_answer curve_answer
+      → channel_checks (curve_checks heights) a ≡ channel_checks (curve_checks heights) b
   checked_channel a b e =
       by_test a.present
       (λ t. rw (← e.present, t) (checked_curve a.curve b.curve (e.curve t)))
       (λ t. rw (← e.present, t))
 
   pub checked_same : (a b : Curves) → Same a b → set_answer heights a ≡ set_answer heights b
+  unfolding set_answer
   checked_same a b e =
-      rw (
-        set_answer_lem heights a,
-        set_answer_lem heights b,
-        checked_curve a.master b.master e.master,
-        checked_channel a.red b.red e.red,
-        checked_channel a.green b.green e.green,
-        checked_channel a.blue b.blue e.blue,
-      )
+      ap first_refusal
+      (same_checks (curve_checks heights) a b
+      (checked_curve a.master b.master e.master)
+      (checked_channel a.red b.red e.red)
+      (checked_channel a.green b.green e.green)
+      (checked_channel a.blue b.blue e.blue))
 
 -- ---- sets that pass the check and hold the same are the same
 -- each list is stored in 64 places: so it is of every set that code holds.
--- A function's need c tells it of a parameter `set`, with `own = c.good.0.1.1`:
--- record {
---   master = search (own.0, length-unmapped);
---   red = search (own.1.0, length-unmapped); ..
--- }
+-- At a goal of a function that is given or handed such a set `search rules` finds each.
 pub record Full (s : Curves) : Type 0 where
   pub master : FullRows s.master
   pub red : FullRows s.red.curve

@@ -1,6 +1,8 @@
 // A set of curves: a master, three optional colours and a kind. Its members replaced, its lists
 // checked, and the table of a channel.
 // Every open function answers for any set, whatever its lists claim.
+#![tactic(auto)]
+
 ghost use Rattle.std.specs.Prelude.{◌≡◌, false};
 ghost use Rattle.std.proofs.Math.Option.{none};
 ghost use Rattle.sets.specs.declared.Colour.TheVariants.{Red, Green, Blue};
@@ -24,20 +26,20 @@ use points::{Curve, Heights, check_count};
 use tables::CurveInterpolation;
 
 // A colour's list, where it is present.
-#[derive(Drop)]
+#[derive(Clone, Copy)]
 pub struct Channel {
     pub present: bool,
     pub curve: Curve,
 }
 
-#[derive(Drop)]
+#[derive(Clone, Copy)]
 pub enum Colour {
     Red,
     Green,
     Blue,
 }
 
-#[derive(Drop)]
+#[derive(Clone, Copy)]
 pub struct Curves {
     pub master: Curve,
     pub red: Channel,

@@ -1,7 +1,25 @@
 -- What the program `tonetable` prints, as document 01's section "Stored record" has it: "16 lines
 -- of 16 two-digit upper-case hexadecimal entries, one space between, from entry 0; or one line,
 -- `refused ` and the number". Definitions only.
-use Rattle.std.specs.Prelude.{ℕ, zero, suc, ◌+◌, ◌/◌, ◌%◌, ◌≤◌, ◌≡◌, cond, List, [], ◌∷◌, ◌++◌, ltb, eqb, take, get_or}
+use Rattle.std.specs.Prelude.{
+  ℕ,
+  zero,
+  suc,
+  ◌+◌,
+  ◌/◌,
+  ◌%◌,
+  ◌≤◌,
+  ◌≡◌,
+  cond,
+  List,
+  [],
+  ◌∷◌,
+  ◌++◌,
+  ltb,
+  eqb,
+  take,
+  get_or,
+}
 use Rattle.std.proofs.Math.ListN as ListN
 use Rattle.lists.specs.Tabulate.{tabulate}
 use Rattle.answers.specs.Numbers.{number_of, is_done}

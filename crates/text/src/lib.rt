@@ -1,4 +1,6 @@
 // What the program `tonetable` prints for the bytes of a record.
+#![tactic(auto)]
+
 ghost use Rattle.std.specs.Prelude.{◌≡◌, ◌<◌, ◌≤◌, ◌/◌, ◌%◌};
 ghost use Rattle.text.specs.Text.{hexadecimal, behind, table_text, refusal_text, printed};
 ghost use Rattle.text.specs.Text.{text_of, InputText};
@@ -10,7 +12,7 @@ use tables::entries_of;
 pub const INPUT: usize = 523;
 
 // A text: the first length bytes.
-#[derive(Drop)]
+#[derive(Clone, Copy)]
 pub struct Text {
     pub bytes: [u8; 768],
     pub length: usize,

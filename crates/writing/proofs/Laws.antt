@@ -14,7 +14,8 @@ use borrow.Author.Tests.{ne_eqb}
 use Rattle.answers.specs.declared.Answer.{Answer}
 use Rattle.answers.specs.declared.Answer.TheVariants.{Done}
 use Rattle.answers.specs.Numbers.{is_done}
-use Rattle.answers.specs.Checks.{Check, first_refusal, room_check, first_stops, first_goes_on}
+use Rattle.answers.specs.Checks.{Check, first_refusal, room_check}
+use Rattle.answers.proofs.CheckLaws.{first_stops, first_goes_on}
 use Rattle.lists.specs.Tabulate.{tabulate, is_tabulate}
 use Rattle.lists.specs.Test.{by_test}
 use Rattle.points.specs.declared.Point.{Point}

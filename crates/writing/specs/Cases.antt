@@ -7,15 +7,10 @@ use Rattle.std.proofs.Math.ListN as ListN
 use Rattle.lists.specs.Test.{by_test}
 use Rattle.answers.specs.declared.Answer.{Answer}
 use Rattle.answers.specs.declared.Answer.TheVariants.{Done}
-use Rattle.answers.specs.Numbers.{is_done, done_is}
-use Rattle.answers.specs.Checks.{
-  Check,
-  first_refusal,
-  room_check,
-  first_goes_on,
-  done_append,
-  has_room,
-}
+use Rattle.answers.specs.Numbers.{is_done}
+use Rattle.answers.proofs.NumberLaws.{done_is}
+use Rattle.answers.specs.Checks.{Check, first_refusal, room_check}
+use Rattle.answers.proofs.CheckLaws.{first_goes_on, done_append, has_room}
 use Rattle.points.specs.declared.Heights.TheVariants.{Whole}
 use Rattle.sets.specs.declared.Curves.{Curves}
 use Rattle.sets.specs.Sets.{view_of, curve_checks, set_checks, set_answer}
@@ -45,7 +40,10 @@ module _ (s : Curves) (buffer : List ℕ) where
           length = ListN.length (encode (view_of s));
           buffer = encode (view_of s) ++ drop (ListN.length (encode (view_of s))) buffer;
         }
-    write_done enough = write_passed ∙ rw (le-ltb _ _ enough)
+    unfolding set_answer
+    write_done enough =
+        written (first_goes_on (set_checks (curve_checks Whole) s) room passed refl)
+        ∙ rw (le-ltb _ _ enough)
 
   -- the answer is the first refusal of the checks
   outcome_answer : (a : Answer) (bytes : List ℕ) → (outcome a bytes buffer).answer ≡ a
@@ -66,7 +64,8 @@ module _ (s : Curves) (buffer : List ℕ) where
       → (write_record s buffer).buffer ≡ buffer
   unfolding write_record
   write_unchanged e =
-      outcome_unchanged (first_refusal (write_checks s (ListN.length buffer))) (encode (view_of s)) e
+      outcome_unchanged (first_refusal (write_checks s (ListN.length buffer)))
+      (encode (view_of s)) e
 
   pub done_case : (write_record s buffer).answer ≡ Done
       → (set_answer Whole s ≡ Done) × (ListN.length (encode (view_of s)) ≤ ListN.length buffer)

@@ -2,7 +2,29 @@
 -- document 01's sections "Stored record" and "When a call says no" and document 02's U1 and U9 have
 -- them.
 -- Definitions only.
-use Rattle.std.specs.Prelude.{ℕ, ◌+◌, ◌-◌, ◌*◌, ◌/◌, ◌%◌, List, [], ◌∷◌, ◌++◌, Bool, true, false, cond, not, length, drop, eqb, ℤ, pos, negsuc}
+use Rattle.std.specs.Prelude.{
+  ℕ,
+  ◌+◌,
+  ◌-◌,
+  ◌*◌,
+  ◌/◌,
+  ◌%◌,
+  List,
+  [],
+  ◌∷◌,
+  ◌++◌,
+  Bool,
+  true,
+  false,
+  cond,
+  not,
+  length,
+  drop,
+  eqb,
+  ℤ,
+  pos,
+  negsuc,
+}
 use Rattle.std.proofs.Math.Option.{Option, none, some}
 use Rattle.std.proofs.Math.ListN as ListN
 use Rattle.answers.specs.declared.Answer.{Answer}

@@ -1,6 +1,8 @@
 // Writes the record of a set, edition 1, into a lent buffer.
 // The record is made by value, so that its length is known before the first
 // byte of the buffer changes.
+#![tactic(auto)]
+
 ghost use Rattle.std.specs.Prelude.{◌≡◌, [], ◌∷◌, ◌++◌, cond, ◌≤◌, length, drop};
 ghost use Rattle.answers.specs.declared.Answer.TheVariants.{Done};
 ghost use Rattle.points.specs.declared.Heights.TheVariants.{Whole};
@@ -34,14 +36,14 @@ use tables::{CurveInterpolation, carried_by, carries_slopes, carries_tension, ki
 pub const LONGEST_RECORD: usize = 1 + 4 * (1 + 2 * Curve::LIMIT) + 1 + 4;
 
 // A record in the making: the first length bytes.
-#[derive(Drop)]
+#[derive(Clone, Copy)]
 struct Draft {
     bytes: [u8; LONGEST_RECORD],
     length: usize,
 }
 
 // The length of the record written, beside the answer.
-#[derive(Drop)]
+#[derive(Clone, Copy)]
 pub struct Written {
     pub answer: Answer,
     pub length: usize,
@@ -87,7 +89,8 @@ impl Draft {
 
     // A list, where it is present: its count, then its points.
     fn field(self, channel: Channel) -> Draft
-        requires { (channel_answer Whole channel ≡ Done) × Room (field_bytes (channel_of channel)) self }
+        requires { (channel_answer Whole channel ≡ Done)
+            × Room (field_bytes (channel_of channel)) self }
         ensures { Appended (field_bytes (channel_of channel)) self result }
     {
         if channel.present {
@@ -165,7 +168,8 @@ fn mark(present: bool, weight: u8) -> u8
 // The master as a field: an empty one is left out.
 fn master_field(curve: Curve) -> Channel
     requires { curve_answer Whole curve ≡ Done }
-    ensures { (channel_of result ≡ master_field (list_of curve)) × (channel_answer Whole result ≡ Done) }
+    ensures { (channel_of result ≡ master_field (list_of curve))
+        × (channel_answer Whole result ≡ Done) }
 {
     Channel {
         present: curve.count != 0,
