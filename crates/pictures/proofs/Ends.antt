@@ -40,7 +40,8 @@ module _ (r : Run) (in_types : InTypes r) {a : Answer} (is : a ≡ answer r) whe
         in_types = in_types;
       }
 
-  module _ (e : is_done a ≡ true) {row : ℕ} (row_is : row ≡ row_bytes r) {out : List ℕ} (out_is : out ≡ toned_rows r) where
+  module _ (e : is_done a ≡ true) {row : ℕ} (row_is : row ≡ row_bytes r)
+      {out : List ℕ} (out_is : out ≡ toned_rows r) where
     -- with chroma and without
     pub done : (some : Bool) → has_chroma r ≡ some → {cb cr : List ℕ}
         → cb ≡ cond some (copied r.lent.cb r.lent.outputs.cb) r.lent.outputs.cb

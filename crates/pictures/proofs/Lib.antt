@@ -1,3 +1,5 @@
 pub mod Kernels
 pub mod Owned
 pub mod Ends
+-- what a call of specs/Examples leaves
+pub mod ExampleLaws

@@ -1,16 +1,18 @@
 -- What a job that a function is given tells because it is owned: of its set, the points are of a
 -- byte and a 16-bit number, and the tension is a byte.
--- A need c of a function of which the job is the first parameter has `own = c.good.0`.
+-- A goal c of a function of which the job is the first parameter has `own = c.well_formed.0`.
 use mathlib.Core.List.{List}
 use Prim.Native.Nat.{◌<◌}
+use borrow.Author.Rules.{elem_Fits}
+use mir.Syntax.{w8, w16}
 use mir.Val.{Val}
 use denote.Shadow.{shadow}
 use denote.Struct.Field.{Field}
 use Rattle.lists.specs.Test.{by_test}
 use Rattle.points.specs.declared.Curve.{Curve}
-use Rattle.points.specs.Points.{list_of}
+use Rattle.points.specs.Points.{list_of, joined}
 use Rattle.points.specs.Order.{All, Typed, all_take}
-use Rattle.points.specs.Owned.{owned_typed}
+use Rattle.points.specs.Joined.{rows_typed}
 use Rattle.points.specs.contracts.Curve as CurveType
 use Rattle.tables.specs.Kinds.{carried_of}
 use Rattle.tables.proofs.Owned.{tension_owned}
@@ -26,7 +28,10 @@ abbrev IsOwned : (F : Field) → F.Value → List Val → Type 0
 IsOwned F x vs = shadow (F.row.own_val (F.into x) vs)
 
 owned_list : (c : Curve) (vs : List Val) → IsOwned CurveType.the_field c vs → All Typed (list_of c)
-owned_list c vs own = search (own, all_take, owned_typed)
+owned_list c vs own =
+    all_take Typed c.count (joined c.xs c.ys)
+    (rows_typed c.xs c.ys (λ i. elem_Fits w8 w8 c.xs _ i own.1.1.0.1.1 tt)
+    (λ i. elem_Fits w16 w16 c.ys _ i own.1.1.1.0.1.1 tt))
 
 owned_colour : (c : Channel) (vs : List Val) → IsOwned ChannelType.the_field c vs → OfColour (All Typed) (channel_of c)
 owned_colour c vs own = by_test c.present (λ t. rw t (owned_list c.curve _ own.1.1.1.0)) (λ t. rw t tt)

@@ -2,7 +2,7 @@
 -- each of the twelve formats, and the order of the refusals. Each value is document 01's: the
 -- sentence is quoted above it.
 use Rattle.std.specs.Prelude.{◌≡◌, refl, false, cond, List, [], ◌∷◌, ℕ, ◌+◌, length, get_or, replicate}
-use Rattle.std.proofs.Common.{◌∙◌, ap, arith}
+use Rattle.std.proofs.Common.{ap, arith}
 use Rattle.std.specs.Float.Ieee.{add, sub, neg, mul, div, lt, of_int, of_bits}
 use Rattle.answers.specs.declared.Answer.{Answer}
 use Rattle.answers.specs.declared.Answer.TheVariants.{
@@ -95,7 +95,7 @@ no_columns_lem = refl
 
 -- ---- the one-table call on each format, with a table that adds 10: 2 columns and 2 rows, each
 -- with its padding; and 3 columns and 1 row, so that width and height are told apart
-abbrev more : List ℕ
+abbrev pub more : List ℕ
 more = tabulate 256 (λ x. x + 10)
 
 -- the bytes from 1 to 18, but for the first two
@@ -103,18 +103,14 @@ abbrev first_row : ℕ → ℕ → List ℕ
 first_row a b =
     a ∷ b ∷ 3 ∷ 4 ∷ 5 ∷ 6 ∷ 7 ∷ 8 ∷ 9 ∷ 10 ∷ 11 ∷ 12 ∷ 13 ∷ 14 ∷ 15 ∷ 16 ∷ 17 ∷ 18 ∷ []
 
-abbrev plane : List ℕ
+abbrev pub plane : List ℕ
 plane = first_row 1 2
 
--- what the contract of the call says of it afterwards, by width, height and row step
-abbrev left : ℕ → ℕ → ℕ → PixelFormat → List ℕ
+-- what the contract of the call says of it afterwards, by width, height and row step: it does in
+-- proofs/ExampleLaws
+abbrev pub left : ℕ → ℕ → ℕ → PixelFormat → List ℕ
 left w h step f =
     cond (is_done (lut_answer f w h step (length plane))) (toned_within f w h step more plane) plane
-
-pub left_is : (w h step : ℕ) (f : PixelFormat) (a : Answer) (after : List ℕ)
-    → OneTableCall f w h step more plane a after → after ≡ left w h step f
-left_is w h step f a after c =
-    c.plane ∙ ap (λ b. cond (is_done b) (toned_within f w h step more plane) plane) c.answer
 
 -- "The one-table call tones all 12 formats within the plane: alpha of Ya8 and Rgba, chroma and
 -- padding unchanged; Cmyk tones all four inks"
@@ -297,8 +293,7 @@ refused_by_set = (refl, refl)
 pub first_row_within : (a : Answer) → OneTableCall Gray8 2 2 9 more plane a (first_row 11 12) → ⊥
 unfolding lut_answered each tabulate plane_byte in_row row_byte toned
 first_row_within a c =
-    let left = left_is 2 2 9 Gray8 a (first_row 11 12) c in
-    let copied : ◌≡◌ {A = ℕ} 10 20 = ap (λ (l : List ℕ). get_or l 9 0) left in
+    let copied : ◌≡◌ {A = ℕ} 10 20 = ap (λ (l : List ℕ). get_or l 9 0) (rw c.answer at c.plane) in
     omega (arith, copied)
 
 pub first_row_by_set : (t : Toned) (cb cr : List ℕ)
@@ -314,8 +309,7 @@ first_row_by_set t cb cr c =
 pub copied_within : (a : Answer) → OneTableCall Gray8 2 2 9 more plane a plane → ⊥
 unfolding lut_answered each tabulate plane_byte in_row row_byte toned
 copied_within a c =
-    let copied : ◌≡◌ {A = ℕ} 1 11 =
-    ap (λ (l : List ℕ). get_or l 0 0) (left_is 2 2 9 Gray8 a plane c) in
+    let copied : ◌≡◌ {A = ℕ} 1 11 = ap (λ (l : List ℕ). get_or l 0 0) (rw c.answer at c.plane) in
     omega (arith, copied)
 
 pub copied_by_set : (t : Toned) (cb cr : List ℕ)

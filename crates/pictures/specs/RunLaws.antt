@@ -5,7 +5,8 @@ use Rattle.std.proofs.Common.{ltb-false}
 use Rattle.std.proofs.lemmas.Bool.{eqb-false}
 use Rattle.answers.specs.declared.Answer.TheVariants.{Done}
 use Rattle.answers.specs.Numbers.{is_done}
-use Rattle.answers.specs.Checks.{AllPassed, room_check, done_append, all_passed}
+use Rattle.answers.specs.Checks.{AllPassed, room_check, all_passed}
+use Rattle.answers.proofs.CheckLaws.{done_append}
 use Rattle.points.specs.declared.Heights.TheVariants.{Fine}
 use Rattle.tables.specs.Tables.{byte_table}
 use Rattle.sets.specs.Sets.{View, view_of, curve_checks, set_checks, set_answer}

@@ -1,4 +1,6 @@
 // Tones pictures: by one table within the plane, or by a set of curves into tight rows.
+#![tactic(auto)]
+
 ghost use Rattle.std.specs.Prelude.{◌≡◌, true, ◌*◌, ◌≤◌, length};
 ghost use Rattle.points.specs.Points.{list_of};
 ghost use Rattle.tables.specs.Tables.{byte_table};
@@ -18,7 +20,7 @@ use tables::{CurveInterpolation, entries_of};
 
 // What is to be toned, and by what: the set of curves, the format, the size, and how many planes
 // are given.
-#[derive(Drop)]
+#[derive(Clone, Copy)]
 pub struct Job {
     pub set: Curves,
     pub format: PixelFormat,
@@ -28,7 +30,7 @@ pub struct Job {
 }
 
 // What the set call answers, and the row steps of its outputs.
-#[derive(Drop)]
+#[derive(Clone, Copy)]
 pub struct Toned {
     pub answer: Answer,
     pub step: usize,
@@ -103,7 +105,7 @@ fn tone_first(
 )
     requires supported { Supported format }
     requires rows { Rows w h (w * bytes_a_pixel format) step (length plane.now) }
-    requires format_in_bounds { h * (w * bytes_a_pixel format) ≤ length out.old }
+    requires room { h * (w * bytes_a_pixel format) ≤ length out.old }
     ensures { out.new
         ≡ tight_rows format w h step (tables_of format (view_of set)) plane.now
         out.old }

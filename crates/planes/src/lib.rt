@@ -1,7 +1,8 @@
 // Planes: "A plane is its bytes together with its row step". It gives its rows, and the picture
 // calls take it. Whatever the bytes and the step, every open function answers. A function over
-// a plane takes it apart and leaves the work to one on slices and numbers; its proof is written
-// by tools/walk_planes.py.
+// a plane takes it apart and leaves the work to one on slices and numbers.
+#![tactic(auto)]
+
 ghost use Rattle.std.specs.Prelude.{◌≡◌, ◌+◌, ◌*◌, ◌≤◌, min};
 ghost use Rattle.pictures.specs.OneTable.{OneTableCall};
 ghost use Rattle.pictures.specs.Runs.{SetCall};
@@ -12,7 +13,7 @@ use formats::PixelFormat;
 use pictures::{Job, Toned, apply_pixels, apply_tone_lut};
 
 // A plane that is read.
-#[derive(Drop)]
+#[derive(Clone, Copy)]
 pub struct Plane<'a> {
     pub bytes: &'a [u8],
     pub step: usize,
@@ -123,5 +124,6 @@ pub fn tone_plane<'a>(
     ensures { OneTableCall format width height plane.entry.step table plane.entry.bytes.now result
         plane.exit.0.now }
 {
-    apply_tone_lut(plane.bytes, plane.step, table, format, width, height)
+    let PlaneMut { bytes, step } = plane;
+    apply_tone_lut(bytes, step, table, format, width, height)
 }
