@@ -1,6 +1,6 @@
 /* The tone engine for C and C++ callers: tables of tone curves, and pictures toned by them.
  *
- * Link with libtone_c.a, which `rt staticlib tone_c` makes of the proved crate:
+ * Link with libtone_c.a, which bindings/archive makes of the proved crates:
  *
  *     cc -std=c99 -I bindings/c program.c target/staticlib/libtone_c.a
  *
@@ -140,12 +140,12 @@ enum tone_size {
 enum tone_stack {
     TONE_STACK_VERSION = 256,
     TONE_STACK_TABLE = 7 * 1024,
-    TONE_STACK_FINE_TABLE = 5 * 1024,
+    TONE_STACK_FINE_TABLE = 6 * 1024,
     TONE_STACK_LOOKUP = 1024,
     TONE_STACK_PLANE = 1024,
-    TONE_STACK_PICTURE = 10 * 1024,
-    TONE_STACK_RECORD_TABLE = 7 * 1024,
-    TONE_STACK_RECORD_COPY = 8 * 1024
+    TONE_STACK_PICTURE = 11 * 1024,
+    TONE_STACK_RECORD_TABLE = 8 * 1024,
+    TONE_STACK_RECORD_COPY = 10 * 1024
 };
 
 /* An answer in words; never null. */

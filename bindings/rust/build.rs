@@ -6,7 +6,7 @@
 //!
 //! | variable | meaning | without it |
 //! |---|---|---|
-//! | `TONE_ARCHIVE` | the static library to link | `rt staticlib tone_c` is run |
+//! | `TONE_ARCHIVE` | the static library to link | `bindings/archive` is run |
 //! | `TONE_ORIGINAL` | the folder with `curves.rs` and `tonal_lut.rs` | `../shared/docs/src` |
 //!
 //! With the original there is the cfg `original`; without it the library and its
@@ -49,23 +49,31 @@ fn main() {
     }
 }
 
-/// The static library: the one named, or the one that `rt` makes of the proved crate.
+/// The static library: the one named, or the one that `rt` makes of the proved crates.
 fn archive(root: &Path) -> PathBuf {
     if let Some(named) = env::var_os("TONE_ARCHIVE") {
         let named = PathBuf::from(named);
         assert!(named.ends_with("libtone_c.a"), "TONE_ARCHIVE must name a file libtone_c.a");
         return named;
     }
-    println!("cargo::rerun-if-changed={}", root.join("crates").display());
     println!("cargo::rerun-if-changed={}", root.join("crates.txt").display());
-    let run = Command::new("rt").args(["staticlib", "tone_c"]).current_dir(root).output();
-    let run = run.unwrap_or_else(|e| {
-        panic!("rt, the Rattle toolchain, could not be run ({e}); name an archive by TONE_ARCHIVE")
-    });
+    for entry in fs::read_dir(root.join("crates")).expect("the crates are there") {
+        // beside these a crate has `out`, which each check writes
+        for part in ["src", "specs", "proofs"] {
+            let folder = entry.as_ref().expect("a crate's folder").path().join(part);
+            if folder.is_dir() {
+                println!("cargo::rerun-if-changed={}", folder.display());
+            }
+        }
+    }
+    let run = Command::new(root.join("bindings/archive")).output();
+    let run = run.unwrap_or_else(|e| panic!("bindings/archive could not be run: {e}"));
     assert!(
         run.status.success(),
-        "rt staticlib tone_c failed:\n{}",
-        String::from_utf8_lossy(&run.stdout)
+        "bindings/archive failed, which needs rt, the Rattle toolchain, on the path; \
+         TONE_ARCHIVE names another archive:\n{}{}",
+        String::from_utf8_lossy(&run.stdout),
+        String::from_utf8_lossy(&run.stderr)
     );
     root.join("target/staticlib/libtone_c.a")
 }

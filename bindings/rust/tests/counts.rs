@@ -82,7 +82,7 @@ fn each_kind_has_its_lines() {
         let of = |text: &str, word: &str| {
             [" ", ")", "\n"].iter().any(|end| text.contains(&format!("{word}{name}{end}")))
         };
-        assert!(of(theorems, "sampleOf ") || of(theorems, "sampleOf ("), "{name}: no theorem");
+        assert!(of(theorems, "sample_of ") || of(theorems, "sample_of ("), "{name}: no theorem");
         assert!(of(splines, "IsSpline ") || of(splines, "IsSpline ("), "{name}: a spline or not?");
         assert!(examples.contains(&format!("rule {number} ∷")), "{name}: not in `kinds`");
         assert!(drawn.contains(&format!(">{number} {name}")), "{name}: not drawn");
@@ -90,13 +90,14 @@ fn each_kind_has_its_lines() {
 }
 
 /// Each format is in `others` or in `yuv`, of which the computed tables and pictures are, and is
-/// YUV if it has three planes: `layoutOf NAME = newLayout BYTES ALPHA PLANES ..`.
+/// YUV if it has three planes: `layout_of NAME = new_layout BYTES ALPHA PLANES ..`.
 #[test]
 fn each_format_has_its_lines() {
     let examples = include_str!("../../../crates/formats/specs/Examples.antt");
     for format in Format::ALL {
         assert!(examples.contains(&format!("rule {format:?} ∷")), "{format:?}: in no example");
-        let (_, row) = FORMATS.split_once(&format!("\nlayoutOf {format:?} = newLayout ")).unwrap();
+        let (_, row) =
+            FORMATS.split_once(&format!("\nlayout_of {format:?} = new_layout ")).unwrap();
         assert_eq!(format.is_yuv(), row.split(' ').nth(2) == Some("3"), "{format:?}");
     }
 }

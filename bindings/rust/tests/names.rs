@@ -60,7 +60,7 @@ fn kinds() {
         assert_eq!(number(name), usize::from(place), "{name}");
     }
     assert_eq!(KindNumbers { number: 10, tension: 0, start_slope: 0, end_slope: 0 }.kind(), None);
-    let in_crate: Vec<_> = lines_of(KINDS, "descriptionOf")
+    let in_crate: Vec<_> = lines_of(KINDS, "description_of")
         .map(|(name, value)| (name, value.split(' ').nth(1).unwrap().to_string()))
         .collect();
     let here = Kind::NAMES.iter().enumerate().map(|(place, name)| (*name, place.to_string()));
@@ -83,7 +83,7 @@ fn formats() {
         assert_eq!(FormatNumber::from(format), FormatNumber(place));
         assert_eq!(number(&format!("{format:?}")), usize::from(place), "{format:?}");
     }
-    let (_, behind) = FORMATS.split_once("\ninOrder =").unwrap();
+    let (_, behind) = FORMATS.split_once("\nin_order =").unwrap();
     let in_crate: Vec<_> = behind
         .split("[]")
         .next()
@@ -100,8 +100,8 @@ fn formats() {
         "{in_crate:?}"
     );
     assert_eq!(count("tone_format"), Format::ALL.len());
-    // `layoutOf NAME = newLayout BYTES ..`
-    let layouts: Vec<_> = lines_of(FORMATS, "layoutOf").collect();
+    // `layout_of NAME = new_layout BYTES ..`
+    let layouts: Vec<_> = lines_of(FORMATS, "layout_of").collect();
     let here =
         Format::ALL.map(|format| (format!("{format:?}"), format.bytes_a_pixel().to_string()));
     let in_crate = layouts
@@ -121,7 +121,7 @@ fn refusals() {
         assert_eq!(number(&name), usize::from(place), "{name}");
         assert_eq!(in_header(&name, ":\n        return "), format!("\"{}\";", refusal.words()));
     }
-    let in_crate: Vec<_> = lines_of(ANSWERS, "numberOf").skip(1).collect();
+    let in_crate: Vec<_> = lines_of(ANSWERS, "number_of").skip(1).collect();
     let here = Refusal::all().map(|refusal| (format!("{refusal:?}"), refusal.number().to_string()));
     assert!(
         here.into_iter()

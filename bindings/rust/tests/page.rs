@@ -8,7 +8,7 @@ const PAGE: &str = "\
 abbrev places : List ℕ
 places = 1 ∷ 2 ∷ []
 
-pub name : entries (Cardinal 3) (atLevel 4 5 ∷ pt 6 7 ∷ []) places ≡ 8 ∷ 9 ∷ []
+pub name : entries (Cardinal 3) (at_level 4 5 ∷ pt 6 7 ∷ []) places ≡ 8 ∷ 9 ∷ []
 unfolding Computed.entry
 name = refl
 ";
@@ -49,9 +49,9 @@ fn nothing_else_is_read() {
         ("entries", "samples"),
         ("(Cardinal 3)", "Cardinal"),
         ("Cardinal", "Cardinals"),
-        ("atLevel", "point"),
-        ("atLevel 4 5", "atLevel 4 256"),
-        ("atLevel 4 5", "atLevel 4"),
+        ("at_level", "point"),
+        ("at_level 4 5", "at_level 4 256"),
+        ("at_level 4 5", "at_level 4"),
         ("pt 6 7", "pt 6 65536"),
         ("pt 6 7", "pt 256 7"),
         ("places ≡", "others ≡"),

@@ -1,6 +1,8 @@
-// The tone calls for a C or Rust caller. Each answers one byte: 0 when it did its work, else the
-// first refusal's number; then no lent byte has changed.
-// A slice crosses as a pointer and a length.
+// The tone calls, which the crate `tone_exports` offers to a C or Rust caller under the same names.
+// Each answers one byte: 0 when it did its work, else the first refusal's number; then no lent byte
+// has changed.
+#![tactic(auto)]
+
 ghost use Rattle.tone_c.specs.Boundary.{
   ToneTableCall,
   ToneFineTableCall,
@@ -24,8 +26,7 @@ use writing::write_record;
 mod given;
 
 // The version of this boundary, for a caller to compare with its header's. It is no answer.
-#[unsafe(no_mangle)]
-pub extern "C" fn tone_version() -> u32
+pub fn tone_version() -> u32
     ensures { result ≡ version }
 {
     3
@@ -35,8 +36,7 @@ pub extern "C" fn tone_version() -> u32
 // point is three bytes: x, then the height in 256ths of a level, low byte first. One or two bytes
 // left over are ignored.
 // The tension is read for kind 7 only, the slopes for kind 8 only.
-#[unsafe(no_mangle)]
-pub extern "C" fn tone_table(
+pub fn tone_table(
     points: &[u8],
     kind: u8,
     tension: u8,
@@ -59,8 +59,7 @@ pub extern "C" fn tone_table(
 }
 
 // Fills table, 256 or 4,096 floats, with the samples of that curve.
-#[unsafe(no_mangle)]
-pub extern "C" fn tone_fine_table(
+pub fn tone_fine_table(
     points: &[u8],
     kind: u8,
     tension: u8,
@@ -84,8 +83,7 @@ pub extern "C" fn tone_fine_table(
 
 // Replaces each value, in 0..1, by the height there of a fine table of
 // 4,096 samples, in 0..1 again.
-#[unsafe(no_mangle)]
-pub extern "C" fn tone_lookup(table: &[f32], values: &mut [f32]) -> u8
+pub fn tone_lookup(table: &[f32], values: &mut [f32]) -> u8
     ensures { ToneLookupCall table.now values.old result values.new }
 {
     let replaced = lookup::lookup(table, values);
@@ -94,8 +92,7 @@ pub extern "C" fn tone_lookup(table: &[f32], values: &mut [f32]) -> u8
 
 // Tones a plane of any of the twelve formats in place by one table. Alpha, chroma and
 // padding stay as they are.
-#[unsafe(no_mangle)]
-pub extern "C" fn tone_plane(
+pub fn tone_plane(
     table: &[u8; 256],
     format: u8,
     width: u32,
@@ -120,8 +117,7 @@ pub extern "C" fn tone_plane(
 // y is the luma or colour plane. The chroma planes of other formats are not
 // read, and their outputs stay.
 // A caller gives no chroma steps and gets none: they are 0.
-#[unsafe(no_mangle)]
-pub extern "C" fn tone_picture<'a, 'x, 'y, 'z>(
+pub fn tone_picture<'a, 'x, 'y, 'z>(
     record: &[u8],
     format: u8,
     width: u32,
@@ -178,8 +174,7 @@ pub extern "C" fn tone_picture<'a, 'x, 'y, 'z>(
 }
 
 // Writes the byte table of the master of the set that a record holds to the front of table.
-#[unsafe(no_mangle)]
-pub extern "C" fn tone_record_table(record: &[u8], table: &mut [u8]) -> u8
+pub fn tone_record_table(record: &[u8], table: &mut [u8]) -> u8
     ensures { ToneRecordTableCall «record».now table.old result table.new }
 {
     let read = read_record(record);
@@ -197,8 +192,7 @@ pub extern "C" fn tone_record_table(record: &[u8], table: &mut [u8]) -> u8
 
 // Writes the set that a record holds to the front of out with the present writer,
 // and its length to written.
-#[unsafe(no_mangle)]
-pub extern "C" fn tone_record_copy(record: &[u8], out: &mut [u8], written: &mut usize) -> u8
+pub fn tone_record_copy(record: &[u8], out: &mut [u8], written: &mut usize) -> u8
     ensures { ToneRecordCopyCall «record».now out.old written.old result
         out.new written.new }
 {

@@ -10,10 +10,10 @@
 //! and what is stated has one of three forms,
 //!
 //! - `entries KIND LIST PLACES ≡ NUMBERS`,
-//! - `entryOf KIND LIST PLACE ≡ NUMBER`,
+//! - `entry_of KIND LIST PLACE ≡ NUMBER`,
 //! - `bits KIND LIST PLACE ≡ NUMBER`.
 //!
-//! A point of a list is `atLevel x n`, n a level, or `pt x h`, h a height in 256ths of a level. A
+//! A point of a list is `at_level x n`, n a level, or `pt x h`, h a height in 256ths of a level. A
 //! line `NAME = .. ∷ []` gives a list a name.
 use super::Question;
 use crate::{Kind, KindNumbers, Point};
@@ -119,7 +119,7 @@ fn statement(text: &str, behind: &[String], named: &HashMap<&str, &str>) -> Stat
     words.expect("≡");
     let statement =
         Statement { name, question, places, of_bits: form == "bits", values: words.numbers() };
-    assert!(["entries", "entryOf", "bits"].contains(&&*form), "{text}: no form of the page");
+    assert!(["entries", "entry_of", "bits"].contains(&&*form), "{text}: no form of the page");
     assert_eq!(words.0.len(), 0, "{text}: more than a statement");
     assert_eq!(statement.places.len(), statement.values.len(), "{text}");
     statement
@@ -204,13 +204,13 @@ impl Words {
         points
     }
 
-    /// `atLevel x n`, n a level, or `pt x h`, h a height.
+    /// `at_level x n`, n a level, or `pt x h`, h a height.
     fn point(&mut self) -> Point {
         let form = self.next();
         let x = u8::try_from(self.number()).unwrap();
         let y = self.number();
         match &*form {
-            "atLevel" => Point::at_level(x, u8::try_from(y).unwrap()),
+            "at_level" => Point::at_level(x, u8::try_from(y).unwrap()),
             "pt" => Point { x, height: u16::try_from(y).unwrap() },
             _ => panic!("{form}: no point"),
         }

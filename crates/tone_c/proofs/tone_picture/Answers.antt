@@ -1,28 +1,26 @@
 -- `tone_picture`: the record's refusals and an unknown format first, with the outputs as they were;
 -- the rest is the set call, whose set the record's reader has checked.
-use native.Mathlib.Omega.{arith}
-use Prim.Native.Nat.{ℕ}
-use mathlib.Core.Path.{◌≡◌, refl, sym, ap, ◌∙◌}
-use mathlib.Core.Bool.{false}
-use mathlib.Core.List.{List, [], ◌∷◌, ◌++◌}
-use borrow.Author.Tests.{eqb-false, ne_eqb}
+use Rattle.std.proofs.Common.{ap, not, ℕ, ◌≡◌, refl, sym, ◌∙◌, false, List, [], ◌∷◌, ◌++◌, ne_eqb}
+use Rattle.std.proofs.lemmas.Bool.{eqb-false}
 use Rattle.answers.specs.declared.Answer.{Answer}
 use Rattle.answers.specs.declared.Answer.TheVariants.{Done}
-use Rattle.answers.specs.Numbers.{number_of, is_done, asked_refused, asked_done, number_unique}
-use Rattle.answers.specs.Checks.{Check, first_refusal, first_then, first_stops, first_goes_on}
+use Rattle.answers.specs.Numbers.{number_of, is_done}
+use Rattle.answers.proofs.NumberLaws.{asked_refused, asked_done, number_unique}
+use Rattle.answers.specs.Checks.{Check, first_refusal}
+use Rattle.answers.proofs.CheckLaws.{first_then, first_stops, first_goes_on}
 use Rattle.points.specs.declared.Heights.TheVariants.{Fine, Whole}
 use Rattle.sets.specs.Sets.{curve_checks, set_checks, set_answer}
 use Rattle.sets.specs.Legal.{fine_set}
 use Rattle.records.specs.declared.RecordRead.{RecordRead}
 use Rattle.records.specs.Checks.{record_checks}
-use Rattle.records.specs.CheckLaws.{read_answer}
+use Rattle.records.proofs.AnswerLaws.{read_answer}
 use Rattle.records.specs.Views.{ReadRecordCall}
 use Rattle.pictures.specs.declared.Toned.{Toned}
 use Rattle.pictures.specs.Runs.{Outputs, Run, checks_of_picture, answer, SetCall}
 use Rattle.pictures.specs.RunLaws.{refused_outputs}
 use Rattle.tone_c.specs.Boundary.{format_check, PictureAsked, run_of, TonePictureCall}
-use Rattle.tone_c.proofs.tone_picture.Statement.{statement}
-use Rattle.tone_c.proofs.tone_picture.Tie as tie
+use Rattle.tone_c.proofs.tone_picture.Goals.{After-first_of-answer}
+use Rattle.tone_c.proofs.tone_picture.Goals as goal
 
 -- the checks of the record and of the format
 abbrev front : List ℕ → ℕ → List Check
@@ -68,36 +66,23 @@ module _ (asked : PictureAsked) {r : ℕ} where
       }
 
 -- what the record and the format are answered
-answered : (c : tie.After-first-of)
-    → let A = c.before.before.before.before.before.before.before.before.before.before.args in
-    c.first_of.read_result ≡ first_refusal (front A.«record».now A.format)
+answered : (c : After-first_of-answer)
+    → let A = c.args in
+    c.first_of-answer.result ≡ first_refusal (front A.«record».now A.format)
 answered c =
-    let A = c.before.before.before.before.before.before.before.before.before.before.args in
+    let A = c.args in
     first_then (record_checks A.«record».now) (format_check A.format ∷ [])
-    (c.before.before.read-record.ensures.answer ∙ read_answer A.«record».now)
-    c.before.format-answer.ensures c.first_of.ensures
+    (c.read_record-read.ensures.answer ∙ read_answer A.«record».now)
+    c.format_answer.ensures c.first_of-answer.ensures
 
-returns : tie.Need-returns
-returns c =
-    let k = c.before.before in
-    refused _ (answered k.before)
-    (asked_refused k.before.first_of.read_result k.is-done.ensures c.before.if1.true)
+pub returns-then-not-is_done : goal.returns-then-not-is_done
+returns-then-not-is_done c =
+    refused _ (answered (goal.at.returns-then-not-is_done c).After-first_of-answer)
+    (asked_refused c.first_of-answer.result c.is_done.ensures (ap not c.if-not-is_done.true))
     c.number.ensures
 
-returns-2 : tie.Need-returns-2
-returns-2 c =
-    let t = c.before.before.before.before.before.before.before in
-    let p = t.before.before.before.before in
-    let k = p.before.before in
-    let read = k.before.before.before.before.read-record.ensures in
-    let passed = sym (answered k.before.before) ∙ asked_done _ k.before.is-done.ensures k.if1.false in
-    called _ passed read (rw p.format-of.ensures at t.apply_pixels.ensures) c.number2.ensures
-
-pub tone-picture-spec : {M : Type 1} → statement M
-tone-picture-spec =
-    tie.close
-    (tie.spec
-    (omega arith) (omega arith) (omega arith) (omega arith) (omega arith)
-    returns
-    (omega arith) (omega arith) (omega arith) (omega arith) (omega arith) (omega arith)
-    returns-2)
+pub returns : goal.returns
+returns c =
+    let read = c.read_record-read.ensures in
+    let passed = sym (answered (goal.at.returns c).After-first_of-answer) ∙ asked_done _ c.is_done.ensures (ap not c.if-not-is_done.false) in
+    called _ passed read (rw c.format_of-pixel_format.ensures at c.apply_pixels-toned.ensures) c.number-2.ensures
