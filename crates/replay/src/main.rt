@@ -4,9 +4,13 @@
 // original's file.
 // Both were written by the program `store` of bindings/rust without the port (cargo run --release
 // --bin store), which says how they read.
+#![tactic(auto)]
+
 ghost use Rattle.std.specs.Prelude.{◌<◌, ◌≤◌};
 
 use points::Curve;
+use std::io;
+use std::io::{ErrorKind, Read, Stdin};
 use tables::CurveInterpolation;
 
 // What a hexadecimal digit in lower case means.
@@ -122,58 +126,62 @@ fn values() -> [f32; 256] {
     values
 }
 
-fn print_byte(b: u8) {
-    io::print_hex(1, b as u64, 2);
-}
-
-fn print_table(table: &[u8; 256]) {
-    let mut v: usize = 0;
-    while v < 256 {
-        print_byte(table[v]);
-        v += 1;
+fn print_table(rt: &impl Print, table: &[u8; 256]) -> io::Result<()> {
+    for entry in table {
+        print!(rt; "{entry:02x}")?;
     }
+    Ok(())
 }
 
-fn print_digest(floats: &[f32]) {
-    io::write_all(1, b" ");
-    io::print_hex(1, digest(floats), 16);
+fn print_digest(rt: &impl Print, floats: &[f32]) -> io::Result<()> {
+    let digest = digest(floats);
+    print!(rt; " {digest:016x}")
 }
 
 // Prints what the question of a line is answered.
-fn answer(line: &[u8; 399]) {
+fn answer(rt: &impl Print, line: &[u8; 399]) -> io::Result<()> {
     let curve = curve_of(line);
     let kind = kind_of(line);
     let lut = tables::build_lut(curve, kind);
     let table = lut.table;
-    print_table(&table);
+    print_table(rt, &table)?;
     let mut coarse = [0.0; 256];
     tables::build_table(curve, kind, &mut coarse);
-    print_digest(&coarse);
+    print_digest(rt, &coarse)?;
     let mut fine = [0.0; 4096];
     tables::build_table(curve, kind, &mut fine);
-    print_digest(&fine);
+    print_digest(rt, &fine)?;
     let mut looked = values();
     lookup::lookup(&fine, &mut looked);
-    print_digest(&looked);
-    io::write_all(1, b"\n");
+    print_digest(rt, &looked)?;
+    println!(rt; "")
+}
+
+// Reads the next question, and says whether there is one.
+fn read_line(input: &mut Stdin, line: &mut [u8; 399]) -> io::Result<bool> {
+    match input.read_exact(line) {
+        Ok(()) => Ok(true),
+        Err(error) if error.kind() == ErrorKind::UnexpectedEof => Ok(false),
+        Err(error) => Err(error),
+    }
 }
 
 // Answers the next question, if there is one.
-fn next() -> bool {
+fn next(rt: &impl Print, input: &mut Stdin) -> io::Result<bool> {
     let mut line = [0u8; 399];
-    if io::read_full(0, &mut line) < 399 {
-        return false;
+    if !read_line(input, &mut line)? {
+        return Ok(false);
     }
-    answer(&line);
-    true
+    answer(rt, &line)?;
+    Ok(true)
 }
 
-fn main() {
-    let mut left: usize = 1000;
-    while left > 0 {
-        if !next() {
-            return;
+fn main(rt: HostRuntime) -> io::Result<()> {
+    let mut input = rt.stdin();
+    for _ in 0..1000 {
+        if !next(&rt, &mut input)? {
+            return Ok(());
         }
-        left -= 1;
     }
+    Ok(())
 }

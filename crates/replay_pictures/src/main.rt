@@ -2,11 +2,15 @@
 // holds what the original answered.
 // Both were written by the program `store` of bindings/rust from the original alone (cargo run
 // --release --bin store), which says how they read.
+#![tactic(auto)]
+
 ghost use Rattle.std.specs.Prelude.{◌<◌, ◌≤◌, ◌+◌, length};
 
 use formats::format_of;
 use pictures::Job;
 use sets::Curves;
+use std::io;
+use std::io::{ErrorKind, Read, Stdin};
 
 // What a hexadecimal digit in lower case means.
 fn digit(c: u8) -> u8
@@ -53,21 +57,16 @@ fn front(bytes: &[u8], n: u8) -> &[u8] {
     bytes
 }
 
-fn print_byte(b: u8) {
-    io::print_hex(1, b as u64, 2);
-}
-
-fn print_bytes(bytes: &[u8]) {
-    let mut i: usize = 0;
-    while i < bytes.len() {
-        print_byte(bytes[i]);
-        i += 1;
+fn print_bytes(rt: &impl Print, bytes: &[u8]) -> io::Result<()> {
+    for byte in bytes {
+        print!(rt; "{byte:02x}")?;
     }
+    Ok(())
 }
 
-fn print_behind_space(bytes: &[u8]) {
-    io::write_all(1, b" ");
-    print_bytes(bytes);
+fn print_behind_space(rt: &impl Print, bytes: &[u8]) -> io::Result<()> {
+    print!(rt; " ")?;
+    print_bytes(rt, bytes)
 }
 
 // The set of a question's record.
@@ -102,16 +101,16 @@ fn tone_front(line: &[u8; 727], plane: &mut [u8], n: usize) {
 }
 
 // The call by one table.
-fn tone_plane(line: &[u8; 727]) {
+fn tone_plane(rt: &impl Print, line: &[u8; 727]) -> io::Result<()> {
     let mut plane = [0u8; 240];
     fill(line, 75, &mut plane);
     let n = byte_at(line, 7);
     tone_front(line, &mut plane, n as usize);
-    print_bytes(front(&plane, n));
+    print_bytes(rt, front(&plane, n))
 }
 
 // The set call.
-fn tone_picture(line: &[u8; 727]) {
+fn tone_picture(rt: &impl Print, line: &[u8; 727]) -> io::Result<()> {
     let mut plane = [0u8; 240];
     let mut cb = [0u8; 24];
     let mut cr = [0u8; 24];
@@ -143,37 +142,46 @@ fn tone_picture(line: &[u8; 727]) {
     );
     let answer = toned.answer;
     if !answer.is_done() {
-        io::write_all(1, b"refused");
-        return;
+        return print!(rt; "refused");
     }
-    print_bytes(front(&out, byte_at(line, 10)));
+    print_bytes(rt, front(&out, byte_at(line, 10)))?;
     if format.planes_read() == 3 {
-        print_behind_space(front(&out_cb, byte_at(line, 8)));
-        print_behind_space(front(&out_cr, byte_at(line, 9)));
+        print_behind_space(rt, front(&out_cb, byte_at(line, 8)))?;
+        print_behind_space(rt, front(&out_cr, byte_at(line, 9)))?;
+    }
+    Ok(())
+}
+
+// Reads the next question, and says whether there is one.
+fn read_line(input: &mut Stdin, line: &mut [u8; 727]) -> io::Result<bool> {
+    match input.read_exact(line) {
+        Ok(()) => Ok(true),
+        Err(error) if error.kind() == ErrorKind::UnexpectedEof => Ok(false),
+        Err(error) => Err(error),
     }
 }
 
 // Answers the next question, if there is one.
-fn next() -> bool {
+fn next(rt: &impl Print, input: &mut Stdin) -> io::Result<bool> {
     let mut line = [0u8; 727];
-    if io::read_full(0, &mut line) < 727 {
-        return false;
+    if !read_line(input, &mut line)? {
+        return Ok(false);
     }
     if byte_at(&line, 0) == 0 {
-        tone_plane(&line);
+        tone_plane(rt, &line)?;
     } else {
-        tone_picture(&line);
+        tone_picture(rt, &line)?;
     }
-    io::write_all(1, b"\n");
-    true
+    println!(rt; "")?;
+    Ok(true)
 }
 
-fn main() {
-    let mut left: usize = 1000;
-    while left > 0 {
-        if !next() {
-            return;
+fn main(rt: HostRuntime) -> io::Result<()> {
+    let mut input = rt.stdin();
+    for _ in 0..1000 {
+        if !next(&rt, &mut input)? {
+            return Ok(());
         }
-        left -= 1;
     }
+    Ok(())
 }

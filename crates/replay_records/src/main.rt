@@ -2,8 +2,13 @@
 // in tools/record_model.py.
 // The model wrote the files stdin, a list of good and damaged records, and stdout, what this
 // program must print. It says how both read.
+#![tactic(auto)]
+
+use itoa::Buffer;
 use points::Curve;
 use sets::{Channel, Curves};
+use std::io;
+use std::io::{ErrorKind, Read, Stdin};
 use tables::CurveInterpolation;
 
 // Room for the text of every record.
@@ -37,11 +42,22 @@ fn put_all(line: &mut [u8], at: usize, bytes: &[u8]) -> usize {
     at
 }
 
-// At least as many digits as the width.
+// Digit k of a number, from the lowest, in lower case.
+fn hexadecimal(n: u64, k: usize) -> u8 {
+    if k > 15 {
+        return b'0';
+    }
+    let d = (n >> (4 * k) & 15) as u8;
+    if d < 10 { b'0' + d } else { b'a' - 10 + d }
+}
+
+// The lowest digits of a number, as many as the width.
 fn put_hexadecimal(line: &mut [u8], at: usize, n: u64, width: usize) -> usize {
-    let mut digits = [0u8; 16];
-    let k = io::hex(n, width, &mut digits);
-    put_all(line, at, &digits[..k])
+    let mut at = at;
+    for k in (0..width).rev() {
+        at = put(line, at, hexadecimal(n, k));
+    }
+    at
 }
 
 fn put_byte(line: &mut [u8], at: usize, byte: u8) -> usize {
@@ -59,9 +75,8 @@ fn put_bytes(line: &mut [u8], at: usize, bytes: &[u8]) -> usize {
 }
 
 fn put_decimal(line: &mut [u8], at: usize, n: u64) -> usize {
-    let mut digits = [0u8; 20];
-    let k = io::decimal(n, &mut digits);
-    put_all(line, at, &digits[..k])
+    let mut digits = Buffer::new();
+    put_all(line, at, digits.format(n).as_bytes())
 }
 
 fn wide(n: u16) -> u64 {
@@ -204,17 +219,26 @@ fn put_text(line: &mut [u8], at: usize, record: &[u8]) -> usize {
 }
 
 // Ends a line and prints it.
-fn print(line: &mut [u8], at: usize) {
+fn print(rt: &impl Print, line: &mut [u8], at: usize) -> io::Result<()> {
     let n = put(line, at, b'\n');
-    io::write_all(1, front(line, n));
+    rt.write_all(front(line, n))
+}
+
+// Fills a buffer, and says whether the input has enough for it.
+fn fill(input: &mut Stdin, buffer: &mut [u8]) -> io::Result<bool> {
+    match input.read_exact(buffer) {
+        Ok(()) => Ok(true),
+        Err(error) if error.kind() == ErrorKind::UnexpectedEof => Ok(false),
+        Err(error) => Err(error),
+    }
 }
 
 // Reads n bytes to the front of a buffer, and says whether it has them.
-fn fetch(buffer: &mut [u8], n: usize) -> bool {
+fn fetch(input: &mut Stdin, buffer: &mut [u8], n: usize) -> io::Result<bool> {
     if n <= buffer.len() {
-        return io::read_full(0, &mut buffer[..n]) == n;
+        return fill(input, &mut buffer[..n]);
     }
-    false
+    Ok(false)
 }
 
 // A length, low byte first.
@@ -223,33 +247,32 @@ fn number(low: u8, high: u8) -> usize {
 }
 
 // Prints the line of the next record in the list, if there is one.
-fn next(i: usize) -> bool {
+fn next(rt: &impl Print, input: &mut Stdin, i: usize) -> io::Result<bool> {
     let mut length = [0u8; 2];
-    if !fetch(&mut length, 2) {
-        return false;
+    if !fetch(input, &mut length, 2)? {
+        return Ok(false);
     }
     let n = number(length[0], length[1]);
     let mut record = [0u8; 1024];
-    if !fetch(&mut record, n) {
-        return false;
+    if !fetch(input, &mut record, n)? {
+        return Ok(false);
     }
     let mut line = [0u8; LINE];
     let at = put_decimal(&mut line, 0, i as u64);
     let at = put_all(&mut line, at, b": ");
     let at = put_text(&mut line, at, front(&record, n));
-    print(&mut line, at);
-    true
+    print(rt, &mut line, at)?;
+    Ok(true)
 }
 
 // The stored list, which has far fewer records than this bound.
-fn list() {
-    let mut i: usize = 0;
-    while i < 100000 {
-        if !next(i) {
-            return;
+fn list(rt: &impl Print, input: &mut Stdin) -> io::Result<()> {
+    for i in 0..100000 {
+        if !next(rt, input, i)? {
+            return Ok(());
         }
-        i += 1;
     }
+    Ok(())
 }
 
 // A step of FNV-1a of 32 bits (Fowler, Noll and Vo): the byte is joined, then the
@@ -274,7 +297,7 @@ fn digest(h: u32, bytes: &[u8]) -> u32 {
 
 // How often a text begins with each byte, which is the digit of its answer, and
 // the digest of the texts.
-#[derive(Drop)]
+#[derive(Clone, Copy)]
 struct Tally {
     counts: [u64; 256],
     digest: u32,
@@ -324,7 +347,7 @@ fn put_counts(line: &mut [u8], at: usize, counts: &[u64; 256]) -> usize {
 }
 
 // Prints the line of the records of one and two bytes that begin with this map.
-fn print_map(map: u8) {
+fn print_map(rt: &impl Print, map: u8) -> io::Result<()> {
     let mut line = [0u8; LINE];
     let at = put_all(&mut line, 0, b"map ");
     let at = put_byte(&mut line, at, map);
@@ -335,23 +358,22 @@ fn print_map(map: u8) {
     let counts = tally.counts;
     let at = put_counts(&mut line, at, &counts);
     let at = put_hexadecimal(&mut line, at, tally.digest as u64, 8);
-    print(&mut line, at);
+    print(rt, &mut line, at)
 }
 
 // All records of up to two bytes.
-fn walk() {
+fn walk(rt: &impl Print) -> io::Result<()> {
     let mut line = [0u8; LINE];
     let at = put_all(&mut line, 0, b"no bytes: ");
     let at = put_text(&mut line, at, b"");
-    print(&mut line, at);
-    let mut map: usize = 0;
-    while map < 256 {
-        print_map(map as u8);
-        map += 1;
+    print(rt, &mut line, at)?;
+    for map in 0..=255 {
+        print_map(rt, map)?;
     }
+    Ok(())
 }
 
-fn main() {
-    list();
-    walk();
+fn main(rt: HostRuntime) -> io::Result<()> {
+    list(&rt, &mut rt.stdin())?;
+    walk(&rt)
 }

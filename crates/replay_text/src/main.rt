@@ -1,14 +1,35 @@
 // Holds the texts that `tonetable` prints to a model written from document 01, tools/text_model.py.
 // The model wrote the files stdin, a list of inputs, each with its length in two bytes in front,
 // low byte first, and stdout, what this program must print: each input's number, length and text.
+#![tactic(auto)]
+
+ghost use Rattle.std.specs.Prelude.{◌≤◌, IfOk, length};
+
+use std::io;
+use std::io::{Read, Stdin};
 use text::INPUT;
 
-// Reads n bytes to the front of a buffer, or as many as it holds, and answers how many there were.
-fn fetch(buffer: &mut [u8], n: usize) -> usize {
-    if n <= buffer.len() {
-        return io::read_full(0, &mut buffer[..n]);
+// Fills a buffer from its front, as far as the input goes, and answers how many bytes there were.
+fn fill(input: &mut Stdin, buffer: &mut [u8]) -> io::Result<usize>
+    ensures { IfOk result (λ n. n ≤ length buffer.new) }
+{
+    let mut filled: usize = 0;
+    while filled < buffer.len() {
+        let more = input.read(&mut buffer[filled..])?;
+        if more == 0 {
+            return Ok(filled);
+        }
+        filled += more;
     }
-    io::read_full(0, buffer)
+    Ok(filled)
+}
+
+// Reads n bytes to the front of a buffer, or as many as it holds, and answers how many there were.
+fn fetch(input: &mut Stdin, buffer: &mut [u8], n: usize) -> io::Result<usize> {
+    if n <= buffer.len() {
+        return fill(input, &mut buffer[..n]);
+    }
+    fill(input, buffer)
 }
 
 // A length, low byte first.
@@ -16,50 +37,44 @@ fn number(low: u8, high: u8) -> usize {
     low as usize + 256 * high as usize
 }
 
-fn print_heading(i: usize, n: usize) {
-    io::print_decimal(1, i as u64);
-    io::write_all(1, b", bytes: ");
-    io::print_decimal(1, n as u64);
-    io::write_all(1, b"\n");
-}
-
 // The bytes of an input that are not read.
-fn skip(n: usize) {
-    let mut behind = io::buffer();
-    fetch(&mut behind, n);
+fn skip(input: &mut Stdin, n: usize) -> io::Result<()> {
+    let mut behind = [0u8; 4096];
+    fetch(input, &mut behind, n)?;
+    Ok(())
 }
 
-fn print_text(input: [u8; INPUT], n: usize) {
+fn print_text(rt: &impl Print, input: [u8; INPUT], n: usize) -> io::Result<()> {
     let text = text::text_of_input(input, n);
     let bytes = text.bytes;
     let length = text.length;
-    io::write_all(1, &bytes[..length]);
+    rt.write_all(&bytes[..length])
 }
 
 // The next input of the list, if there is one.
-fn next(i: usize) -> bool {
+fn next(rt: &impl Print, stdin: &mut Stdin, i: usize) -> io::Result<bool> {
     let mut length = [0u8; 2];
-    if fetch(&mut length, 2) < 2 {
-        return false;
+    if fetch(stdin, &mut length, 2)? < 2 {
+        return Ok(false);
     }
     let n = number(length[0], length[1]);
     let mut input = [0u8; INPUT];
-    let read = fetch(&mut input, n);
+    let read = fetch(stdin, &mut input, n)?;
     if read < n {
-        skip(n - read);
+        skip(stdin, n - read)?;
     }
-    print_heading(i, n);
-    print_text(input, read);
-    true
+    println!(rt; "{i}, bytes: {n}")?;
+    print_text(rt, input, read)?;
+    Ok(true)
 }
 
 // The stored list, which has far fewer inputs than this bound.
-fn main() {
-    let mut i: usize = 0;
-    while i < 100000 {
-        if !next(i) {
-            return;
+fn main(rt: HostRuntime) -> io::Result<()> {
+    let mut stdin = rt.stdin();
+    for i in 0..100000 {
+        if !next(&rt, &mut stdin, i)? {
+            return Ok(());
         }
-        i += 1;
     }
+    Ok(())
 }

@@ -1,64 +1,82 @@
 // Reads a record from standard input and prints its master's byte table, or the refusal. Where a
-// read or a write fails it says so on standard error; where a read fails it prints nothing else.
-ghost use Rattle.std.specs.Prelude.{◌≤◌};
+// read or a write fails it says so on standard error and ends with status 1; where a read fails it
+// prints nothing else.
+#![tactic(auto)]
 
+ghost use Rattle.std.specs.Prelude.{◌≡◌, ◌≤◌, IfOk, IfSome, OnOk, Err, length, take};
+ghost use Rattle.std.specs.Io.KnownBytes.{Appends, Keeps};
+ghost use Rattle.text.specs.Text.{input_bytes, printed, text_of};
+ghost use Rattle.tonetable.specs.declared.Failure.TheVariants.{Unread};
+
+use std::io::{Read, Write};
+use std::process::ExitCode;
+use std::{fmt, io};
 use text::INPUT;
 
-// What was read: the first length bytes, up to the bound or the end of the input; or a read failed.
-#[derive(Drop)]
-struct Input {
-    bytes: [u8; INPUT],
-    length: usize,
-    failed: bool,
+// Why nothing, or not all, was printed.
+#[derive(Clone, Copy)]
+enum Failure {
+    Unread,
+    Unwritten,
 }
 
-// Each read goes behind the bytes that are there. A read answers 0 at the end, below 0 if it fails.
-fn read_input() -> Input {
-    let mut bytes = [0u8; INPUT];
-    let mut length: usize = 0;
-    while length < INPUT {
-        let got = libc::read(0, &mut bytes[length..]);
-        if got < 0 {
-            return Input {
-                bytes,
-                length,
-                failed: true,
-            };
+impl fmt::Display for Failure {
+    fn fmt<W: fmt::Write>(&self, f: &mut fmt::Formatter<W>) -> fmt::Result {
+        match self {
+            Failure::Unread => write!(f, "the input could not be read"),
+            Failure::Unwritten => write!(f, "the text could not be written"),
         }
-        let more = io::count(got, &bytes[length..]);
+    }
+}
+
+// Fills a buffer from its front, as far as the input goes, and answers how many bytes there were.
+fn fill<R: Read>(input: &mut R, buffer: &mut [u8]) -> io::Result<usize>
+    ensures bound { IfOk result (λ n. n ≤ length buffer.new) }
+    ensures front { IfOk result (λ n. IfSome (R.remaining input.old) (λ s.
+        take n buffer.new ≡ take (length buffer.new) s)) }
+{
+    let mut filled: usize = 0;
+    while filled < buffer.len() {
+        let more = input.read(&mut buffer[filled..])?;
         if more == 0 {
-            return Input {
-                bytes,
-                length,
-                failed: false,
-            };
+            return Ok(filled);
         }
-        length += more;
+        filled += more;
     }
-    Input {
-        bytes,
-        length,
-        failed: false,
-    }
+    Ok(filled)
 }
 
-fn print(text: text::Text)
+fn print<W: Write>(output: &mut W, text: text::Text) -> io::Result<()>
     requires { text.length ≤ 768 }
+    ensures { OnOk result (Appends (W.contents output.old) (W.contents output.new) (text_of text)) }
 {
     let bytes = text.bytes;
     let length = text.length;
-    if !io::write_all(1, &bytes[..length]) {
-        io::write_all(2, b"tonetable: the text could not be written\n");
+    output.write_all(&bytes[..length])
+}
+
+// Reads a record and writes its master's byte table, or the refusal.
+fn answer<R: Read, W: Write>(input: &mut R, output: &mut W) -> Result<(), Failure>
+    ensures text { OnOk result (IfSome (R.remaining input.old) (λ s.
+        Appends (W.contents output.old) (W.contents output.new) (printed (take input_bytes s)))) }
+    ensures unread { result ≡ Err Unread → Keeps (W.contents output.old) (W.contents output.new) }
+{
+    let mut bytes = [0u8; INPUT];
+    let Ok(length) = fill(input, &mut bytes) else {
+        return Err(Failure::Unread);
+    };
+    match print(output, text::text_of_input(bytes, length)) {
+        Ok(()) => Ok(()),
+        Err(_) => Err(Failure::Unwritten),
     }
 }
 
-fn main() {
-    let input = read_input();
-    if input.failed {
-        io::write_all(2, b"tonetable: the input could not be read\n");
-        return;
+fn main(rt: HostRuntime) -> io::Result<ExitCode> {
+    match answer(&mut rt.stdin(), &mut rt.stdout()) {
+        Ok(()) => Ok(ExitCode::SUCCESS),
+        Err(failure) => {
+            eprintln!(rt; "tonetable: {failure}")?;
+            Ok(ExitCode::FAILURE)
+        }
     }
-    let bytes = input.bytes;
-    let length = input.length;
-    print(text::text_of_input(bytes, length));
 }
