@@ -1,1 +1,2 @@
 // The marked examples are in specs/: no code.
+#![tactic(auto)]

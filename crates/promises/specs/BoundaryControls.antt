@@ -8,7 +8,7 @@ use Rattle.answers.specs.Numbers.{number_of}
 use Rattle.answers.specs.Checks.{first_refusal}
 use Rattle.points.specs.declared.Curve.{Curve}
 use Rattle.points.specs.Joined.{FullRows}
-use Rattle.points.specs.Points.{pt, all_allowed}
+use Rattle.points.specs.Points.{all_allowed}
 use Rattle.tables.specs.declared.CurveInterpolation.{CurveInterpolation}
 use Rattle.tables.specs.declared.CurveInterpolation.TheVariants.{Linear, MonotoneCubic}
 use Rattle.sets.specs.declared.Channel.{Channel}

@@ -22,7 +22,16 @@ use Rattle.tone_c.specs.Boundary.{set_of, PictureAsked, run_of, TonePictureCall}
 use Rattle.promises.specs.Words as Run
 use Rattle.promises.specs.Words.{Place, IsSpline, WholeHeights, Nearest, HasLine}
 use Rattle.promises.specs.ListFacts.{of_toning_list}
-use Rattle.promises.specs.Demand3 as Demand
+use Rattle.promises.specs.RunFacts.{toning, output_holds, tight_entry, alpha_copied}
+use Rattle.promises.specs.PictureFacts.{defined_by, passed_by}
+use Rattle.promises.specs.TonedFacts.{
+  has_line,
+  toned_nearest,
+  through_level,
+  by_input_alone,
+  in_order,
+}
+use Rattle.promises.specs.RowFacts.{same_bytes}
 
 -- ---- words
 -- a call of `tone_picture` that answers 0, whole: what it was given and the three outputs
@@ -94,20 +103,20 @@ module _ (c : AcceptedCall) where
   holds : view_of (run c).given.job.set ≡ set_in c
   holds = (tone_picture_run c).set
 
-  same_list : (p : Place) → Run.list_that_tones (run c).given p ≡ list_that_tones c p
+  same_list : (p : Place) → toning (run c).given p.channel ≡ list_that_tones c p
   same_list p = ap (λ (v : View). toned_by (format_of c.asked.format) v p.channel) holds
 
   same_kind : Run.kind_in (run c).given ≡ (set_in c).kind
   same_kind = ap (λ (v : View). v.kind) holds
 
   -- a record of today holds whole heights only
-  whole_heights : (p : Place) → WholeHeights (Run.list_that_tones (run c).given p)
+  whole_heights : (p : Place) → WholeHeights (toning (run c).given p.channel)
   whole_heights p =
       let r = c.contract.run refl in
       let legal =
       of_toning_list (LegalList Whole) (format_of c.asked.format) (view_of r.handed.set)
       (legal_view Whole r.handed.set r.read.legal) p.channel in
-      passed_whole (Run.list_that_tones (run c).given p) legal.high
+      passed_whole (toning (run c).given p.channel) legal.high
 
 -- records that hold one set are read as the same set
 pub same_runs : (a b : AcceptedCall) → Share a b → Run.Share (run a) (run b)
@@ -126,7 +135,10 @@ same_runs a b share =
 -- ---- the clauses
 -- "each gives exactly the picture they define."
 pub exact : (a : AcceptedCall) → Run.ExactPicture (run a)
-exact a = Demand.exact (run a) (not_refused a)
+exact a =
+    let r = run a in
+    let ok = not_refused a in
+    defined_by r ok (output_holds r ok) (tight_entry r ok) (alpha_copied r ok)
 
 -- "If the kind is Linear, no list in the set has a point lower than the one before it, and no toned
 -- input byte of A is above B's at the same place, then no toned output byte of A is above B's
@@ -134,21 +146,21 @@ exact a = Demand.exact (run a) (not_refused a)
 pub order : (a b : AcceptedCall) → Share a b → IsLinear a → NoListFalls a
     → ((p : Place) → TonedAt a p → input a p ≤ input b p)
     → (p : Place) → TonedAt a p → output a p ≤ output b p
-order a b share linear rising =
-    Demand.order (run a) (run b) (same_runs a b share) (not_refused a) (not_refused b)
-    (same_kind a ∙ linear) (rw (holds a) rising)
+order a b share linear rising below p toned =
+    in_order (run a) (run b) (same_runs a b share) (not_refused a) (not_refused b)
+    (same_kind a ∙ linear) (rw (holds a) rising) p toned (below p toned)
 
 -- "Under Linear each toned output byte is the whole number nearest the exact broken line of the
 -- list that tones it, at its input byte; at an exact half it is one of the two nearest."
 pub near : (a : AcceptedCall) → IsLinear a → (p : Place) → TonedAt a p
     → (n d : ℕ) → OnLine (list_that_tones a p) (input a p) n d → Nearest n d (output a p)
 near a linear p toned n d on =
-    Demand.near (run a) (not_refused a) (same_kind a ∙ linear) p toned (whole_heights a p) n d
+    toned_nearest (run a) (not_refused a) (same_kind a ∙ linear) p toned (whole_heights a p) n d
     (rw (same_list a p) on)
 
 -- where that line is there, and has one height
 pub line : (a : AcceptedCall) (p : Place) → HasLine (list_that_tones a p) (input a p)
-line a p = rw (same_list a p) at (Demand.line (run a) p)
+line a p = rw (same_list a p) at (has_line (run a) p)
 
 -- "Under any kind but the three splines, a toned byte equal to the x of a point in the list that
 -- tones it comes out as that point's y."
@@ -156,7 +168,7 @@ pub through_points : (a : AcceptedCall) → (IsSpline (set_in a).kind → ⊥)
     → (p : Place) → TonedAt a p
     → (x y : ℕ) → Memᴰ (at_level x y) (list_that_tones a p) → input a p ≡ x → output a p ≡ y
 through_points a other p toned x y member =
-    Demand.through_points (run a) (not_refused a) (rw (same_kind a) other) p toned x y
+    through_level (run a) (not_refused a) (rw (same_kind a) other) p toned x y
     (rw (same_list a p) member)
 
 -- "Runs alike in their rows and chroma write the same bytes, whatever the padding holds and
@@ -165,17 +177,18 @@ pub rows_alone : (a b : AcceptedCall) → Share a b
     → Run.AlikeInRows (run a) (run b) → Run.AlikeInChroma (run a) (run b)
     → Run.WriteTheSame (run a) (run b)
 rows_alone a b share =
-    Demand.rows_alone (run a) (run b) (same_runs a b share) (not_refused a) (not_refused b)
+    same_bytes (run a) (run b) (same_runs a b share) (not_refused a) (not_refused b)
 
 -- "Alpha and chroma come out as they went in."
 pub passed_through : (a : AcceptedCall) → Run.PassedThrough (run a)
-passed_through a = Demand.passed_through (run a) (not_refused a)
+passed_through a =
+    passed_by (run a) (not_refused a) (alpha_copied (run a) (not_refused a))
 
 -- "Dithering would break this order and has no part in the work."
 pub no_dithering : (a b : AcceptedCall) → (set_in a).kind ≡ (set_in b).kind
     → (p q : Place) → TonedAt a p → TonedAt b q
     → list_that_tones a p ≡ list_that_tones b q → input a p ≡ input b q → output a p ≡ output b q
 no_dithering a b kind p q a-toned b-toned list =
-    Demand.no_dithering (run a) (run b) (not_refused a) (not_refused b)
+    by_input_alone (run a) (run b) (not_refused a) (not_refused b)
     (same_kind a ∙ kind ∙ sym (same_kind b)) p q a-toned b-toned
     (same_list a p ∙ list ∙ sym (same_list b q))

@@ -7,7 +7,7 @@ use Rattle.std.proofs.Math.Seq.{take-append_seam}
 use Rattle.lists.specs.Test.{by_test}
 use Rattle.pictures.specs.Runs.{PlaneOf, has_chroma, chroma}
 use Rattle.promises.specs.Words.{Call, Accepted, Share, IsYuv, Copied, written_chroma}
-use Rattle.promises.specs.RunFacts.{not_refused}
+use Rattle.promises.specs.RunFacts.{passed_checks, not_refused}
 
 -- past a list that was copied to the front of another
 front_rest : (l m : List ℕ) (k : ℕ) → length l ≤ k → get_or (l ++ drop (length l) m) k 0 ≡ get_or m k 0
@@ -15,6 +15,13 @@ front_rest l m k h =
     let past : length l + (k - length l) ≡ k = omega arith in
     rw past at (get_or-append-add l (drop (length l) m) (k - length l) 0)
     ∙ rw past at (get_or-drop (length l) m (k - length l) 0)
+
+-- each plane is in front of its output
+pub record WholeChroma (c : Call) : Type 0 where
+  pub cb : IsYuv c.given
+      → take (length c.given.lent.cb.bytes) c.after.cb ≡ c.given.lent.cb.bytes
+  pub cr : IsYuv c.given
+      → take (length c.given.lent.cr.bytes) c.after.cr ≡ c.given.lent.cr.bytes
 
 module _ (c : Call) (ok : Accepted c) where
   pub chroma_copied : (plane : PlaneOf) {before after : List ℕ} → IsYuv c.given
@@ -35,6 +42,16 @@ module _ (c : Call) (ok : Accepted c) where
   unfolding chroma
   chroma_stays plane other e =
       by_test (has_chroma c.given) (λ t. absurd (other t)) (λ t. rw (not_refused c ok, t) at e)
+
+  pub whole_chroma : WholeChroma c
+  whole_chroma =
+      let is = c.contract in
+      let lent = c.given.lent in
+      let room = (passed_checks c ok).chroma_room in
+      record {
+        cb = λ yuv. (chroma_copied lent.cb yuv is.cb (room yuv).0).whole;
+        cr = λ yuv. (chroma_copied lent.cr yuv is.cr (room yuv).1).whole;
+      }
 
 -- ---- two runs
 module _ (a b : Call) (share : Share a b) where

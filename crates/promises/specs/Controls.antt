@@ -47,7 +47,9 @@ use Rattle.promises.specs.Words.{
   AlikeInChroma,
   WriteTheSame,
 }
-use Rattle.promises.specs.Demand3.{through_points, passed_through}
+use Rattle.promises.specs.RunFacts.{alpha_copied}
+use Rattle.promises.specs.ChromaFacts.{whole_chroma}
+use Rattle.promises.specs.TonedFacts.{through_level}
 use Rattle.promises.specs.ControlsOfWords.{linear_is_no_spline}
 use Rattle.promises.specs.Pixels.{
   Toning,
@@ -214,9 +216,9 @@ order_wants_no_colour_to_fall order =
       arith,
       order a b share refl refl (refl, (lit≤ tt, tt))
           (λ p t. reddened_below (p.row * 3 + (p.column * 3 + p.channel))) here (red_toned 0),
-      through_points a refl linear_is_no_spline here (red_toned 0) 0 9
+      through_level a refl linear_is_no_spline here (red_toned 0) 0 9
           (Memᴰ.head refl) refl,
-      through_points b refl linear_is_no_spline here (red_toned 255) 255 0
+      through_level b refl linear_is_no_spline here (red_toned 255) 255 0
           (Memᴰ.tail (Memᴰ.head refl)) refl,
     )
 
@@ -412,8 +414,8 @@ rows_alone_wants_alpha claim =
     (record { cb = λ yuv. refl; cr = λ yuv. refl })).out in
     omega (
       arith,
-      (passed_through a refl).alpha alpha_here (alpha_within 1) (λ t. t.not_alpha refl),
-      (passed_through b refl).alpha alpha_here (alpha_within 2) (λ t. t.not_alpha refl),
+      alpha_copied a refl alpha_here (alpha_within 1) refl,
+      alpha_copied b refl alpha_here (alpha_within 2) refl,
       ap (λ (l : List ℕ). get_or l 3 0) same,
       get_or-take 4 a.after.first 3 0 (lit< tt),
       get_or-take 4 b.after.first 3 0 (lit< tt),
@@ -485,14 +487,14 @@ apart one two same = omega (arith, ap (λ (l : List ℕ). get_or l 0 0) (sym one
 pub rows_alone_wants_cb : RowsAloneUnder SameCr → ⊥
 unfolding answered
 rows_alone_wants_cb claim =
-    apart ((passed_through (ran_tinted 1 3) refl).cb refl)
-    ((passed_through (ran_tinted 2 3) refl).cb refl) (tinted_the_same SameCr 1 3 2 3 refl claim).cb
+    apart ((whole_chroma (ran_tinted 1 3) refl).cb refl)
+    ((whole_chroma (ran_tinted 2 3) refl).cb refl) (tinted_the_same SameCr 1 3 2 3 refl claim).cb
 
 pub rows_alone_wants_cr : RowsAloneUnder SameCb → ⊥
 unfolding answered
 rows_alone_wants_cr claim =
-    apart ((passed_through (ran_tinted 3 1) refl).cr refl)
-    ((passed_through (ran_tinted 3 2) refl).cr refl) (tinted_the_same SameCb 3 1 3 2 refl claim).cr
+    apart ((whole_chroma (ran_tinted 3 1) refl).cr refl)
+    ((whole_chroma (ran_tinted 3 2) refl).cr refl) (tinted_the_same SameCb 3 1 3 2 refl claim).cr
 
 -- it speaks of runs whose padding and row steps differ: rows 5 and 6, one after the other, and with
 -- two bytes of padding between; and of a format without chroma, whatever is in its place
@@ -567,8 +569,8 @@ no_flat_table t flat =
       arith,
       flat a refl here a-here,
       flat b refl here b_here,
-      through_points a refl linear_is_no_spline here a-here 0 0 (Memᴰ.head refl) refl,
-      through_points b refl linear_is_no_spline here b_here 255 255
+      through_level a refl linear_is_no_spline here a-here 0 0 (Memᴰ.head refl) refl,
+      through_level b refl linear_is_no_spline here b_here 255 255
           (Memᴰ.tail (Memᴰ.head refl)) refl,
     )
 
@@ -589,5 +591,5 @@ no_copy copied =
     omega (
       arith,
       copied a refl here a-here,
-      through_points a refl linear_is_no_spline here a-here 128 200 (Memᴰ.head refl) refl,
+      through_level a refl linear_is_no_spline here a-here 128 200 (Memᴰ.head refl) refl,
     )

@@ -38,7 +38,8 @@ use Rattle.promises.specs.Words.{
   written,
   WriteTheSame,
 }
-use Rattle.promises.specs.Demand3.{exact, through_points}
+use Rattle.promises.specs.RunFacts.{past_stays}
+use Rattle.promises.specs.TonedFacts.{through_level}
 use Rattle.promises.specs.ControlsOfWords.{linear_is_no_spline}
 use Rattle.promises.specs.Pixels.{stored_typed, own, linear, no_bytes, byte_at, ran_on, here}
 
@@ -106,7 +107,7 @@ grey_toned master step v = record {
 white_output : output white here ≡ 255
 unfolding answered
 white_output =
-    through_points white refl linear_is_no_spline here (grey_toned straight_curve 1 255)
+    through_level white refl linear_is_no_spline here (grey_toned straight_curve 1 255)
     255 255 (Memᴰ.tail (Memᴰ.head refl)) refl
 
 -- its only place
@@ -149,7 +150,7 @@ other_set = ran_pixel zeros zeros_typed Gray8 1 1 1 255 (lit< tt)
 other_set_output : output other_set here ≡ 0
 unfolding answered
 other_set_output =
-    through_points other_set refl linear_is_no_spline here (grey_toned zeros 1 255) 255 0
+    through_level other_set refl linear_is_no_spline here (grey_toned zeros 1 255) 255 0
     (Memᴰ.tail (Memᴰ.head refl)) refl
 
 abbrev other_format : Call
@@ -189,7 +190,7 @@ order_wants_one_format =
     (no_list_falls Rgb24 1 1 3 255) refl
     (omega (
       arith,
-      through_points other_format refl linear_is_no_spline here
+      through_level other_format refl linear_is_no_spline here
           (record {
             within = record { row = lit< tt; column = lit< tt; channel = lit< tt };
             not_alpha = λ e. omega (arith, e);
@@ -202,14 +203,14 @@ unfolding answered
 order_wants_one_width =
     sharing_refuted (λ a b. SameSet a b × SameFormat a b × SameHeight a b) no_columns
     (same_refl white.given.job.set, refl, refl) refl refl
-    (no_list_falls Gray8 0 1 1 255) refl (omega (arith, (exact no_columns refl).past 0 (lit≤ tt)))
+    (no_list_falls Gray8 0 1 1 255) refl (omega (arith, past_stays no_columns refl 0 (lit≤ tt)))
 
 pub order_wants_one_height : OrderSharing (λ a b. SameSet a b × SameFormat a b × SameWidth a b) → ⊥
 unfolding answered
 order_wants_one_height =
     sharing_refuted (λ a b. SameSet a b × SameFormat a b × SameWidth a b) no_rows
     (same_refl white.given.job.set, refl, refl) refl refl
-    (no_list_falls Gray8 1 0 1 255) refl (omega (arith, (exact no_rows refl).past 0 (lit≤ tt)))
+    (no_list_falls Gray8 1 0 1 255) refl (omega (arith, past_stays no_rows refl 0 (lit≤ tt)))
 
 -- ---- "neither of which the documents refuse": a row step of 0 is refused, and the output stays 9
 abbrev refused : (v : ℕ) → v < 256 → Call
@@ -253,7 +254,7 @@ order_wants_both_accepted = (
             (λ p t. rw (only_here straight_curve 0 0 p t) (lit≤ tt)) here
             (grey_toned straight_curve 0 0),
         refused_output 0 (lit< tt),
-        through_points black refl linear_is_no_spline here (grey_toned straight_curve 1 0) 0 0
+        through_level black refl linear_is_no_spline here (grey_toned straight_curve 1 0) 0 0
             (Memᴰ.head refl) refl,
       ),
   λ order.

@@ -1,10 +1,10 @@
 -- The words of the three demands, pinned from both sides: at its edge each has a computed case that
 -- it covers and one that it does not. So a word that is made to say less, or to ask for more, is
 -- refused here, whatever becomes of the proofs that meet it.
-use Rattle.std.specs.Prelude.{ℕ, zero, suc, ◌+◌, ◌*◌, ◌≤◌, ◌<◌, ◌≡◌, refl, ◌⊎◌, true, false, ◌||◌, List, [], ◌∷◌, eqb, ℤ, length, get_or}
-use Rattle.std.proofs.Common.{mul-pos, mul-le-mul_right, arith, sym, ap, ◌∙◌, inl, inr, ⊎_elim, lit<, lit≤}
+use Rattle.std.specs.Prelude.{ℕ, zero, suc, ◌+◌, ◌*◌, ◌≤◌, ◌<◌, ◌≡◌, refl, ◌⊎◌, true, false, List, [], ◌∷◌, eqb, ℤ, length, get_or}
+use Rattle.std.proofs.Common.{mul-pos, mul-le-mul_right, arith, ap, inl, inr, ⊎_elim, lit<, lit≤}
 use Rattle.std.proofs.Math.Decide.{dec_lt}
-use Rattle.std.proofs.lemmas.Bool.{false≢true}
+use Rattle.std.proofs.lemmas.Bool.{eqb-false}
 use Rattle.answers.specs.declared.Answer.TheVariants.{RecordTruncated, PointCount}
 use Rattle.answers.specs.Checks.{◌when◌}
 use Rattle.points.specs.declared.Point.{Point}
@@ -51,28 +51,28 @@ pub the_splines : (start end : ℤ)
     → IsSpline NaturalCubic × IsSpline (ClampedCubic start end) × IsSpline NotAKnotCubic
 the_splines start end = (inl refl, inr (inl refl), inr (inr refl))
 
--- a kind whose number is none of the three
-by_number : {n : ℕ} → eqb n 4 || eqb n 8 || eqb n 9 ≡ false → (n ≡ 4) ⊎ (n ≡ 8) ⊎ (n ≡ 9) → ⊥
-by_number e =
-    ⊎_elim (λ z. false≢true (sym e ∙ rw z))
-    (⊎_elim (λ z. false≢true (sym e ∙ rw z)) (λ z. false≢true (sym e ∙ rw z)))
+-- a kind whose number is none of the three: each pair of numbers that would say so differs
+by_number : {j k l m n o : ℕ} → eqb j k ≡ false → eqb l m ≡ false → eqb n o ≡ false
+    → (j ≡ k) ⊎ (l ≡ m) ⊎ (n ≡ o) → ⊥
+by_number {j} {k} {l} {m} {n} {o} e f g =
+    ⊎_elim (eqb-false j k e) (⊎_elim (eqb-false l m f) (eqb-false n o g))
 
 pub no_splines : (q : ℕ)
     → (IsSpline Linear → ⊥) × (IsSpline CatmullRom → ⊥) × (IsSpline MonotoneCubic → ⊥)
     × (IsSpline MonotoneCubicBox → ⊥) × (IsSpline CentripetalCatmullRom → ⊥)
     × (IsSpline ChordalCatmullRom → ⊥) × (IsSpline (Cardinal q) → ⊥)
 no_splines q = (
-  by_number refl,
-  by_number refl,
-  by_number refl,
-  by_number refl,
-  by_number refl,
-  by_number refl,
-  by_number refl,
+  by_number refl refl refl,
+  by_number refl refl refl,
+  by_number refl refl refl,
+  by_number refl refl refl,
+  by_number refl refl refl,
+  by_number refl refl refl,
+  by_number refl refl refl,
 )
 
 pub linear_is_no_spline : IsSpline Linear → ⊥
-linear_is_no_spline = (no_splines 0).0
+linear_is_no_spline = by_number refl refl refl
 
 -- ---- the broken line
 -- at a third only the nearer one is nearest; a half is `nearest_half` of Controls

@@ -24,7 +24,8 @@ use Rattle.sets.specs.declared.Curves.{Curves}
 use Rattle.sets.specs.Sets.{view_of, empty_view, curve_checks, set_checks, set_answer}
 use Rattle.records.specs.declared.RecordRead.{RecordRead}
 use Rattle.records.specs.Checks.{record_checks}
-use Rattle.records.specs.CheckLaws.{read_answer, read_empty}
+use Rattle.records.specs.CheckLaws.{read_empty}
+use Rattle.records.proofs.AnswerLaws.{read_answer}
 use Rattle.records.specs.Views.{ReadRecordCall}
 use Rattle.writing.specs.declared.Written.{Written}
 use Rattle.writing.specs.Encode.{write_checks}

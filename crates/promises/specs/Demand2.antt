@@ -4,6 +4,7 @@
 -- published curves, and records survive writing then reading. What a call gives with another
 -- number is the first demand's.
 use Rattle.std.specs.Prelude.{ℕ, ◌+◌, ◌≤◌, ◌<◌, ◌≡◌, true, List, [], ◌∷◌, ◌++◌, ℤ, length, take, drop, T, Float}
+use Rattle.std.proofs.Common.{arith}
 use Rattle.std.specs.Float.Ieee.Scale.{finite}
 use Rattle.lists.specs.Tabulate.{tabulate}
 use Rattle.answers.specs.declared.Answer.{Answer}
@@ -54,16 +55,19 @@ use Rattle.writing.specs.Statements.{WriteRecordCall}
 use Rattle.record_facts.specs.Found.{AllBytes}
 use Rattle.record_facts.specs.Canonical as Canonical
 use Rattle.record_facts.specs.Canonical.{leaves_two_out, has_writer_form, named_in_full}
-use Rattle.record_facts.specs.RoundTrip as RoundTrip
 use Rattle.record_facts.specs.NotLonger as NotLonger
 use Rattle.record_facts.specs.Runs as Writing
+use Rattle.record_facts.proofs.RoomLaws as RoomLaws
+use Rattle.record_facts.proofs.RoundTripLaws as RoundTripLaws
+use Rattle.record_facts.proofs.WriterFormLaws as WriterFormLaws
 use Rattle.formats.specs.declared.PixelFormat.{PixelFormat}
 use Rattle.pictures.specs.OneTable.{OneTableCall}
 use Rattle.promises.specs.Words.{Call, Accepted, ExactPicture}
 use Rattle.promises.specs.Results.{straightly, hermite_by, spline_by, ExactPlane}
 use Rattle.promises.specs.ResultFacts as Fact
 use Rattle.promises.specs.Drawn.{drawn}
-use Rattle.promises.specs.PictureFacts.{as_defined}
+use Rattle.promises.specs.RunFacts.{output_holds, tight_entry, alpha_copied}
+use Rattle.promises.specs.PictureFacts.{defined_by}
 
 -- ---- "tables"
 -- `Curve::new`: the kept points
@@ -103,11 +107,20 @@ pub apply_tone_lut :
     {format : PixelFormat} {width height step : ℕ} {table old new : List ℕ} {r : Answer}
     → OneTableCall format width height step table old r new → number_of r ≡ 0
     → ExactPlane format width height step table old new
-apply_tone_lut = Fact.apply_tone_lut_tones
+apply_tone_lut call zero =
+    record {
+      plane_is = Fact.plane_is call zero;
+      toned = λ y x j below left channel other.
+          Fact.byte_toned call zero y x j (omega arith) left channel other;
+      alpha = Fact.alpha_stays call zero;
+      padding = Fact.beside_stays call zero;
+      long = Fact.plane_long call zero;
+    }
 
 -- `apply_pixels`
 pub apply_pixels : (a : Call) → Accepted a → ExactPicture a
-apply_pixels = as_defined
+apply_pixels a ok =
+    defined_by a ok (output_holds a ok) (tight_entry a ok) (alpha_copied a ok)
 
 -- ---- "The port is also proved equal to definitions of the published curves in single precision"
 -- sample v of S of the curve of the list l, kind by kind
@@ -177,13 +190,13 @@ write_record_lem = Fact.write_record_writes
 pub written_then_read : {set : Curves} {old new : List ℕ} {w : Written} {r : RecordRead}
     → WriteRecordCall set old w new → w.answer ≡ Done
     → ReadRecordCall (take w.length new) r → (r.answer ≡ Done) × Same r.set set
-written_then_read = Writing.written_then_read
+written_then_read = RoundTripLaws.written_then_read
 
 -- on the definitions: the record of every set that passes its check, with a tension of a byte or
 -- slopes of 16 bits, is read as that set
 pub round_trip : (v : View) → Legal Whole v → LegalKind v.kind
     → read_record (encode v) ≡ record { answer = Done; set = v }
-round_trip = RoundTrip.round_trip
+round_trip = RoundTripLaws.round_trip
 
 -- and a set that was read can be written: its record is not longer than the one it was read from,
 -- but for a byte where that one leaves kind 2 out, the writer refuses it for want of room alone ..
@@ -207,7 +220,7 @@ accepted_fits = Writing.accepted_fits
 pub always_fits : {set : Curves} {old new : List ℕ} {w : Written} → WriteRecordCall set old w new
     → 522 ≤ length old
     → (w.answer ≡ set_answer Whole set) × (w.answer ≡ OutputTooSmall → ⊥)
-always_fits = Writing.always_fits
+always_fits = RoomLaws.always_fits
 
 -- records are canonical: the same sets are written as the same bytes ..
 pub same_bytes : {a b : Curves} {old newA new_b : List ℕ} {w x : Written} → Same a b
@@ -225,4 +238,4 @@ pub returned : (s : List ℕ) {old new : List ℕ} {r : RecordRead} {w : Written
     → ReadRecordCall s r → r.answer ≡ Done
     → has_writer_form s ≡ true → WriteRecordCall r.set old w new → w.answer ≡ Done
     → (w.length ≡ length s) × (take w.length new ≡ s)
-returned = Writing.returned
+returned = WriterFormLaws.returned

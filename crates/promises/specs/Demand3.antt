@@ -5,10 +5,8 @@
 -- is a level here. What document 02's U9 says of other heights is Request9's; the order asks
 -- nothing of heights.
 use Rattle.std.specs.Prelude.{ℕ, ◌≤◌, ◌≡◌, get_or}
-use Rattle.std.proofs.Common.{◌∙◌}
 use mathlib.Core.List.{Memᴰ}
 use Rattle.points.specs.Points.{at_level}
-use Rattle.points.specs.HeightLaws.{rounded_level}
 use Rattle.points.specs.Knots.{OnLine}
 use Rattle.promises.specs.Words.{
   Call,
@@ -33,11 +31,12 @@ use Rattle.promises.specs.Words.{
   AlikeInChroma,
   WriteTheSame,
 }
-use Rattle.promises.specs.PictureFacts.{as_defined, alpha_and_chroma}
+use Rattle.promises.specs.RunFacts.{output_holds, tight_entry, alpha_copied}
+use Rattle.promises.specs.PictureFacts.{defined_by, passed_by}
 use Rattle.promises.specs.TonedFacts.{
   has_line,
   toned_nearest,
-  through_point,
+  through_level,
   by_input_alone,
   in_order,
 }
@@ -45,7 +44,7 @@ use Rattle.promises.specs.RowFacts.{same_bytes, alike_but_padding}
 
 -- "each gives exactly the picture they define."
 pub exact : (a : Call) → Accepted a → ExactPicture a
-exact = as_defined
+exact a ok = defined_by a ok (output_holds a ok) (tight_entry a ok) (alpha_copied a ok)
 
 -- "If the kind is Linear, no list in the set has a point lower than the one before it,
 -- and no toned input byte of A is above B's at the same place, then no toned output byte
@@ -74,8 +73,7 @@ pub through_points : (a : Call) → Accepted a → (IsSpline (kind_in a.given) �
     → TonedAt a.given p
     → (x y : ℕ) → Memᴰ (at_level x y) (list_that_tones a.given p) → input a p ≡ x
     → output a p ≡ y
-through_points a ok other p toned x y member here =
-    through_point a ok other p toned (at_level x y) member here ∙ rounded_level y
+through_points = through_level
 
 -- "Runs alike in their rows and chroma write the same bytes, whatever the padding holds and
 -- whatever the row steps are."
@@ -93,7 +91,7 @@ padding_apart = alike_but_padding
 
 -- "Alpha and chroma come out as they went in."
 pub passed_through : (a : Call) → Accepted a → PassedThrough a
-passed_through = alpha_and_chroma
+passed_through a ok = passed_by a ok (alpha_copied a ok)
 
 -- "Dithering would break this order and has no part in the work": a toned output byte is a matter
 -- of the kind, the list that tones it and its input byte alone. a and b may be one run, at two

@@ -29,12 +29,14 @@ use Rattle.promises.specs.Words.{
   WriteTheSame,
 }
 use Rattle.promises.specs.Results.{byte_index, ExactPlane}
-use Rattle.promises.specs.PlaceFacts.{split_index, place_of}
+use Rattle.promises.specs.PlaceFacts.{split_index, place_at}
 
 -- ---- a chroma output
-pub one_copy : {plane before a b : List ℕ} → Copied plane before a → Copied plane before b → a ≡ b
-one_copy {plane} {before} {a} {b} c d =
-    ext_get_or 0 a b (c.long ∙ sym d.long)
+-- by the plane in front and what is behind it, where it keeps its length
+one_list : {plane before a b : List ℕ} → Copied plane before a → Copied plane before b
+    → length a ≡ length b → a ≡ b
+one_list {plane} {before} {a} {b} c d long =
+    ext_get_or 0 a b long
     (λ k h. elim (dec_lt k (length plane)) [
       | yes front ↦
           sym (get_or-take (length plane) a k 0 front)
@@ -42,6 +44,9 @@ one_copy {plane} {before} {a} {b} c d =
           ∙ get_or-take (length plane) b k 0 front
       | no behind ↦ c.past k (omega arith) ∙ sym (d.past k (omega arith))
     ])
+
+pub one_copy : {plane before a b : List ℕ} → Copied plane before a → Copied plane before b → a ≡ b
+one_copy c d = one_list c d (c.long ∙ sym d.long)
 
 -- the byte of a run's plane at a place
 abbrev input_of : Run → Place → ℕ
@@ -72,7 +77,7 @@ module _ (a b : Call) (same : a.given ≡ b.given) (c : ExactPicture a) (d : Exa
       (c.long ∙ ap (λ (r : Run). length r.lent.outputs.first) same ∙ sym d.long)
       (λ k h. elim (dec_lt k (size a.given)) [
         | yes inside ↦
-            let place = place_of a.given k inside in
+            let place = place_at a.given k inside in
             one_index place.0 k place.1 place.2
         | no past ↦
             c.past k (omega arith) ∙ ap (λ (r : Run). get_or r.lent.outputs.first k 0) same
@@ -82,9 +87,13 @@ module _ (a b : Call) (same : a.given ≡ b.given) (c : ExactPicture a) (d : Exa
   pub one_chroma : (a.after.cb ≡ b.after.cb) × (a.after.cr ≡ b.after.cr)
   one_chroma =
       by_test (has_chroma a.given)
-      (λ t. (
-        one_copy (c.cb t) (rw same (d.cb (rw (← same) t))),
-        one_copy (c.cr t) (rw same (d.cr (rw (← same) t))),
+      (λ t.
+      let b-cb : Copied a.given.lent.cb.bytes a.given.lent.outputs.cb b.after.cb =
+      rw same (d.cb (rw (← same) t)) in
+      let b-cr : Copied a.given.lent.cr.bytes a.given.lent.outputs.cr b.after.cr =
+      rw same (d.cr (rw (← same) t)) in (
+        one_list (c.cb t) b-cb ((c.cb t).long ∙ sym b-cb.long),
+        one_list (c.cr t) b-cr ((c.cr t).long ∙ sym b-cr.long),
       ))
       (λ t.
       let a-none : IsYuv a.given → ⊥ = λ u. false≢true (sym t ∙ u) in

@@ -10,7 +10,7 @@ use Rattle.single.specs.Constants.{𝟎}
 use Rattle.single.specs.Rules.{clamped}
 use Rattle.points.specs.declared.Point.{Point}
 use Rattle.points.specs.Points.{kept}
-use Rattle.points.specs.Knots.{knots, at}
+use Rattle.points.specs.Knots.{at}
 use Rattle.points.specs.Shape.{knots_two}
 use Rattle.segments.specs.Segments.{seek, segment}
 use Rattle.sampling.specs.Pieces.{piece_height, height_at, sampled}

@@ -17,9 +17,9 @@
 -- P1 to P12 are a table of their own, Marked of the crate `examples`.
 -- Proofs of the second demand: Drawn, ResultFacts. Of the third, in this order: PlaceFacts, the
 -- places of a picture; ListFacts, the list that tones a byte; RunFacts, what a run that is not
--- refused has at each place; ChromaFacts, its chroma outputs; PictureFacts, its whole picture;
--- ShareFacts, what two runs have in common; TonedFacts and RowFacts, the clauses on toned bytes and
--- on rows alone.
+-- refused has at each place; LegalFacts, the lists that tone it; ChromaFacts, its chroma outputs;
+-- PictureFacts, its whole picture; ShareFacts, what two runs have in common; TonedFacts and
+-- RowFacts, the clauses on toned bytes and on rows alone.
 pub mod Checks
 pub mod Demand1
 pub mod Boundary
@@ -27,6 +27,7 @@ pub mod Words
 pub mod PlaceFacts
 pub mod ListFacts
 pub mod RunFacts
+pub mod LegalFacts
 pub mod ChromaFacts
 pub mod PictureFacts
 pub mod ShareFacts

@@ -1,26 +1,42 @@
 -- The whole picture of a run that is not refused, in the words of the demands: it is as defined,
--- and alpha and chroma come out as they went in.
+-- and alpha and chroma come out as they went in, where each place of the output has what RunFacts
+-- says. The pages put the two together.
+use Rattle.std.specs.Prelude.{◌<◌, ◌≡◌, length}
 use Rattle.std.proofs.Math.Decide.{ℕ_discrete}
 use Rattle.std.proofs.Common.{◌∙◌}
-use Rattle.lists.specs.Tabulate.{get_d_filled_rest}
+use Rattle.tables.specs.Tables.{entry_of}
 use Rattle.formats.specs.Formats.{alpha_of}
-use Rattle.pictures.specs.Runs.{size}
-use Rattle.promises.specs.Words.{Call, Accepted, ExactPicture, PassedThrough}
+use Rattle.promises.specs.Words.{
+  Call,
+  Accepted,
+  Place,
+  Within,
+  in_output,
+  input,
+  output,
+  IsAlpha,
+  TonedAt,
+  list_that_tones,
+  kind_in,
+  ExactPicture,
+  PassedThrough,
+}
 use Rattle.promises.specs.RunFacts.{
   passed_checks,
   not_refused,
-  out_filled,
+  past_stays,
   plane_holds,
   out_long,
-  output_holds,
-  toned_entry,
-  alpha_copied,
 }
-use Rattle.promises.specs.ChromaFacts.{chroma_copied, chroma_stays}
+use Rattle.promises.specs.ChromaFacts.{chroma_copied, chroma_stays, whole_chroma}
 
 module _ (c : Call) (ok : Accepted c) where
-  pub as_defined : ExactPicture c
-  as_defined =
+  pub defined_by : ((p : Place) → Within c.given p → in_output c.given p < length c.after.first)
+      → ((p : Place) → TonedAt c.given p
+      → output c p ≡ entry_of (kind_in c.given) (list_that_tones c.given p) (input c p))
+      → ((p : Place) → Within c.given p → IsAlpha c.given p → output c p ≡ input c p)
+      → ExactPicture c
+  defined_by holds toned copied =
       let is = c.contract in
       let lent = c.given.lent in
       let passed = passed_checks c ok in
@@ -31,12 +47,10 @@ module _ (c : Call) (ok : Accepted c) where
         cb_is = is.cb;
         cr_is = is.cr;
         in_plane_lem = plane_holds c ok;
-        in_output_lem = output_holds c ok;
-        toned = toned_entry c ok;
-        alpha = alpha_copied c ok;
-        past = λ k h.
-            rw (out_filled c ok)
-            (get_d_filled_rest (size c.given) _ lent.outputs.first k 0 h);
+        in_output_lem = holds;
+        toned = toned;
+        alpha = copied;
+        past = past_stays c ok;
         long = out_long c ok;
         cb = λ yuv. chroma_copied c ok lent.cb yuv is.cb (passed.chroma_room yuv).0;
         cr = λ yuv. chroma_copied c ok lent.cr yuv is.cr (passed.chroma_room yuv).1;
@@ -44,14 +58,16 @@ module _ (c : Call) (ok : Accepted c) where
         other_cr = λ other. chroma_stays c ok lent.cr other is.cr;
       }
 
-  pub alpha_and_chroma : PassedThrough c
-  alpha_and_chroma = record {
+  pub passed_by :
+      ((p : Place) → Within c.given p → IsAlpha c.given p → output c p ≡ input c p)
+      → PassedThrough c
+  passed_by copied = record {
     alpha = λ p w not-toned. elim (ℕ_discrete p.channel (alpha_of c.given.job.format)) [
-      | yes alpha ↦ alpha_copied c ok p w alpha
+      | yes alpha ↦ copied p w alpha
       | no other ↦ absurd (not-toned (record { within = w; not_alpha = other }))
     ];
-    cb = λ yuv. (as_defined.cb yuv).whole;
-    cr = λ yuv. (as_defined.cr yuv).whole;
+    cb = (whole_chroma c ok).cb;
+    cr = (whole_chroma c ok).cr;
     cb_step = λ yuv. rw (not_refused c ok, yuv) at c.contract.cb_step;
     cr_step = λ yuv. rw (not_refused c ok, yuv) at c.contract.cr_step;
   }

@@ -29,7 +29,7 @@ use Rattle.pictures.specs.Runs.{
   step_of,
 }
 use Rattle.promises.specs.Words.{Call, Accepted, Share, Place, TonedAt, input, output}
-use Rattle.promises.specs.Demand3.{exact}
+use Rattle.promises.specs.RunFacts.{tight_entry}
 
 -- a list and a kind, as the types have them
 pub record Toning : Type 0 where
@@ -186,5 +186,5 @@ module _ (s : Toning) (v : ℕ) (byte : v < 256) where
   pub grey_output : Accepted (ran_grey s v byte)
       → output (ran_grey s v byte) here ≡ entry_of s.kind s.list v
   grey_output ok =
-      (exact (ran_grey s v byte) ok).toned here (grey_toned s v)
+      tight_entry (ran_grey s v byte) ok here (grey_toned s v)
       ∙ rw (joined_back s.list 0, take-length s.list)

@@ -5,7 +5,8 @@
 use Rattle.std.specs.Prelude.{ℕ, ◌+◌, ◌<◌, ◌≡◌, true, false, cond, not, List, ◌∷◌, eqb, get_or}
 use Rattle.std.proofs.Common.{sym, ap, ◌∙◌}
 use Rattle.answers.specs.declared.Answer.TheVariants.{Done}
-use Rattle.answers.specs.Numbers.{is_done, never_one}
+use Rattle.answers.specs.Numbers.{is_done}
+use Rattle.answers.proofs.NumberLaws.{never_one}
 use Rattle.answers.specs.Checks.{Check, first_refusal}
 use Rattle.points.specs.declared.Curve.{Curve}
 use Rattle.tables.specs.declared.CurveInterpolation.TheVariants.{MonotoneCubic, MonotoneCubicBox}

@@ -3,10 +3,11 @@
 -- these Demand3 has the mission's own words. "With others, demand 3's order still holds under its
 -- premises": `order` of Demand3 asks nothing of heights.
 use Rattle.std.specs.Prelude.{ℕ, ◌<◌, ◌≡◌, length}
-use Rattle.std.proofs.Common.{ap}
+use Rattle.std.proofs.Common.{arith, ap}
 use mathlib.Core.List.{List, [], ◌∷◌, Memᴰ}
 use Rattle.answers.specs.declared.Answer.TheVariants.{Done, HeightRange}
-use Rattle.answers.specs.Numbers.{number_of, number_unique}
+use Rattle.answers.specs.Numbers.{number_of}
+use Rattle.answers.proofs.NumberLaws.{number_unique}
 use Rattle.answers.specs.Checks.{first_refusal, room_check}
 use Rattle.floats.specs.Value.{Is}
 use Rattle.single.specs.Rules.{float}
@@ -59,7 +60,8 @@ level_as_before = Rows.height_of_level
 pub near : (a : Call) → Accepted a → IsLinear a.given → (p : Place) → TonedAt a.given p
     → (n d : ℕ) → OnLine (list_that_tones a.given p) (input a p) n d
     → NearlyNearest n d (output a p)
-near = toned_nearly
+near a ok linear p toned n d on =
+    let h = toned_nearly a ok linear p toned n d on in (omega (arith, h.0), omega (arith, h.1))
 
 -- ---- "at a kept x the byte is its height rounded, a half upward, under the seven kinds"
 -- the lists of a run that is not refused rise in x, so that all their points are kept

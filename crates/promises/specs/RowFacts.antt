@@ -1,6 +1,6 @@
 -- Runs alike in their rows and chroma write the same bytes, and planes of one row step that differ
 -- in their padding alone are alike in their rows: no place is padding.
-use Rattle.std.specs.Prelude.{ℕ, ◌<◌, ◌≡◌, get_or}
+use Rattle.std.specs.Prelude.{ℕ, ◌+◌, ◌*◌, ◌<◌, ◌≡◌, get_or}
 use Rattle.std.proofs.Common.{arith, sym, ap, ◌∙◌, get_or-take, ext_get_or, lt-ltb}
 use Rattle.std.proofs.lemmas.Bool.{false≢true}
 use Rattle.sets.specs.Sets.{View}
@@ -20,19 +20,16 @@ use Rattle.promises.specs.Words.{
   Within,
   along,
   in_plane,
-  in_output,
   input,
-  output,
   IsPadding,
   AlikeInRows,
   AlikeInChroma,
   written,
   WriteTheSame,
 }
-use Rattle.promises.specs.PlaceFacts.{place_of, along_row}
-use Rattle.promises.specs.RunFacts.{at_place, written_long}
-use Rattle.promises.specs.ChromaFacts.{same_chroma}
-use Rattle.promises.specs.PictureFacts.{alpha_and_chroma}
+use Rattle.promises.specs.PlaceFacts.{place_at, along_row}
+use Rattle.promises.specs.RunFacts.{tight, at_place, written_long}
+use Rattle.promises.specs.ChromaFacts.{same_chroma, whole_chroma}
 use Rattle.promises.specs.ShareFacts.{same_size, same_place}
 
 toned_alike : {f g : PixelFormat} {v w : View} {x y : ℕ} (j : ℕ) → f ≡ g → v ≡ w → x ≡ y
@@ -44,7 +41,7 @@ toned_alike {g = g} {v = v} {w = w} {x = x} j format view e =
 
 module _ (a b : Call) (share : Share a b) (a-ok : Accepted a) (b-ok : Accepted b) where
   -- the same byte in, the same byte out
-  same_byte : (p : Place) → Within a.given p → input a p ≡ input b p → output a p ≡ output b p
+  same_byte : (p : Place) → Within a.given p → input a p ≡ input b p → tight a p ≡ tight b p
   same_byte p w e =
       at_place a a-ok p w
       ∙ toned_alike p.channel share.format
@@ -52,11 +49,13 @@ module _ (a b : Call) (share : Share a b) (a-ok : Accepted a) (b-ok : Accepted b
       ∙ sym (at_place b b-ok p (same_place a b share p w))
 
   -- index k of the tight rows is a place's in both
-  same_at : (p : Place) (k : ℕ) → Within a.given p → in_output a.given p ≡ k
+  same_at : (p : Place) (k : ℕ) → Within a.given p
+      → p.row * row_bytes a.given + along a.given p ≡ k
       → input a p ≡ input b p
       → get_or a.after.first k 0 ≡ get_or b.after.first k 0
   same_at p k w index e =
-      let b-index : in_output b.given p ≡ k = rw (← share.format, ← share.width) index in
+      let b-index : p.row * row_bytes b.given + along b.given p ≡ k =
+      rw (← share.format, ← share.width) index in
       rw index at (same_byte p w e) ∙ rw b-index
 
   same_rows : AlikeInRows a b → written a ≡ written b
@@ -65,15 +64,15 @@ module _ (a b : Call) (share : Share a b) (a-ok : Accepted a) (b-ok : Accepted b
       let long = written_long a a-ok in
       ext_get_or 0 (written a) (written b) (long ∙ same ∙ sym (written_long b b-ok))
       (λ k h.
-      let place = place_of a.given k (omega arith) in
+      let place = place_at a.given k (omega arith) in
       get_or-take (size a.given) a.after.first k 0 (omega arith)
       ∙ same_at place.0 k place.1 place.2 (alike place.0 place.1)
       ∙ sym (get_or-take (size b.given) b.after.first k 0 (omega arith)))
 
   pub same_bytes : AlikeInRows a b → AlikeInChroma a b → WriteTheSame a b
   same_bytes rows alike =
-      let a-passed = alpha_and_chroma a a-ok in
-      let b-passed = alpha_and_chroma b b-ok in
+      let a-passed = whole_chroma a a-ok in
+      let b-passed = whole_chroma b b-ok in
       record {
         out = same_rows rows;
         cb =

@@ -1,8 +1,12 @@
 -- What is at each place of the first output of a run that is not refused, how long that output is,
 -- and that each place lies in the plane and in the output.
-use Rattle.std.specs.Prelude.{ℕ, ◌<◌, ◌≡◌, true, List, length}
+-- It is said in the terms of the definitions that the contract names. Where a word of Words says
+-- the same, as `output` and `list_that_tones` do, the pages that speak by it put the two together,
+-- and `toned_entry` here, so that a word that says another thing is refused where it is used.
+use Rattle.std.specs.Prelude.{ℕ, ◌+◌, ◌*◌, ◌≤◌, ◌<◌, ◌≡◌, true, List, length, get_or}
 use Rattle.std.proofs.Common.{arith, ◌∙◌, length-take-le}
-use Rattle.lists.specs.Tabulate.{filled, length_filled}
+use Rattle.lists.specs.Tabulate.{filled, length_filled, get_d_filled_rest}
+use Rattle.points.specs.declared.Point.{Point}
 use Rattle.tables.specs.Tables.{entry_of}
 use Rattle.sets.specs.Sets.{view_of}
 use Rattle.rows.specs.Bytes.{toned, row_byte}
@@ -10,15 +14,15 @@ use Rattle.rows.specs.Rows.{tight_byte}
 use Rattle.rows.specs.Places.{mul_room}
 use Rattle.rows.specs.Laws.{toned_through, toned_kept, rows_inside, tight_pixel}
 use Rattle.formats.specs.Formats.{bytes_a_pixel, alpha_of}
-use Rattle.pictures.specs.Runs.{Run, row_bytes, size, accepted, tables_of, first}
+use Rattle.pictures.specs.Runs.{Run, row_bytes, size, accepted, tables_of, toned_by, first}
 use Rattle.pictures.specs.RunLaws as Checked
 use Rattle.promises.specs.Words.{
   Call,
   Accepted,
   Place,
   Within,
+  along,
   in_plane,
-  in_output,
   input,
   output,
   IsAlpha,
@@ -33,6 +37,14 @@ use Rattle.promises.specs.PlaceFacts.{along_row}
 -- the tables of a run by channel
 abbrev tables_in : Run → ℕ → List ℕ
 tables_in r = tables_of r.job.format (view_of r.job.set)
+
+-- the list that tones channel j
+abbrev pub toning : Run → ℕ → List Point
+toning r j = toned_by r.job.format (view_of r.job.set) j
+
+-- a place's byte in the tight rows
+abbrev pub tight : Call → Place → ℕ
+tight c p = get_or c.after.first (p.row * row_bytes c.given + along c.given p) 0
 
 module _ (c : Call) where
   pub input_byte : (p : Place) → input c p < 256
@@ -56,7 +68,7 @@ module _ (c : Call) (ok : Accepted c) where
 
   -- what is at a place
   pub at_place : (p : Place) → Within c.given p
-      → output c p
+      → tight c p
       ≡ toned (alpha_of c.given.job.format) (tables_in c.given) p.channel (input c p)
   at_place p w =
       let r = c.given in
@@ -83,7 +95,7 @@ module _ (c : Call) (ok : Accepted c) where
       (length_filled (size c.given) _ c.given.lent.outputs.first passed_checks.room)
 
   pub output_holds : (p : Place) → Within c.given p
-      → in_output c.given p < length c.after.first
+      → p.row * row_bytes c.given + along c.given p < length c.after.first
   output_holds p w =
       omega (
         arith,
@@ -94,9 +106,9 @@ module _ (c : Call) (ok : Accepted c) where
       )
 
   -- a toned byte is its entry in the table of the list that tones it; alpha is copied
-  pub toned_entry : (p : Place) → TonedAt c.given p
-      → output c p ≡ entry_of (kind_in c.given) (list_that_tones c.given p) (input c p)
-  toned_entry p t =
+  pub tight_entry : (p : Place) → TonedAt c.given p
+      → tight c p ≡ entry_of (kind_in c.given) (toning c.given p.channel) (input c p)
+  tight_entry p t =
       let r = c.given in
       at_place p t.within
       ∙ toned_through (alpha_of r.job.format) p.channel (tables_in r) (input c p)
@@ -104,12 +116,23 @@ module _ (c : Call) (ok : Accepted c) where
       ∙ toning_table r.job.format (view_of r.job.set) p.channel (input c p)
       (input_byte c p)
 
+  -- the same in the words of the demands. Nothing rests on this
+  pub toned_entry : (p : Place) → TonedAt c.given p
+      → output c p ≡ entry_of (kind_in c.given) (list_that_tones c.given p) (input c p)
+  toned_entry = tight_entry
+
   pub alpha_copied : (p : Place) → Within c.given p → IsAlpha c.given p
-      → output c p ≡ input c p
+      → tight c p ≡ input c p
   alpha_copied p w alpha =
       let r = c.given in
       at_place p w
       ∙ toned_kept (alpha_of r.job.format) p.channel (tables_in r) (input c p) alpha
+
+  -- past the rows it stays
+  pub past_stays : (k : ℕ) → size c.given ≤ k
+      → get_or c.after.first k 0 ≡ get_or c.given.lent.outputs.first k 0
+  past_stays k h =
+      rw out_filled (get_d_filled_rest (size c.given) _ c.given.lent.outputs.first k 0 h)
 
   pub written_long : length (written c) ≡ size c.given
   written_long =

@@ -1,9 +1,10 @@
 -- What two runs that share one set, format and size have in common: their size, their places, where
 -- a byte is toned, and the list that tones it.
-use Rattle.std.specs.Prelude.{◌≡◌}
+use Rattle.std.specs.Prelude.{ℕ, ◌≡◌}
 use Rattle.sets.specs.SameLaws.{same_view}
 use Rattle.pictures.specs.Runs.{size}
-use Rattle.promises.specs.Words.{Call, Share, Place, Within, TonedAt, list_that_tones}
+use Rattle.promises.specs.Words.{Call, Share, Place, Within, TonedAt}
+use Rattle.promises.specs.RunFacts.{toning}
 
 module _ (a b : Call) (share : Share a b) where
   pub same_size : size a.given ≡ size b.given
@@ -24,5 +25,5 @@ module _ (a b : Call) (share : Share a b) where
         not_alpha = λ alpha. t.not_alpha (rw share.format alpha);
       }
 
-  pub same_list : (p : Place) → list_that_tones a.given p ≡ list_that_tones b.given p
-  same_list p = rw (share.format, same_view a.given.job.set b.given.job.set share.set)
+  pub same_list : (j : ℕ) → toning a.given j ≡ toning b.given j
+  same_list j = rw (share.format, same_view a.given.job.set b.given.job.set share.set)

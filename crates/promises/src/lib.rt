@@ -1,1 +1,2 @@
 // What is promised of the engine is in specs/: no code.
+#![tactic(auto)]

@@ -49,10 +49,11 @@ not_a_knot_at_142 = refl
 pub through_points_wants_no_spline :
     ((l : List Point) → All Proper l → (k : CurveInterpolation) (p : Point) → Memᴰ p (kept l)
     → entry_of k l p.x ≡ rounded p.y) → ⊥
-unfolding kept kept_below first_at
+unfolding sample entry_of byte_of
 through_points_wants_no_spline through =
     let at-142 = through peak peak_proper NotAKnotCubic (at_level 142 0) (Memᴰ.head refl) in
-    omega (arith, not_a_knot_at_142)
+    let missed : entry_of NotAKnotCubic peak 142 ≡ 1 = refl in
+    omega (arith, missed)
 
 -- a slope of 2 ^ 200 / 256
 pub steep_at_1 : sample_of (ClampedCubic (pos (2 ^ 200)) (pos 0)) [] 256 1 ≡ nan

@@ -34,7 +34,7 @@ use Rattle.table_facts.specs.Sizes.{plus, minus, times, divided}
 use Rattle.table_facts.specs.SlopeBounds.{slope_within}
 use Rattle.table_facts.specs.ThomasBounds.{Steady, Bounded, InnerRow, steady_bounded}
 use Rattle.table_facts.specs.ThomasBounds.{inner_first, inner_next, clamped_first_lem}
-use Rattle.table_facts.specs.ThomasBounds.{clamped_last_lem, free_first, free_last, solution_most}
+use Rattle.table_facts.specs.ThomasBounds.{clamped_last_lem, free_first, free_over, solution_most}
 
 -- ---- from exact values
 -- p / c, p being at least b
@@ -125,7 +125,7 @@ module _ {p q : Segment} {u v : ℕ} (y : Sized p u) (z : Sized q v) where
 
   free_ends : {s : Swept} (k : ℕ) → Steady s → Bounded (sweep (suc k) s (not_a_knot_last p q))
   free_ends k s =
-      free_last k _ y.some y.byte z.some z.byte
+      free_over k _ y.some y.byte z.some z.byte (omega arith) (omega arith)
       (apart_most _ _ u v y.byte z.byte y.width z.width)
       (free_diagonal _ _ (2 * u) v (omega arith) (omega arith) (double_is y) z.width) 𝟎-is
       (free_right (width_within y)) s

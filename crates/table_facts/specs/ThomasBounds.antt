@@ -226,17 +226,25 @@ free_first {h} {g} r s H h< G g< b c d =
     first_most o r s (lit≤ tt) b c d
     (free_most h g e f i (2 ^ 26) (omega arith) (le_trans near (mul-le-mul_left f many)) o.most)
 
+-- the last row, where v is more than the sum of both widths, and less than a byte more
+pub free_over : {h g v : ℕ} (k : ℕ) {s : Swept} (r : Row) → 0 < h → h < 256 → 0 < g → g < 256
+    → h + g < v → v < h + g + 256
+    → AtMost ((h - g + (g - h)) * (h + g)) 1 r.a → Is r.b ((h + g) * v) 0 1
+    → Is r.c 0 0 1 → AtMost (2 ^ 41) 1 r.d → Steady s → Bounded (sweep (suc k) s r)
+free_over {h} {g} {v} k r H h< G g< over near a b c d i =
+    let w = h + g in
+    let e = h - g + (g - h) in
+    let less : e < v = omega arith in
+    let pivot : 2 + e * w ≤ w * v = omega (arith, mul-le-mul_right w less) in
+    let size = diagonal w v (omega arith) (omega arith) (omega arith) (omega arith) in
+    let side : e * w ≤ 129540 = mul-le-mul {n₂ = 254} {m₂ = 510} (omega arith) (omega arith) in
+    last_most 1 k r (lit≤ tt) i a b c d pivot (omega arith) (omega arith)
+
+-- v as it is in the last row: twice the one width and the other. Nothing rests on this
 pub free_last : {h g : ℕ} (k : ℕ) {s : Swept} (r : Row) → 0 < h → h < 256 → 0 < g → g < 256
     → AtMost ((h - g + (g - h)) * (h + g)) 1 r.a → Is r.b ((h + g) * (2 * h + g)) 0 1
     → Is r.c 0 0 1 → AtMost (2 ^ 41) 1 r.d → Steady s → Bounded (sweep (suc k) s r)
-free_last {h} {g} k r H h< G g< a b c d i =
-    let w = h + g in
-    let e = h - g + (g - h) in
-    let less : e < 2 * h + g = omega arith in
-    let pivot : 2 + e * w ≤ w * (2 * h + g) = omega (arith, mul-le-mul_right w less) in
-    let size = diagonal w (2 * h + g) (omega arith) (omega arith) (omega arith) (omega arith) in
-    let side : e * w ≤ 129540 = mul-le-mul {n₂ = 254} {m₂ = 510} (omega arith) (omega arith) in
-    last_most 1 k r (lit≤ tt) i a b c d pivot (omega arith) (omega arith)
+free_last k r H h< G g< = free_over k r H h< G g< (omega arith) (omega arith)
 
 -- ---- back substitution adds at most 2 ^ 58 for each unknown
 module _ (s : ℕ → Swept) (m : ℕ) (few : m ≤ 256) (all : (k : ℕ) → k < m → Bounded (s k)) where

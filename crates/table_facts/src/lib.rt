@@ -1,1 +1,2 @@
 // Theorems about the tables of a given list are in specs/: no code.
+#![tactic(auto)]

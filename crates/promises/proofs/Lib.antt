@@ -1,0 +1,2 @@
+-- the facts below the pages, in the pages' words
+pub mod FactsInWords
