@@ -15,7 +15,6 @@ import re
 import sys
 
 ROOT = pathlib.Path(__file__).resolve().parent.parent
-KIT = {"io", "libc", "os", "bytes", "check"}
 BOX, SLOT, HEIGHT, GAP, RISE, MARGIN, LABEL = 118, 8, 34, 18, 92, 20, 52
 SWEEPS = 24
 # a slot is drawn to the middle of its neighbours, and a little to that of the picture
@@ -34,7 +33,9 @@ def read_list(text):
         elif unnamed:
             excused.add(unnamed.groups())
         elif line and not line.startswith("#"):
-            name, _, rest = line.partition(":")
+            head, _, rest = line.partition(":")
+            # behind the name a line may have words, as `staticlib`
+            name = head.split()[0]
             imports[name], listed[name] = rest.split(), floor
     return imports, listed, excused
 
@@ -47,23 +48,25 @@ def reached(name, imports):
 def nearest(name, imports):
     """The imports of a crate that no other import of it leads to."""
     further = set().union(*(reached(d, imports) for d in imports[name]))
-    return [d for d in imports[name] if d not in further and d not in KIT]
+    # what crates.txt does not list is the kit's
+    return [d for d in imports[name] if d not in further and d in imports]
 
 
 def floor_of(name, imports):
-    return 1 + max((floor_of(d, imports) for d in imports[name] if d not in KIT), default=0)
+    return 1 + max((floor_of(d, imports) for d in imports[name] if d in imports), default=0)
 
 
 def named_in(name):
     """The crates that a crate's files name, in code or in definitions and proofs."""
     named = set()
-    for file in (ROOT / "crates" / name).rglob("*"):
-        if file.suffix in (".rt", ".antt"):
+    for part in ("src", "specs", "proofs"):
+        for file in (ROOT / "crates" / name / part).rglob("*.*"):
+            if file.suffix not in (".rt", ".antt"):
+                continue
             text = re.sub(r"(//|--).*", "", file.read_text())
-            named.update(re.findall(r"Rattle·(\w+)[·.]", text))
+            named.update(re.findall(r"\bRattle\.(\w+)\.", text))
             named.update(re.findall(r"(?<![\w:])(\w+)::", text))
-    # the kit's io is built on libc, which a program lists beside it
-    return named | {"libc"} if "io" in named else named
+    return named
 
 
 def list_faults(imports, listed, excused):

@@ -1,7 +1,7 @@
 #!/usr/bin/env python3
-"""Says which must-fail edits no longer fit their crate: each old text is in its file once, each
-pair changes something, and no line is one that `rt` would pass over in silence. The gate would find
-most of it too, after half an hour.
+"""Says which must-fail edits no longer fit their crate: each file is there, each old text is in it
+once, each pair changes something, and no line is one that `rt` would pass over in silence. The gate
+would find most of it too, after half an hour.
 """
 import pathlib
 import sys
@@ -16,6 +16,9 @@ def faults(edit):
         key, _, rest = line.partition(": ")
         if key == "file":
             name = rest
+            if not (crate / name).is_file():
+                yield f"there is no {name}"
+                return
             text.setdefault(name, (crate / name).read_text())
         elif key == "old":
             old = rest

@@ -169,7 +169,8 @@ def edit_faults(edit):
     if text is None:
         yield "the first line is no comment"
         return
-    files = [*edit.parent.parent.glob("src/*.rt"), *edit.parent.parent.glob("specs/*.antt")]
+    kinds = ("src/*.rt", "specs/*.antt", "proofs/*.antt")
+    files = [file for kind in kinds for file in edit.parent.parent.glob(kind)]
     names = re.findall(r"`([^`]+)`", text)
     if not names:
         yield "the first line does not name, in backquotes, the fact that refuses it"
