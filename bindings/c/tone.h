@@ -139,11 +139,11 @@ enum tone_size {
  * more; a program linked statically or with -z now is spared it. */
 enum tone_stack {
     TONE_STACK_VERSION = 256,
-    TONE_STACK_TABLE = 7 * 1024,
+    TONE_STACK_TABLE = 8 * 1024,
     TONE_STACK_FINE_TABLE = 6 * 1024,
     TONE_STACK_LOOKUP = 1024,
     TONE_STACK_PLANE = 1024,
-    TONE_STACK_PICTURE = 11 * 1024,
+    TONE_STACK_PICTURE = 12 * 1024,
     TONE_STACK_RECORD_TABLE = 8 * 1024,
     TONE_STACK_RECORD_COPY = 10 * 1024
 };

@@ -28,7 +28,7 @@
 //!   code turns the flush on for the whole program. Before a call put a rounding mode of your own
 //!   back. In another mode tables are not those promised: upward rounding changes a third of all
 //!   their bytes.
-//! - There is stack for the call: up to 11 KB, each call's figure is in `enum tone_stack` of the C
+//! - There is stack for the call: up to 12 KB, each call's figure is in `enum tone_stack` of the C
 //!   header. A test measures them; no proof does.
 //! - The machine is x86-64 Linux, the only one that the archive is for.
 //!
