@@ -3,8 +3,7 @@ use mathlib.Core.Path.{◌≡◌}
 use mathlib.Core.Bool.{Bool, true, false, cond}
 use mathlib.Core.List.{List}
 use Prim.Native.Nat.{ℕ}
-use Rattle.answers.specs.declared.Answer.{Answer}
-use Rattle.answers.specs.Numbers.{is_done}
+use Rattle.answers.specs.Numbers.{is_done, Answer}
 use Rattle.pictures.specs.declared.Toned.{Toned}
 use Rattle.pictures.specs.Runs.{
   Run,

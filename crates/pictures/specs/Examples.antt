@@ -1,23 +1,11 @@
 -- Calls where a slip would show, computed from the definitions: what is toned and what stays in
 -- each of the twelve formats, and the order of the refusals. Each value is document 01's: the
 -- sentence is quoted above it.
-use Rattle.std.specs.Prelude.{◌≡◌, refl, false, cond, List, [], ◌∷◌, ℕ, ◌+◌, length, get_or, replicate}
+use Rattle.std.specs.Prelude.{◌≡◌, refl, false, cond, List, [], ◌∷◌, ℕ, ◌+◌, length, get_or, replicate, Err}
 use Rattle.std.proofs.Common.{ap, arith}
 use Rattle.std.specs.Float.Ieee.{add, sub, neg, mul, div, lt, of_int, of_bits}
-use Rattle.answers.specs.declared.Answer.{Answer}
-use Rattle.answers.specs.declared.Answer.TheVariants.{
-  Done,
-  PointCount,
-  PointsNotRising,
-  HeightRange,
-  UnsupportedFormat,
-  PictureTooLarge,
-  MissingPlane,
-  RowStep,
-  PlaneTooShort,
-  OutputTooSmall,
-}
-use Rattle.answers.specs.Numbers.{is_done}
+use Rattle.answers.specs.declared.Refusal.TheVariants.{PointCount, PointsNotRising, HeightRange, UnsupportedFormat, PictureTooLarge, MissingPlane, RowStep, PlaneTooShort, OutputTooSmall}
+use Rattle.answers.specs.Numbers.{is_done, Answer, done}
 use Rattle.lists.specs.Each.{each}
 use Rattle.lists.specs.Tabulate.{tabulate, filled}
 use Rattle.floats.specs.Value.{absolute}
@@ -85,11 +73,11 @@ lut_answered = lut_answer
 
 -- ---- the one-table call: what it answers
 -- "also at height 0"; and without columns no byte is needed
-pub no_rows : lut_answer Gray8 4 0 3 0 ≡ RowStep
+pub no_rows : lut_answer Gray8 4 0 3 0 ≡ Err RowStep
 unfolding lut_answered
 no_rows = refl
 
-pub no_columns_lem : lut_answer Gray8 0 2 3 0 ≡ Done
+pub no_columns_lem : lut_answer Gray8 0 2 3 0 ≡ done
 unfolding lut_answered
 no_columns_lem = refl
 
@@ -156,17 +144,17 @@ refused_plane = (refl, refl)
 -- ---- the order of the refusals: each line mends the first fault of the line before it, and has
 -- all the later ones still
 pub refusals_in_order :
-    (answer (run many Cmyk 4097 2 2 3 7 7 2) ≡ PointCount)
-    × (answer (run falling Cmyk 4097 2 2 3 7 7 2) ≡ PointsNotRising)
-    × (answer (run high Cmyk 4097 2 2 3 7 7 2) ≡ HeightRange)
-    × (answer (run line Cmyk 4097 2 2 3 7 7 2) ≡ UnsupportedFormat)
-    × (answer (run line Yuv420P 4097 2 2 3 7 7 2) ≡ PictureTooLarge)
-    × (answer (run line Yuv420P 4 2 2 3 7 7 2) ≡ MissingPlane)
-    × (answer (run line Yuv420P 4 2 3 3 7 7 2) ≡ RowStep)
-    × (answer (run line Yuv420P 4 2 3 4 7 7 2) ≡ PlaneTooShort)
-    × (answer (run line Yuv420P 4 2 3 4 8 7 2) ≡ OutputTooSmall)
-    × (answer (run line Yuv420P 4 2 3 4 8 8 2) ≡ OutputTooSmall)
-    × (answer (run line Yuv420P 4 2 3 4 8 8 3) ≡ Done)
+    (answer (run many Cmyk 4097 2 2 3 7 7 2) ≡ Err PointCount)
+    × (answer (run falling Cmyk 4097 2 2 3 7 7 2) ≡ Err PointsNotRising)
+    × (answer (run high Cmyk 4097 2 2 3 7 7 2) ≡ Err HeightRange)
+    × (answer (run line Cmyk 4097 2 2 3 7 7 2) ≡ Err UnsupportedFormat)
+    × (answer (run line Yuv420P 4097 2 2 3 7 7 2) ≡ Err PictureTooLarge)
+    × (answer (run line Yuv420P 4 2 2 3 7 7 2) ≡ Err MissingPlane)
+    × (answer (run line Yuv420P 4 2 3 3 7 7 2) ≡ Err RowStep)
+    × (answer (run line Yuv420P 4 2 3 4 7 7 2) ≡ Err PlaneTooShort)
+    × (answer (run line Yuv420P 4 2 3 4 8 7 2) ≡ Err OutputTooSmall)
+    × (answer (run line Yuv420P 4 2 3 4 8 8 2) ≡ Err OutputTooSmall)
+    × (answer (run line Yuv420P 4 2 3 4 8 8 3) ≡ done)
 unfolding answered
 refusals_in_order = (refl, refl, refl, refl, refl, refl, refl, refl, refl, refl, refl)
 
@@ -184,9 +172,9 @@ chroma_run cb cr outCb outCr = record {
 }
 
 pub chroma_apart :
-    (answer (chroma_run (1 ∷ 2 ∷ 3 ∷ []) (4 ∷ 5 ∷ []) 2 3) ≡ OutputTooSmall)
-    × (answer (chroma_run (1 ∷ 2 ∷ []) (3 ∷ 4 ∷ 5 ∷ []) 3 2) ≡ OutputTooSmall)
-    × (answer (chroma_run (1 ∷ 2 ∷ 3 ∷ []) (4 ∷ 5 ∷ []) 3 2) ≡ Done)
+    (answer (chroma_run (1 ∷ 2 ∷ 3 ∷ []) (4 ∷ 5 ∷ []) 2 3) ≡ Err OutputTooSmall)
+    × (answer (chroma_run (1 ∷ 2 ∷ []) (3 ∷ 4 ∷ 5 ∷ []) 3 2) ≡ Err OutputTooSmall)
+    × (answer (chroma_run (1 ∷ 2 ∷ 3 ∷ []) (4 ∷ 5 ∷ []) 3 2) ≡ done)
 unfolding answered
 chroma_apart = (refl, refl, refl)
 
@@ -324,6 +312,6 @@ copied_by_set t cb cr c =
 -- "a call that answers 13 on sufficient space, or some number always"
 pub not_always_refused : (a : Answer) (new : List ℕ) (t : Toned) (after : Outputs)
     → OneTableCall Gray8 2 2 9 more plane a new → SetCall (picture 2 2 9 Gray8) t after
-    → (a ≡ Done) × (t.answer ≡ Done)
+    → (a ≡ done) × (t.answer ≡ done)
 unfolding answered lut_answered
 not_always_refused a new t after c d = (c.answer, d.answer)

@@ -3,8 +3,7 @@
 use Rattle.std.specs.Prelude.{ℕ, zero, suc, ◌≤◌, ◌≡◌, refl, true, false, List, [], ◌∷◌, length}
 use Rattle.std.proofs.Common.{ltb-false}
 use Rattle.std.proofs.lemmas.Bool.{eqb-false}
-use Rattle.answers.specs.declared.Answer.TheVariants.{Done}
-use Rattle.answers.specs.Numbers.{is_done}
+use Rattle.answers.specs.Numbers.{is_done, done}
 use Rattle.answers.specs.Checks.{AllPassed, room_check, all_passed}
 use Rattle.answers.proofs.CheckLaws.{done_append}
 use Rattle.points.specs.declared.Heights.TheVariants.{Fine}
@@ -39,7 +38,7 @@ tables_of_lem f v (suc (suc j)) = refl
 
 -- what is known of a run of the set call once it is accepted
 pub record Accepted (r : Run) : Type 0 where
-  pub lists : set_answer Fine r.job.set ≡ Done
+  pub lists : set_answer Fine r.job.set ≡ done
   pub legal : Legal Fine (view_of r.job.set)
   pub supported : Supported r.job.format
   pub planes : planes_read r.job.format ≤ r.job.planes
@@ -51,7 +50,7 @@ pub record Accepted (r : Run) : Type 0 where
       → (length r.lent.cb.bytes ≤ length r.lent.outputs.cb)
       × (length r.lent.cr.bytes ≤ length r.lent.outputs.cr)
 
-pub accepted_run : (r : Run) → answer r ≡ Done → Accepted r
+pub accepted_run : (r : Run) → answer r ≡ done → Accepted r
 unfolding answer set_answer
 accepted_run r e =
     let j = r.job in

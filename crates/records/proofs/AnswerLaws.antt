@@ -2,7 +2,7 @@
 use Rattle.std.specs.Prelude.{ℕ, ◌≡◌, refl, Bool, true, false, List, [], ◌∷◌, ltb}
 use Rattle.std.proofs.Common.{le-ltb}
 use Rattle.lists.specs.Test.{by_test}
-use Rattle.answers.specs.declared.Answer.TheVariants.{RecordTruncated, UnknownKind}
+use Rattle.answers.specs.declared.Refusal.TheVariants.{RecordTruncated, UnknownKind}
 use Rattle.answers.specs.Checks.{◌when◌, first_refusal}
 use Rattle.tables.specs.declared.CurveInterpolation.{CurveInterpolation}
 use Rattle.tables.specs.Kinds.{kind_number, last_kind}

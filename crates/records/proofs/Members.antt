@@ -8,9 +8,8 @@ use mathlib.Core.Option.{none}
 use native.Mathlib.Omega.{arith}
 use lib.ListN.{drop}
 use Rattle.lists.specs.Test.{by_test}
-use Rattle.answers.specs.declared.Answer.{Answer}
-use Rattle.answers.specs.declared.Answer.TheVariants.{Done, TrailingBytes}
-use Rattle.answers.specs.Numbers.{is_done, first_of}
+use Rattle.answers.specs.declared.Refusal.TheVariants.{TrailingBytes}
+use Rattle.answers.specs.Numbers.{is_done, first_of, Answer, done}
 use Rattle.answers.specs.Checks.{◌when◌, first_refusal}
 use Rattle.points.specs.declared.Heights.TheVariants.{Whole}
 use Rattle.points.specs.Joined.{FullRows}
@@ -81,20 +80,20 @@ module _ {s : List ℕ} {p : Parse View} {a : Answer} {v : View} {at : ℕ} (fou
   end_found is = rw (found.is, is) (at_end a v (drop at s))
 
 -- ---- the check of a set, by those of its lists
-pub set_passes : (s : Curves) → Passed Whole s → set_answer Whole s ≡ Done
+pub set_passes : (s : Curves) → Passed Whole s → set_answer Whole s ≡ done
 set_passes s p = set_answer_lem Whole s ∙ rw (p.master, p.red, p.green) p.blue
 
-pub channel_passes : (c : Channel) → curve_answer Whole c.curve ≡ Done → channel_answer Whole c ≡ Done
+pub channel_passes : (c : Channel) → curve_answer Whole c.curve ≡ done → channel_answer Whole c ≡ done
 unfolding channel_answer curve_answer
 channel_passes c e = by_test c.present (λ t. rw t e) (λ t. rw t)
 
 -- ---- the empty set
-absent_passes : (c : Channel) → channel_of c ≡ none → channel_answer Whole c ≡ Done
+absent_passes : (c : Channel) → channel_of c ≡ none → channel_answer Whole c ≡ done
 unfolding channel_answer
 absent_passes c e =
     by_test c.present (λ t. let z : ◌≡◌ {A = ℕ} 0 1 = cc (rw t at e) in absurd (omega arith)) (λ t. rw t)
 
-pub empty_set_passes : (s : Curves) → FullRows s.master → view_of s ≡ empty_view → set_answer Whole s ≡ Done
+pub empty_set_passes : (s : Curves) → FullRows s.master → view_of s ≡ empty_view → set_answer Whole s ≡ done
 empty_set_passes s long e =
     set_passes s
     (record {

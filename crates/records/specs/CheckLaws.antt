@@ -3,9 +3,8 @@
 use Rattle.std.specs.Prelude.{ℕ, ◌*◌, ◌≡◌, refl, Bool, true, false, cond, not, List, [], ◌∷◌, ◌++◌, ltb, length, get_or, drop}
 use Rattle.std.proofs.Common.{arith, sym, ap, true≢false, le-ltb}
 use Rattle.lists.specs.Test.{by_test}
-use Rattle.answers.specs.declared.Answer.{Answer}
-use Rattle.answers.specs.declared.Answer.TheVariants.{Done, RecordTruncated, TrailingBytes}
-use Rattle.answers.specs.Numbers.{is_done}
+use Rattle.answers.specs.declared.Refusal.TheVariants.{RecordTruncated, TrailingBytes}
+use Rattle.answers.specs.Numbers.{is_done, Answer, done}
 use Rattle.answers.specs.Checks.{
   Check,
   ◌when◌,
@@ -54,7 +53,7 @@ module _ {A : Type 0} (p : Parse A) where
   checked_stops cs ds e not_done =
       checked_refused (cs ++ ds) (first_stops cs ds e not_done) not_done
 
-  pub checked_goes_on : (cs ds : List Check) → first_refusal cs ≡ Done
+  pub checked_goes_on : (cs ds : List Check) → first_refusal cs ≡ done
       → checked (cs ++ ds) p ≡ checked ds p
   checked_goes_on [] ds done = refl
   checked_goes_on (c ∷ cs) ds done =
@@ -72,7 +71,7 @@ checked_has P refusals (c ∷ cs) p holds =
 
 -- ---- the reader against the flat list
 abbrev answer_of : {A : Type 0} → Parse A → Answer
-answer_of (good v s) = Done
+answer_of (good v s) = done
 answer_of (refused a) = a
 
 abbrev GoesOn : {A : Type 0} → List ℕ → Parse A → Type 0

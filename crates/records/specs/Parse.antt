@@ -1,7 +1,7 @@
 -- One reading after another. Definitions only.
 use Rattle.std.specs.Prelude.{ℕ, List, [], ◌∷◌, cond}
-use Rattle.answers.specs.declared.Answer.{Answer}
 use Rattle.answers.specs.Checks.{Check, refuses}
+use Rattle.answers.specs.Numbers.{Answer}
 
 -- what a reading finds: a value and the bytes after it, or a refusal
 pub data Parse (A : Type 0) : Type 0 where

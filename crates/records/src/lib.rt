@@ -5,7 +5,7 @@
 #![tactic(auto)]
 
 ghost use Rattle.std.specs.Prelude.{◌≡◌, not, [], ◌∷◌, drop};
-ghost use Rattle.answers.specs.declared.Answer.TheVariants.{TrailingBytes};
+ghost use Rattle.answers.specs.declared.Refusal.TheVariants.{TrailingBytes};
 ghost use Rattle.answers.specs.Numbers.{first_of};
 ghost use Rattle.answers.specs.Checks.{◌when◌, first_refusal};
 ghost use Rattle.records.specs.Parse.{refused};

@@ -1,6 +1,5 @@
 // A list of the record: a count byte, then x, y pairs. An edition says how a pair is stored.
 ghost use Rattle.std.specs.Prelude.{◌≡◌, ◌+◌, ◌*◌, ◌≤◌, ◌<◌, length, drop};
-ghost use Rattle.answers.specs.declared.Answer.TheVariants.{Done};
 ghost use Rattle.answers.specs.Checks.{first_refusal};
 ghost use Rattle.points.specs.declared.Heights.TheVariants.{Whole};
 ghost use Rattle.points.specs.Points.{limit, list_of};
@@ -8,6 +7,7 @@ ghost use Rattle.sets.specs.Sets.{curve_answer};
 ghost use Rattle.records.specs.PointLists.{point_bytes, point_of, pairs, count_checks};
 ghost use Rattle.records.specs.PointLists.{read_list, read_field};
 ghost use Rattle.records.specs.Views.{after, ListRead};
+ghost use Rattle.answers.specs.Numbers.{done};
 
 use answers::Answer;
 use points::{Curve, Point, check_count};
@@ -93,7 +93,7 @@ pub fn read_points(edition: Edition, s: &[u8], from: usize, n: usize) -> Curve
 }
 
 fn no_curve(refusal: Answer) -> CurveRead
-    ensures { (result.answer ≡ refusal) × (curve_answer Whole result.curve ≡ Done) }
+    ensures { (result.answer ≡ refusal) × (curve_answer Whole result.curve ≡ done) }
 {
     CurveRead {
         answer: refusal,

@@ -11,9 +11,7 @@ use lib.ListN.{get_or, take, drop, set, length-append, length-set}
 use lib.Dec.{eqb}
 use lib.Seq.{take-suc-set, take-suc, length-take-le, get_or-take}
 use borrow.Author.Tests.{ne_eqb}
-use Rattle.answers.specs.declared.Answer.{Answer}
-use Rattle.answers.specs.declared.Answer.TheVariants.{Done}
-use Rattle.answers.specs.Numbers.{is_done}
+use Rattle.answers.specs.Numbers.{is_done, Answer, done}
 use Rattle.answers.specs.Checks.{Check, first_refusal, room_check}
 use Rattle.answers.proofs.CheckLaws.{first_stops, first_goes_on}
 use Rattle.lists.specs.Tabulate.{tabulate, is_tabulate}
@@ -99,7 +97,7 @@ pub there_channel : (m : Channel) → m.present ≡ there (channel_of m)
 there_channel m = by_test m.present (λ t. rw t) (λ t. rw t)
 
 -- ---- the master as a field
-module _ (c : Curve) (long : ListN.length (places_of c) ≡ 64) (e : curve_answer Whole c ≡ Done) where
+module _ (c : Curve) (long : ListN.length (places_of c) ≡ 64) (e : curve_answer Whole c ≡ done) where
   some_or_none : (n : ℕ) (l : List Point) → n ≤ ListN.length l
       → cond (not (eqb n 0)) (some (take n l)) none ≡ master_field (take n l)
   some_or_none zero l h = refl
@@ -109,8 +107,8 @@ module _ (c : Curve) (long : ListN.length (places_of c) ≡ 64) (e : curve_answe
   pub master_channel : channel_of (record { present = not (eqb c.count 0); curve = c }) ≡ master_field (list_of c)
   master_channel = some_or_none c.count (places_of c) (omega (arith, passed_count Whole c e))
 
-pub master_passes : (c : Curve) (b : Bool) → curve_answer Whole c ≡ Done
-    → channel_answer Whole (record { present = b; curve = c }) ≡ Done
+pub master_passes : (c : Curve) (b : Bool) → curve_answer Whole c ≡ done
+    → channel_answer Whole (record { present = b; curve = c }) ≡ done
 unfolding channel_answer curve_answer
 master_passes c true e = e
 master_passes c false e = refl
@@ -147,7 +145,7 @@ module _ (s : Curves) (buffer : List ℕ) where
 module _ {s : Curves} {buffer : List ℕ} where
   -- from what the definition comes to
   wrote_as : (w : Write) (r : Written) (after : List ℕ) → write_record s buffer ≡ w
-      → r.answer ≡ w.answer → r.length ≡ w.length → after ≡ w.buffer → (r.answer ≡ Done → Held s)
+      → r.answer ≡ w.answer → r.length ≡ w.length → after ≡ w.buffer → (r.answer ≡ done → Held s)
       → WriteRecordCall s buffer r after
   wrote_as w r after e a l b h = record { answer = rw e a; length = rw e l; buffer = rw e b; held = h }
 
@@ -160,14 +158,14 @@ module _ {s : Curves} {buffer : List ℕ} where
   unfolding set_answer
   lists_refused e t = refused (first_stops (set_checks (curve_checks Whole) s) (room s buffer) e t) t
 
-  module _ (passed : set_answer Whole s ≡ Done) {d : Draft} (h : Holds (encode (view_of s)) d) where
+  module _ (passed : set_answer Whole s ≡ done) {d : Draft} (h : Holds (encode (view_of s)) d) where
     pub room_refused : {a : Answer} → a ≡ first_refusal (room_check d.length (ListN.length buffer) ∷ [])
         → is_done a ≡ false → Refused s buffer a
     unfolding set_answer
     room_refused e t =
         refused (first_goes_on (set_checks (curve_checks Whole) s) (room s buffer) passed (rw h.length at e)) t
 
-    pub wrote_done : {a : Answer} {after : List ℕ} → a ≡ Done → d.length ≤ ListN.length buffer
+    pub wrote_done : {a : Answer} {after : List ℕ} → a ≡ done → d.length ≤ ListN.length buffer
         → after ≡ bytes_made d ++ drop d.length buffer → Held s
         → WriteRecordCall s buffer (record { answer = a; length = d.length }) after
     wrote_done is enough e held =

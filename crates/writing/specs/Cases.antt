@@ -5,9 +5,7 @@ use Rattle.std.proofs.Common.{sym, ◌∙◌, true≢false, le-ltb}
 use Rattle.std.proofs.Math.Path.{ap}
 use Rattle.std.proofs.Math.ListN as ListN
 use Rattle.lists.specs.Test.{by_test}
-use Rattle.answers.specs.declared.Answer.{Answer}
-use Rattle.answers.specs.declared.Answer.TheVariants.{Done}
-use Rattle.answers.specs.Numbers.{is_done}
+use Rattle.answers.specs.Numbers.{is_done, Answer, done}
 use Rattle.answers.proofs.NumberLaws.{done_is}
 use Rattle.answers.specs.Checks.{Check, first_refusal, room_check}
 use Rattle.answers.proofs.CheckLaws.{first_goes_on, done_append, has_room}
@@ -26,7 +24,7 @@ module _ (s : Curves) (buffer : List ℕ) where
   unfolding write_record
   written e = ap (λ a. outcome a (encode (view_of s)) buffer) (sym e)
 
-  module _ (passed : set_answer Whole s ≡ Done) where
+  module _ (passed : set_answer Whole s ≡ done) where
     pub write_passed : write_record s buffer
         ≡ outcome
         (first_refusal (room_check (ListN.length (encode (view_of s))) (ListN.length buffer) ∷ []))
@@ -36,7 +34,7 @@ module _ (s : Curves) (buffer : List ℕ) where
 
     pub write_done : ListN.length (encode (view_of s)) ≤ ListN.length buffer
         → write_record s buffer ≡ record {
-          answer = Done;
+          answer = done;
           length = ListN.length (encode (view_of s));
           buffer = encode (view_of s) ++ drop (ListN.length (encode (view_of s))) buffer;
         }
@@ -67,8 +65,8 @@ module _ (s : Curves) (buffer : List ℕ) where
       outcome_unchanged (first_refusal (write_checks s (ListN.length buffer)))
       (encode (view_of s)) e
 
-  pub done_case : (write_record s buffer).answer ≡ Done
-      → (set_answer Whole s ≡ Done) × (ListN.length (encode (view_of s)) ≤ ListN.length buffer)
+  pub done_case : (write_record s buffer).answer ≡ done
+      → (set_answer Whole s ≡ done) × (ListN.length (encode (view_of s)) ≤ ListN.length buffer)
   unfolding set_answer
   done_case e =
       let d = done_append (set_checks (curve_checks Whole) s) room (sym write_answer ∙ e) in

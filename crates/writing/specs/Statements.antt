@@ -1,7 +1,6 @@
 -- What the contracts of the writer's functions say of its structs. Definitions only.
 use Rattle.std.specs.Prelude.{ℕ, ◌+◌, ◌≤◌, ◌≡◌, List, ◌++◌, take}
 use Rattle.std.proofs.Math.ListN as ListN
-use Rattle.answers.specs.declared.Answer.TheVariants.{Done}
 use Rattle.sets.specs.declared.Curves.{Curves}
 use Rattle.tables.specs.Kinds.{LegalKind}
 use Rattle.sets.specs.SameLaws.{Full}
@@ -9,6 +8,7 @@ use Rattle.records.specs.Format.{longest}
 use Rattle.writing.specs.declared.Draft.{Draft}
 use Rattle.writing.specs.declared.Written.{Written}
 use Rattle.writing.specs.Encode.{write_record}
+use Rattle.answers.specs.Numbers.{done}
 
 -- the bytes made so far
 abbrev pub bytes_made : Draft → List ℕ
@@ -42,4 +42,4 @@ pub record WriteRecordCall (set : Curves) (before : List ℕ) (r : Written) (aft
   pub answer : r.answer ≡ (write_record set before).answer
   pub length : r.length ≡ (write_record set before).length
   pub buffer : after ≡ (write_record set before).buffer
-  pub held : r.answer ≡ Done → Held set
+  pub held : r.answer ≡ done → Held set

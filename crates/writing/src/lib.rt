@@ -4,7 +4,6 @@
 #![tactic(auto)]
 
 ghost use Rattle.std.specs.Prelude.{◌≡◌, [], ◌∷◌, ◌++◌, cond, ◌≤◌, length, drop};
-ghost use Rattle.answers.specs.declared.Answer.TheVariants.{Done};
 ghost use Rattle.points.specs.declared.Heights.TheVariants.{Whole};
 ghost use Rattle.points.specs.Points.{list_of};
 ghost use Rattle.sets.specs.Sets.{view_of, channel_of, curve_answer, channel_answer, set_answer};
@@ -24,6 +23,7 @@ ghost use Rattle.writing.specs.Encode.{
 };
 ghost use Rattle.writing.specs.Statements.{bytes_made, Room, Appended, Holds, WriteRecordCall};
 ghost use Rattle.records.specs.Format.{longest};
+ghost use Rattle.answers.specs.Numbers.{done};
 
 use answers::{Answer, room_for};
 use points::{Curve, Heights};
@@ -89,7 +89,7 @@ impl Draft {
 
     // A list, where it is present: its count, then its points.
     fn field(self, channel: Channel) -> Draft
-        requires { (channel_answer Whole channel ≡ Done)
+        requires { (channel_answer Whole channel ≡ done)
             × Room (field_bytes (channel_of channel)) self }
         ensures { Appended (field_bytes (channel_of channel)) self result }
     {
@@ -167,9 +167,9 @@ fn mark(present: bool, weight: u8) -> u8
 
 // The master as a field: an empty one is left out.
 fn master_field(curve: Curve) -> Channel
-    requires { curve_answer Whole curve ≡ Done }
+    requires { curve_answer Whole curve ≡ done }
     ensures { (channel_of result ≡ master_field (list_of curve))
-        × (channel_answer Whole result ≡ Done) }
+        × (channel_answer Whole result ≡ done) }
 {
     Channel {
         present: curve.count != 0,
@@ -194,7 +194,7 @@ fn map_byte(master: Channel, set: Curves) -> u8
 
 // The record of a set whose lists are legal.
 fn record_of(set: Curves) -> Draft
-    requires { set_answer Whole set ≡ Done }
+    requires { set_answer Whole set ≡ done }
     ensures { Holds (encode (view_of set)) result × LegalKind set.interpolation }
 {
     let master = master_field(set.master);

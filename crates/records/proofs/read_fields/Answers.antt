@@ -1,6 +1,5 @@
 -- `read_fields` meets its contract: the fields one after another, and a set whose lists pass the check.
 use Rattle.std.proofs.Common.{ap, not, ◌≡◌, refl, [], drop}
-use Rattle.answers.specs.declared.Answer.TheVariants.{Done}
 use Rattle.answers.proofs.NumberLaws.{asked_refused, asked_done}
 use Rattle.sets.specs.declared.Colour.TheVariants.{Red, Green, Blue}
 use Rattle.sets.specs.declared.Curves.{Curves}
@@ -13,6 +12,7 @@ use Rattle.records.proofs.Lists.{full_rows}
 use Rattle.records.proofs.Members.{set_passes, channel_passes}
 use Rattle.records.proofs.Members.{Found, master_found, colour_found, kind_found, end_found}
 use Rattle.records.proofs.read_fields.Goals.{After-check_end-answer}
+use Rattle.answers.specs.Numbers.{done}
 use Rattle.records.proofs.read_fields.Goals as goal
 
 -- the set put together from what the fields' readers found
@@ -35,7 +35,7 @@ fields c =
     let a = c.args in
     let m = a.map in
     let s = a.s.now in
-    let start : Found s (good empty_view (drop a.at s)) Done empty_view a.at = record { is = refl } in
+    let start : Found s (good empty_view (drop a.at s)) done empty_view a.at = record { is = refl } in
     let is = c.has_bit.ensures in
     end_found
     (kind_found

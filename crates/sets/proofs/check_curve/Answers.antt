@@ -2,13 +2,13 @@
 use Rattle.std.proofs.Common.{ap, not, ◌≡◌, sym, ◌∙◌, [], ◌∷◌}
 use Rattle.std.proofs.lemmas.Bool.{not-true}
 use Rattle.std.proofs.lemmas.Bool.{not-false}
-use Rattle.answers.specs.declared.Answer.TheVariants.{Done}
 use Rattle.answers.proofs.NumberLaws.{asked_refused, asked_done}
 use Rattle.answers.specs.Checks.{first_refusal}
 use Rattle.answers.proofs.CheckLaws.{first_stops, first_goes_on}
 use Rattle.points.specs.Points.{list_of, count_check, height_check}
 use Rattle.sets.specs.Sets.{rising_check, curve_answer}
 use Rattle.sets.proofs.check_curve.Goals.{Else-not-is_done}
+use Rattle.answers.specs.Numbers.{done}
 use Rattle.sets.proofs.check_curve.Goals as goal
 
 pub returns-then-not-is_done : goal.returns-then-not-is_done
@@ -21,7 +21,7 @@ returns-then-not-is_done c =
     (asked_refused c.check_count-counted.result c.is_done.ensures (ap not c.if-not-is_done.true))
 
 -- the count has passed
-passed : (c : Else-not-is_done) → first_refusal (count_check c.args.curve.count ∷ []) ≡ Done
+passed : (c : Else-not-is_done) → first_refusal (count_check c.args.curve.count ∷ []) ≡ done
 passed c =
     sym c.check_count-counted.ensures
     ∙ asked_done c.check_count-counted.result c.is_done.ensures (ap not c.if-not-is_done.false)

@@ -1,24 +1,7 @@
 -- `text::text_of`: what is read, and the text of its table or of its refusal.
 use Rattle.std.proofs.Common.{◌≡◌, sym, ap, ◌∙◌, true, false, List, ℕ, ◌<◌, lit<}
-use Rattle.answers.specs.declared.Answer.{Answer}
-use Rattle.answers.specs.declared.Answer.TheVariants.{
-  Done,
-  RecordTruncated,
-  PointCount,
-  PointsNotRising,
-  UnknownKind,
-  FieldMismatch,
-  TrailingBytes,
-  UnsupportedFormat,
-  PictureTooLarge,
-  MissingPlane,
-  RowStep,
-  PlaneTooShort,
-  OutputTooSmall,
-  TableLength,
-  HeightRange,
-}
-use Rattle.answers.specs.Numbers.{number_of, is_done}
+use Rattle.answers.specs.declared.Refusal.TheVariants.{RecordTruncated, PointCount, PointsNotRising, UnknownKind, FieldMismatch, TrailingBytes, UnsupportedFormat, PictureTooLarge, MissingPlane, RowStep, PlaneTooShort, OutputTooSmall, TableLength, HeightRange}
+use Rattle.answers.specs.Numbers.{number_of, is_done, Answer, done}
 use Rattle.points.specs.Points.{list_of}
 use Rattle.tables.specs.Tables.{byte_table}
 use Rattle.records.specs.declared.RecordRead.{RecordRead}
@@ -28,7 +11,7 @@ use Rattle.text.proofs.text_of.Goals as goal
 
 -- two digits hold every number
 two_digits : (a : Answer) → number_of a < 100
-two_digits Done = lit< tt
+two_digits done = lit< tt
 two_digits RecordTruncated = lit< tt
 two_digits PointCount = lit< tt
 two_digits PointsNotRising = lit< tt

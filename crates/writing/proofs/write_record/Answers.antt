@@ -1,6 +1,5 @@
 -- `write_record`: by the two refusals, then the copy.
 use Rattle.std.proofs.Common.{ap, not, ◌≡◌, sym, ◌∙◌, ◌≤◌, length, rules}
-use Rattle.answers.specs.declared.Answer.TheVariants.{Done}
 use Rattle.answers.proofs.NumberLaws.{asked_refused, asked_done}
 use Rattle.answers.proofs.CheckLaws.{has_room}
 use Rattle.points.specs.declared.Heights.TheVariants.{Whole}
@@ -8,6 +7,7 @@ use Rattle.sets.specs.Sets.{set_answer}
 use Rattle.sets.specs.SameLaws.{Full}
 use Rattle.writing.proofs.Laws.{lists_refused, room_refused, wrote_done}
 use Rattle.writing.proofs.write_record.Goals.{Else-not-is_done, Else-not-is_done-2}
+use Rattle.answers.specs.Numbers.{done}
 use Rattle.writing.proofs.write_record.Goals as goal
 
 pub returns-then-not-is_done : goal.returns-then-not-is_done
@@ -16,7 +16,7 @@ returns-then-not-is_done c =
     (asked_refused c.check-checked.result c.is_done.ensures (ap not c.if-not-is_done.true))
 
 -- the lists have passed
-passed : (c : Else-not-is_done) → set_answer Whole c.args.set ≡ Done
+passed : (c : Else-not-is_done) → set_answer Whole c.args.set ≡ done
 passed c =
     sym c.check-checked.ensures
     ∙ asked_done c.check-checked.result c.is_done.ensures (ap not c.if-not-is_done.false)
@@ -29,7 +29,7 @@ returns-then-not-is_done-2 c =
 
 -- there is room
 module _ (c : Else-not-is_done-2) where
-  accepted : c.room_for-answer.result ≡ Done
+  accepted : c.room_for-answer.result ≡ done
   accepted = asked_done c.room_for-answer.result c.is_done-2.ensures (ap not c.if-not-is_done-2.false)
 
   fits : c.record_of-draft.result.length ≤ length c.args.buffer.now

@@ -1,7 +1,7 @@
 -- `read_curve` meets its contract: each way out is one of the cases of a list, in their order.
 use Rattle.std.proofs.Common.{ap, not, ◌≡◌, sym, ◌∙◌, cond, ◌+◌, ◌-◌, ◌*◌, ◌≤◌, arith, [], ◌∷◌, lt-ltb, le-ltb, ltb, length, drop, length-drop, drop_of_length-le, drop-drop, rules}
 use Rattle.lists.specs.Test.{by_test}
-use Rattle.answers.specs.declared.Answer.TheVariants.{Done, PointCount, PointsNotRising}
+use Rattle.answers.specs.declared.Refusal.TheVariants.{PointCount, PointsNotRising}
 use Rattle.answers.proofs.NumberLaws.{asked_refused, asked_done}
 use Rattle.answers.specs.Checks.{◌when◌, first_refusal}
 use Rattle.points.specs.CheckLaws.{few_points}
@@ -15,6 +15,7 @@ use Rattle.records.specs.CheckLaws.{checked_stops, checked_goes_on}
 use Rattle.records.specs.LevelLaws.{pairs_allowed}
 use Rattle.records.proofs.Lists.{drop_at, list_passes}
 use Rattle.records.proofs.point_lists.read_curve.Goals.{After-is_rising, Else-not-is_done}
+use Rattle.answers.specs.Numbers.{done}
 use Rattle.records.proofs.point_lists.read_curve.Goals as goal
 
 pub returns-then-s-at : goal.returns-then-s-at
@@ -44,7 +45,7 @@ returns-then-not-is_done c =
 
 -- the count has passed
 passed : (c : Else-not-is_done) →
-    first_refusal (count_checks c.args.least c.wide-n.result) ≡ Done
+    first_refusal (count_checks c.args.least c.wide-n.result) ≡ done
 passed c =
     sym c.check_stored_count-counted.ensures
     ∙ asked_done _ c.is_done.ensures (ap not c.if-not-is_done.false)
