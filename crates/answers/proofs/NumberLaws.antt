@@ -1,10 +1,13 @@
 -- Different answers have different numbers, none of them 1; and what code knows that asks whether an
 -- answer is done.
-use Rattle.std.specs.Prelude.{◌≡◌, refl, Bool, true, false, not, get_or, Ok, Err}
+use Rattle.std.specs.Prelude.{◌≡◌, refl, Bool, true, false, not, get_or, Result, Ok, Err}
+use Rattle.std.specs.Result.{result_and}
 use Rattle.std.proofs.Common.{arith, sym, ap, ◌∙◌, true≢false}
 use Rattle.std.proofs.lemmas.Bool.{not-true, not-false}
+use Rattle.answers.specs.declared.Refusal.{Refusal}
 use Rattle.answers.specs.Numbers.{
   Answer,
+  answer_of,
   done,
   number_of,
   is_done,
@@ -33,6 +36,16 @@ module _ (a : Answer) {done : Bool} (is : done ≡ is_done a) where
 
   pub asked_done : not done ≡ false → a ≡ Ok tt
   asked_done t = done_is a (sym is ∙ not-false done t)
+
+-- a call that hands v back where a is done, and else its refusal, answers a
+pub answer_handed : {A : Type 0} (a : Answer) (v : A) → answer_of (result_and a (Ok v)) ≡ a
+answer_handed (Ok tt) v = refl
+answer_handed (Err r) v = refl
+
+-- done is answered with a value
+pub handed_value : {A : Type 0} (r : Result A Refusal) → answer_of r ≡ done → (v : A) × (r ≡ Ok v)
+handed_value (Ok v) e = (v, refl)
+handed_value (Err r) e = absurd (true≢false (sym (ap is_done e)))
 
 -- where the first refusal of two is none, neither is a refusal
 pub both_done : (a b : Answer) → first_of a b ≡ done → (a ≡ done) × (b ≡ done)
