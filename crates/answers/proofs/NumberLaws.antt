@@ -1,7 +1,8 @@
 -- Different answers have different numbers, none of them 1; and what code knows that asks whether an
 -- answer is done.
 use Rattle.std.specs.Prelude.{◌≡◌, refl, Bool, true, false, not, get_or, Result, Ok, Err}
-use Rattle.std.specs.Result.{result_and}
+use Rattle.std.specs.Result.{result_and, IsErrAnd}
+use Rattle.std.proofs.lemmas.Result.{err_from_is_err_and}
 use Rattle.std.proofs.Common.{arith, sym, ap, ◌∙◌, true≢false}
 use Rattle.std.proofs.lemmas.Bool.{not-true, not-false}
 use Rattle.answers.specs.declared.Refusal.{Refusal}
@@ -46,6 +47,10 @@ answer_handed (Err r) v = refl
 pub handed_value : {A : Type 0} (r : Result A Refusal) → answer_of r ≡ done → (v : A) × (r ≡ Ok v)
 handed_value (Ok v) e = (v, refl)
 handed_value (Err r) e = absurd (true≢false (sym (ap is_done e)))
+
+-- what a `?` returns where a call refuses with e
+pub exit_refused : {A : Type 0} {e : Refusal} (r : Result A Refusal) → IsErrAnd r (λ y. y ≡ e) → r ≡ Err e
+exit_refused r h = let exit = err_from_is_err_and r h in exit.1 ∙ ap (λ y. Err y) exit.2
 
 -- where the first refusal of two is none, neither is a refusal
 pub both_done : (a b : Answer) → first_of a b ≡ done → (a ≡ done) × (b ≡ done)
