@@ -1,9 +1,9 @@
 -- Different answers have different numbers, none of them 1; and what code knows that asks whether an
 -- answer is done.
-use Rattle.std.specs.Prelude.{◌≡◌, refl, Bool, true, false, not, get_or, Result, Ok, Err}
+use Rattle.std.specs.Prelude.{◌≡◌, refl, Bool, true, false, not, eqb, get_or, Result, Ok, Err}
 use Rattle.std.specs.Result.{result_and, IsErrAnd}
 use Rattle.std.proofs.lemmas.Result.{err_from_is_err_and}
-use Rattle.std.proofs.Common.{arith, sym, ap, ◌∙◌, true≢false}
+use Rattle.std.proofs.Common.{arith, sym, ap, ◌∙◌, true≢false, ne_eqb}
 use Rattle.std.proofs.lemmas.Bool.{not-true, not-false}
 use Rattle.answers.specs.declared.Refusal.{Refusal}
 use Rattle.answers.specs.Numbers.{
@@ -25,6 +25,11 @@ pub never_one : (a : Answer) → number_of a ≡ 1 → ⊥
 never_one a e =
     let is : a ≡ done = sym (at_number a) ∙ ap (λ n. get_or in_order n done) e in
     omega (arith, e, ap number_of is)
+
+-- a refusal has a number, and not 0
+pub number_done : (a : Answer) → eqb (number_of a) 0 ≡ is_done a
+number_done (Ok tt) = refl
+number_done (Err r) = ne_eqb _ 0 (λ e. true≢false (sym (ap is_done (number_unique (Err r) done e))))
 
 pub done_is : (a : Answer) → is_done a ≡ true → a ≡ done
 done_is (Ok tt) e = refl
