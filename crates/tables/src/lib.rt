@@ -267,10 +267,8 @@ fn to_bytes(samples: &[f32; 256]) -> [u8; 256]
     ensures { result ≡ bytes_of samples.now }
 {
     let mut bytes = [0; 256];
-    let mut v: usize = 0;
-    while v < 256 {
+    for v in 0..256 {
         bytes[v] = single::to_byte(samples[v]);
-        v += 1;
     }
     bytes
 }
