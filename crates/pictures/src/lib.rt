@@ -14,7 +14,7 @@ ghost use Rattle.pictures.specs.Runs.{tables_of, tight_rows, SetCall};
 use answers::{Answer, Refusal};
 use formats::{Lengths, PixelFormat, checks};
 use points::{Curve, Heights};
-use rows::{copy_bytes, tone_rows, tone_rows_into};
+use rows::{tone_rows, tone_rows_into};
 use sets::{Curves, chosen_table};
 use tables::{CurveInterpolation, entries_of};
 
@@ -66,6 +66,7 @@ pub fn apply_tone_lut(
 }
 
 // The table of a list, where it is present. Else nothing is built, and nothing reads the zeros.
+// Stays: an Option would be opened at once, as `chosen_table` of `sets` takes the mark beside it.
 fn own_table(present: bool, curve: Curve, kind: CurveInterpolation) -> [u8; 256]
     ensures { present ≡ true → result ≡ byte_table kind (list_of curve) }
 {
@@ -118,6 +119,8 @@ fn tone_first(
 
 // Tones a picture by a set of curves into tight rows; chroma is copied. On a
 // refusal no output changes.
+// Stays: slices and numbers, as document 01's "the core first on slice and number" wants;
+// `tone_picture` of `planes` takes each plane whole.
 pub fn apply_pixels<'a, 'x, 'y, 'z>(
     job: Job,
     plane: &'a [u8],
@@ -165,8 +168,8 @@ pub fn apply_pixels<'a, 'x, 'y, 'z>(
     tone_first(set, format, plane, step, w, h, out);
     let row = w * format.bytes_a_pixel();
     if format.planes_read() == 3 {
-        copy_bytes(cb, out_cb);
-        copy_bytes(cr, out_cr);
+        out_cb[..cb.len()].copy_from_slice(cb);
+        out_cr[..cr.len()].copy_from_slice(cr);
         return Ok(Steps {
             step: row,
             cb_step,
