@@ -9,6 +9,8 @@ use native.Mathlib.Nat.{mod-lt}
 use native.Mathlib.Omega.{arith}
 use lib.ListN.{length, get_or, drop}
 use lib.Seq.{drop-length}
+use Rattle.std.proofs.Common.{add-mul}
+use Rattle.std.proofs.Math.Nat.{mul-add-mod_self_right}
 use Rattle.lists.specs.Each.{each, each_same, is_each}
 use Rattle.lists.specs.Replaced.{
   Replaced,
@@ -24,8 +26,6 @@ use Rattle.lists.specs.Part.{part, back, length_part, get_d_part, stored_part_ea
 use Rattle.rows.specs.Bytes.{same, three, through, toned, row_byte, pixel_byte}
 use Rattle.rows.specs.Rows.{in_row, plane_byte, InPlace, Pixels}
 use Rattle.rows.specs.Places.{mul_next, mul_part}
-use Rattle.std.proofs.Common.{add-mul}
-use Rattle.std.proofs.Math.Nat.{mul-add-mod_self_right}
 use Rattle.rows.specs.Laws.{
   toned_through,
   toned_kept,

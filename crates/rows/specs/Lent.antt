@@ -10,5 +10,5 @@ abbrev pub by_channel : Tables → ℕ → List ℕ
 by_channel t = three t.red.now t.green.now t.blue.now
 
 -- a plane of len bytes has the grid's rows, of pixels of p bytes
-abbrev pub Lies : Grid → ℕ → ℕ → Type 0
-Lies g p len = Rows g.w g.h (g.w * p) g.step len
+abbrev pub HasRows : Grid → ℕ → ℕ → Type 0
+HasRows g p len = Rows g.w g.h (g.w * p) g.step len

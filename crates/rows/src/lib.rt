@@ -8,7 +8,7 @@ ghost use Rattle.lists.specs.Each.{each};
 ghost use Rattle.lists.specs.Tabulate.{filled};
 ghost use Rattle.lists.specs.Replaced.{Replaced};
 ghost use Rattle.rows.specs.Bytes.{same, through, row_byte, pixel_byte};
-ghost use Rattle.rows.specs.Lent.{by_channel, Lies};
+ghost use Rattle.rows.specs.Lent.{by_channel, HasRows};
 ghost use Rattle.rows.specs.Rows.{plane_byte, tight_byte, InPlace, Tight, Pixels, tight_alpha};
 
 // The tables of the colours, lent.
@@ -59,7 +59,8 @@ fn tone_pixel<const K: usize>(s: &mut [u8], i: usize, tables: Tables)
 // Tones the eight pixels from x on.
 fn tone_eight<const P: usize, const K: usize>(s: &mut [u8], x: usize, tables: Tables)
     requires { Pixels P K × ((x + 8) * P ≤ length s.old) }
-    ensures { Replaced 0 (row_byte P K (by_channel tables.entry)) (x * P) ((x + 8) * P) s.old s.new }
+    ensures { Replaced 0 (row_byte P K (by_channel tables.entry)) (x * P) ((x + 8) * P)
+        s.old s.new }
 {
     for k in 0..8 {
         tone_pixel::<K>(s, (x + k) * P, tables);
@@ -67,8 +68,8 @@ fn tone_eight<const P: usize, const K: usize>(s: &mut [u8], x: usize, tables: Ta
 }
 
 // Tones as many whole eights of pixels as there are.
-// Stays a `while` with a count of what is left: LLVM then steps a pointer alone, and a store needs
-// no index register. With `for` over the eights Gray8 takes 125 us where this takes 86 (128 rows of
+// Stays: a `while` with a count of what is left. LLVM then steps a pointer alone, and a store needs
+// no index register. `for` over the eights takes 125 us for the 86 of this (Gray8, 128 rows of
 // 1,920); `chunks_exact_mut` is as fast, but its contract does not say what the slice ends as.
 fn tone_eights<const P: usize, const K: usize>(s: &mut [u8], w: usize, tables: Tables)
     requires { Pixels P K × (length s.old ≡ w * P) }
@@ -116,7 +117,7 @@ fn tone_row(s: &mut [u8], w: usize, p: usize, kept: usize, table: &[u8; 256])
 
 // Tones each row of a plane in place by one table. Padding and the kept channel stay.
 pub fn tone_rows(plane: &mut [u8], grid: Grid, p: usize, kept: usize, table: &[u8; 256])
-    requires { InPlace p kept × Lies grid p (length plane.old) }
+    requires { InPlace p kept × HasRows grid p (length plane.old) }
     ensures { plane.new
         ≡ each (plane_byte (grid.w * p) grid.h grid.step (row_byte p kept (same table.now)))
         plane.old }
@@ -142,8 +143,8 @@ pub fn copy_bytes(src: &[u8], dst: &mut [u8])
 }
 
 // Copies w pixels, and tones the copy.
-// Stays a loop: `copy_from_slice` calls memcpy, which costs more in blocks of this size (an Rgb24
-// picture of 1920 x 1080 takes 2,820 us with it, 2,670 with the loop).
+// Stays: a loop for the copy. `copy_from_slice` calls memcpy, which costs more in blocks of this
+// size: 2,820 us for the 2,670 of this (Rgb24, 1920 x 1080).
 fn tone_block_into<const P: usize, const K: usize>(
     src: &[u8],
     w: usize,
@@ -185,7 +186,7 @@ fn tone_plane_into<const P: usize, const K: usize>(
     tables: Tables,
     dst: &mut [u8],
 )
-    requires { Pixels P K × Lies grid P (length plane.now)
+    requires { Pixels P K × HasRows grid P (length plane.now)
         × (grid.h * (grid.w * P) ≤ length dst.old) }
     ensures { dst.new
         ≡ filled (grid.h * (grid.w * P))
@@ -211,7 +212,7 @@ fn tone_plane_into<const P: usize, const K: usize>(
 // Tones each row of a plane into tight rows at the front of dst, by colour, or by the red table
 // where a pixel is one byte.
 pub fn tone_rows_into(plane: &[u8], grid: Grid, p: usize, tables: Tables, dst: &mut [u8])
-    requires { Tight p × Lies grid p (length plane.now)
+    requires { Tight p × HasRows grid p (length plane.now)
         × (grid.h * (grid.w * p) ≤ length dst.old) }
     ensures { dst.new
         ≡ filled (grid.h * (grid.w * p))
