@@ -5,7 +5,7 @@ ghost use Rattle.std.specs.Prelude.{◌≡◌, true, ◌*◌, ◌≤◌, length}
 ghost use Rattle.points.specs.Points.{list_of};
 ghost use Rattle.tables.specs.Tables.{byte_table};
 ghost use Rattle.sets.specs.Sets.{view_of};
-ghost use Rattle.rows.specs.Rows.{Rows};
+ghost use Rattle.rows.specs.Lent.{HasRows};
 ghost use Rattle.formats.specs.Formats.{bytes_a_pixel};
 ghost use Rattle.formats.specs.Checks.{Supported};
 ghost use Rattle.pictures.specs.OneTable.{OneTableCall};
@@ -14,7 +14,7 @@ ghost use Rattle.pictures.specs.Runs.{tables_of, tight_rows, SetCall};
 use answers::{Answer, Refusal};
 use formats::{Lengths, PixelFormat, checks};
 use points::{Curve, Heights};
-use rows::{tone_rows, tone_rows_into};
+use rows::{Grid, Tables, copy_bytes, tone_rows, tone_rows_into};
 use sets::{Curves, chosen_table};
 use tables::{CurveInterpolation, entries_of};
 
@@ -55,9 +55,7 @@ pub fn apply_tone_lut(
     checks::lut_answer(format, w, h, step, plane.len())?;
     tone_rows(
         plane,
-        step,
-        w,
-        h,
+        Grid { w, h, step },
         format.bytes_a_pixel(),
         format.alpha(),
         &table,
@@ -79,20 +77,12 @@ fn own_table(present: bool, curve: Curve, kind: CurveInterpolation) -> [u8; 256]
 
 // Tones the first plane of an accepted run: by colour, each by its own table or else the
 // master's; or all by the master.
-fn tone_first(
-    set: Curves,
-    format: PixelFormat,
-    plane: &[u8],
-    step: usize,
-    w: usize,
-    h: usize,
-    out: &mut [u8],
-)
+fn tone_first(set: Curves, format: PixelFormat, plane: &[u8], grid: Grid, out: &mut [u8])
     requires supported { Supported format }
-    requires rows { Rows w h (w * bytes_a_pixel format) step (length plane.now) }
-    requires room { h * (w * bytes_a_pixel format) ≤ length out.old }
+    requires rows { HasRows grid (bytes_a_pixel format) (length plane.now) }
+    requires room { grid.h * (grid.w * bytes_a_pixel format) ≤ length out.old }
     ensures { out.new
-        ≡ tight_rows format w h step (tables_of format (view_of set)) plane.now
+        ≡ tight_rows format grid.w grid.h grid.step (tables_of format (view_of set)) plane.now
         out.old }
 {
     let kind = set.interpolation;
@@ -106,13 +96,13 @@ fn tone_first(
     let blue_table = own_table(blue, set.blue.curve, kind);
     tone_rows_into(
         plane,
-        step,
-        w,
-        h,
+        grid,
         format.bytes_a_pixel(),
-        chosen_table(red, &red_table, &master_table),
-        chosen_table(green, &green_table, &master_table),
-        chosen_table(blue, &blue_table, &master_table),
+        Tables {
+            red: chosen_table(red, &red_table, &master_table),
+            green: chosen_table(green, &green_table, &master_table),
+            blue: chosen_table(blue, &blue_table, &master_table),
+        },
         out,
     );
 }
@@ -165,11 +155,11 @@ pub fn apply_pixels<'a, 'x, 'y, 'z>(
     };
     set.check(Heights::Fine)?;
     checks::picture_answer(format, w, h, job.planes, step, held)?;
-    tone_first(set, format, plane, step, w, h, out);
+    tone_first(set, format, plane, Grid { w, h, step }, out);
     let row = w * format.bytes_a_pixel();
     if format.planes_read() == 3 {
-        out_cb[..cb.len()].copy_from_slice(cb);
-        out_cr[..cr.len()].copy_from_slice(cr);
+        copy_bytes(cb, out_cb);
+        copy_bytes(cr, out_cr);
         return Ok(Steps {
             step: row,
             cb_step,

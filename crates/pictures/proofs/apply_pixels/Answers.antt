@@ -1,5 +1,5 @@
 -- `apply_pixels`: an accepted run is toned and its chroma copied; a refused one touches nothing.
-use Rattle.std.proofs.Common.{◌≡◌, ◌≤◌, ℕ, List, refl, sym, ◌∙◌, true, false, length, take, arith, length-take, eq-eqb, ne_eqb}
+use Rattle.std.proofs.Common.{◌≡◌, ◌≤◌, ℕ, List, refl, sym, ◌∙◌, true, false, length, arith, eq-eqb, ne_eqb}
 use Rattle.answers.specs.Numbers.{done}
 use Rattle.answers.proofs.NumberLaws.{exit_refused}
 use Rattle.formats.specs.declared.PixelFormat.{PixelFormat}
@@ -82,9 +82,6 @@ chroma_room : (c : In_ok-picture_answer) → planes_read c.args.job.format ≡ 3
     → (length c.args.cb.now ≤ length c.args.out_cb.now) × (length c.args.cr.now ≤ length c.args.out_cr.now)
 chroma_room c e = (accepted c).chroma_room (is_yuv _ e)
 
-front_length : (n : ℕ) (l : List ℕ) → n ≤ length l → length (take n l) ≡ n
-front_length n l enough = simp length-take (omega arith)
-
 pub tone_first-requires : goal.tone_first-requires
 tone_first-requires c =
     let known = accepted (goal.at.tone_first-requires c).In_ok-picture_answer in
@@ -95,35 +92,15 @@ overflow_mul-row c =
     let plane = (accepted (goal.at.overflow_mul-row c).In_ok-picture_answer).plane in
     omega (arith, rw (← c.bytes_a_pixel.ensures) at plane.rows.stepped, plane.stepped)
 
-pub slice_bounds-copy_from_slice-end : goal.slice_bounds-copy_from_slice-end
-slice_bounds-copy_from_slice-end c =
-    let room = chroma_room (goal.at.slice_bounds-copy_from_slice-end c).In_ok-picture_answer (sym c.planes_read.ensures ∙ c.if-planes_read-eq3.true) in
-    room.0
+pub copy_bytes-requires : goal.copy_bytes-requires
+copy_bytes-requires c =
+    (chroma_room (goal.at.copy_bytes-requires c).In_ok-picture_answer
+    (sym c.planes_read.ensures ∙ c.if-planes_read-eq3.true)).0
 
-pub slice_bounds-copy_from_slice-end-then-planes_read-eq3 : goal.slice_bounds-copy_from_slice-end-then-planes_read-eq3
-slice_bounds-copy_from_slice-end-then-planes_read-eq3 c =
-    let room = chroma_room (goal.at.slice_bounds-copy_from_slice-end-then-planes_read-eq3 c).In_ok-picture_answer (sym c.planes_read.ensures ∙ c.if-planes_read-eq3.true) in
-    sym (front_length _ c.args.out_cb.now room.0)
-
-pub copy_from_slice-requires : goal.copy_from_slice-requires
-copy_from_slice-requires c =
-    let room = chroma_room (goal.at.copy_from_slice-requires c).In_ok-picture_answer (sym c.planes_read.ensures ∙ c.if-planes_read-eq3.true) in
-    front_length _ c.args.out_cb.now room.0
-
-pub slice_bounds-copy_from_slice-end-then-planes_read-eq3-2 : goal.slice_bounds-copy_from_slice-end-then-planes_read-eq3-2
-slice_bounds-copy_from_slice-end-then-planes_read-eq3-2 c =
-    let room = chroma_room (goal.at.slice_bounds-copy_from_slice-end-then-planes_read-eq3-2 c).In_ok-picture_answer (sym c.planes_read.ensures ∙ c.if-planes_read-eq3.true) in
-    room.1
-
-pub slice_bounds-copy_from_slice-end-then-planes_read-eq3-3 : goal.slice_bounds-copy_from_slice-end-then-planes_read-eq3-3
-slice_bounds-copy_from_slice-end-then-planes_read-eq3-3 c =
-    let room = chroma_room (goal.at.slice_bounds-copy_from_slice-end-then-planes_read-eq3-3 c).In_ok-picture_answer (sym c.planes_read.ensures ∙ c.if-planes_read-eq3.true) in
-    sym (front_length _ c.args.out_cr.now room.1)
-
-pub copy_from_slice-requires-then-planes_read-eq3 : goal.copy_from_slice-requires-then-planes_read-eq3
-copy_from_slice-requires-then-planes_read-eq3 c =
-    let room = chroma_room (goal.at.copy_from_slice-requires-then-planes_read-eq3 c).In_ok-picture_answer (sym c.planes_read.ensures ∙ c.if-planes_read-eq3.true) in
-    front_length _ c.args.out_cr.now room.1
+pub copy_bytes-requires-then-planes_read-eq3 : goal.copy_bytes-requires-then-planes_read-eq3
+copy_bytes-requires-then-planes_read-eq3 c =
+    (chroma_room (goal.at.copy_bytes-requires-then-planes_read-eq3 c).In_ok-picture_answer
+    (sym c.planes_read.ensures ∙ c.if-planes_read-eq3.true)).1
 
 pub returns-then-planes_read-eq3 : goal.returns-then-planes_read-eq3
 returns-then-planes_read-eq3 c =
@@ -133,8 +110,8 @@ returns-then-planes_read-eq3 c =
     c.tone_first.ensures
     true
     (is_yuv _ (sym c.planes_read.ensures ∙ c.if-planes_read-eq3.true))
-    (rw c.copy_from_slice.ensures.after)
-    (rw c.copy_from_slice-then-planes_read-eq3.ensures.after)
+    c.copy_bytes.ensures
+    c.copy_bytes-then-planes_read-eq3.ensures
 
 pub returns : goal.returns
 returns c =
