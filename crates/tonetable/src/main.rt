@@ -30,6 +30,7 @@ impl fmt::Display for Failure {
 }
 
 // Fills a buffer from its front, as far as the input goes, and answers how many bytes there were.
+// Stays: the edit `short_read_ends` is of this loop, and `read_to_end` would need the heap.
 fn fill<R: Read>(input: &mut R, buffer: &mut [u8]) -> io::Result<usize>
     ensures bound { IfOk result (λ n. n ≤ length buffer.new) }
     ensures front { IfOk result (λ n. IfSome (R.remaining input.old) (λ s.
