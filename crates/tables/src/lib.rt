@@ -26,14 +26,14 @@ ghost use Rattle.tables.specs.Tables.{
   BuildLutCall,
 };
 
-use answers::{Answer, first_of};
+use answers::{Answer, Refusal};
 use points::{Curve, given_knots};
 use sampling::Form;
 use spline::second::second_derivatives;
 use spline::{SplineBoundary, clamped_slope};
 
 // The kinds, in the order of document 01's numbers.
-#[derive(Clone, Copy)]
+#[derive(Clone, Copy, PartialEq, Eq)]
 pub enum CurveInterpolation {
     Linear,
     CatmullRom,
@@ -53,7 +53,7 @@ pub enum CurveInterpolation {
 }
 
 // What a kind carries beside its number.
-#[derive(Clone, Copy)]
+#[derive(Clone, Copy, PartialEq, Eq)]
 pub struct Carried {
     pub tension: u8,
     pub start: i16,
@@ -175,7 +175,7 @@ pub fn carried_by(kind: CurveInterpolation) -> Carried
     }
 }
 
-// A byte table, beside the answer.
+// A byte table, beside the answer. Stays: "A table handed back with it is all 0", document 01.
 #[derive(Clone, Copy)]
 pub struct Lut {
     pub answer: Answer,
@@ -267,10 +267,8 @@ fn to_bytes(samples: &[f32; 256]) -> [u8; 256]
     ensures { result ≡ bytes_of samples.now }
 {
     let mut bytes = [0; 256];
-    let mut v: usize = 0;
-    while v < 256 {
+    for v in 0..256 {
         bytes[v] = single::to_byte(samples[v]);
-        v += 1;
     }
     bytes
 }
@@ -288,40 +286,37 @@ pub fn entries_of(curve: Curve, kind: CurveInterpolation) -> [u8; 256]
 pub fn byte_table(curve: Curve, kind: CurveInterpolation) -> [u8; 256]
     ensures { result ≡ table_of curve kind }
 {
-    let answer = curve.check_given();
-    if !answer.is_done() {
-        return [0; 256];
+    match curve.check_given() {
+        Ok(()) => entries_of(curve, kind),
+        Err(_) => [0; 256],
     }
-    entries_of(curve, kind)
 }
 
 // Whether a fine table has so many samples.
 fn is_table_length(count: usize) -> bool
     ensures { result ≡ is_table_length count }
 {
-    count == Answer::TABLE_LENGTH || count == Answer::FINE_TABLE_LENGTH
+    count == Refusal::TABLE_LENGTH || count == Refusal::FINE_TABLE_LENGTH
 }
 
 // 14, of a fine table of so many samples.
 pub fn length_answer(count: usize) -> Answer
     ensures { result ≡ first_refusal (length_check count ∷ []) }
 {
-    if is_table_length(count) {
-        Answer::Done
-    } else {
-        Answer::TableLength
+    if !is_table_length(count) {
+        return Err(Refusal::TableLength);
     }
+    Ok(())
 }
 
 // The fine table of a given list, into a lent slice of 256 or 4,096 samples.
 pub fn build_table(curve: Curve, kind: CurveInterpolation, samples: &mut [f32]) -> Answer
     ensures { BuildTableCall curve kind samples.old result samples.new }
 {
-    let answer = first_of(curve.check_given(), length_answer(samples.len()));
-    if answer.is_done() {
-        sample_curve(&curve.xs, &curve.ys, curve.count, kind, samples);
-    }
-    answer
+    curve.check_given()?;
+    length_answer(samples.len())?;
+    sample_curve(&curve.xs, &curve.ys, curve.count, kind, samples);
+    Ok(())
 }
 
 // The byte table of a given list, beside the answer.
