@@ -67,6 +67,11 @@ abbrev pub is_done : Answer → Bool
 is_done (Ok _) = true
 is_done (Err _) = false
 
+-- what is answered by a call that hands a value back, or its refusal
+abbrev pub answer_of : {A : Type 0} → Result A Refusal → Answer
+answer_of (Ok _) = done
+answer_of (Err r) = Err r
+
 -- the first refusal of two answers
 abbrev pub first_of : Answer → Answer → Answer
 first_of (Ok _) b = b

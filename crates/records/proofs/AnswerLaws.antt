@@ -33,9 +33,9 @@ kind_read_lem unnamed false m s =
     rw (le-ltb last_kind (kind_number unnamed) (number_known unnamed))
     (checked_read (RecordTruncated when false ∷ UnknownKind when false ∷ [])
     (agreed_read m (kind_number unnamed) s))
-kind_read_lem unnamed true m [] = record { answer = refl; goes_on = refl }
+kind_read_lem unnamed true m [] = record { answer = refl; goes_on = tt }
 kind_read_lem unnamed true m (k ∷ s) =
-    by_test (ltb last_kind k) (λ t. rw t (record { answer = refl; goes_on = refl }))
+    by_test (ltb last_kind k) (λ t. rw t (record { answer = refl; goes_on = tt }))
     (λ t.
     rw t (checked_read (RecordTruncated when false ∷ UnknownKind when false ∷ [])
     (agreed_read m k s)))

@@ -2,7 +2,7 @@
 -- "Stored record" and "When a call says no" have it. Here are the fields in their order;
 -- `PointLists` has a list, `Kinds` the kind, `Map` the bits of the first byte.
 -- Definitions only.
-use Rattle.std.specs.Prelude.{ℕ, ◌+◌, ◌*◌, List, [], ◌∷◌, Bool, cond}
+use Rattle.std.specs.Prelude.{ℕ, ◌+◌, ◌*◌, List, [], ◌∷◌, Bool, cond, Err}
 use Rattle.std.proofs.Math.Option.{Option, none, some}
 use Rattle.answers.specs.declared.Refusal.TheVariants.{RecordTruncated, TrailingBytes}
 use Rattle.points.specs.declared.Point.{Point}
@@ -54,7 +54,7 @@ pub record Read : Type 0 where
 -- "a record reader hands back the empty set of the default kind, without colours"
 abbrev pub read_result : Parse View → Read
 read_result (good v s) = record { answer = done; set = v }
-read_result (refused a) = record { answer = a; set = empty_view }
+read_result (refused r) = record { answer = Err r; set = empty_view }
 
 -- a record without its map is refused with 2
 unfoldable pub read_record : List ℕ → Read

@@ -1,9 +1,9 @@
--- `Draft::carried`: by what the kind's number says that it carries.
-use Rattle.std.proofs.Common.{◌≡◌, [], ◌∷◌, ◌++◌, w16, to_z, of_z, rules}
+-- `push_carried`: by what the kind's number says that it carries.
+use Rattle.std.proofs.Common.{◌≡◌, [], ◌∷◌, ◌++◌, w16, to_z, of_z, arith, rules}
 use Rattle.writing.specs.Encode.{slope_bytes, carried_bytes}
-use Rattle.writing.proofs.Laws.{appended_none, appended_then, room_first, room_rest}
-use Rattle.writing.proofs.Draft.carried.Goals.{After-carried_by-carried, Then-carries_slopes, Then-carries_tension}
-use Rattle.writing.proofs.Draft.carried.Goals as goal
+use Rattle.writing.proofs.Laws.{appended_none, appended_then, pushed, room_first, room_rest}
+use Rattle.writing.proofs.push_carried.Goals.{After-carried_by-carried, Then-carries_slopes, Then-carries_tension}
+use Rattle.writing.proofs.push_carried.Goals as goal
 
 -- ---- what is carried passes through 16 bits
 start_back : (c : After-carried_by-carried) → let s = c.carried_by-carried.result.start in to_z w16 (of_z w16 s) ≡ s
@@ -23,12 +23,13 @@ tension-bytes c =
     )
 
 pub push-requires : goal.push-requires
-push-requires c = rw (tension-bytes (goal.at.push-requires c).Then-carries_tension) at c.requires
+push-requires c =
+    let room = rw (tension-bytes (goal.at.push-requires c).Then-carries_tension) at c.requires in omega arith
 
 pub returns-then-carries_tension : goal.returns-then-carries_tension
 returns-then-carries_tension c =
     let m = (goal.at.returns-then-carries_tension c).Then-carries_tension in
-    (rw (tension-bytes m) c.push.ensures, c.carried_by-carried.ensures.1)
+    (rw (tension-bytes m) (pushed _ _ _ c.push.ensures.items), c.carried_by-carried.ensures.1)
 
 -- ---- two slopes
 slopes-bytes : (c : Then-carries_slopes) → let r = c.carried_by-carried.result in
@@ -67,8 +68,8 @@ returns-then-carries_slopes c =
     (rw (slopes-bytes m.Then-carries_slopes) both, c.carried_by-carried.ensures.1)
 
 -- ---- nothing
-pub returns : goal.returns
-returns c = (
+pub returns-else-carries_slopes : goal.returns-else-carries_slopes
+returns-else-carries_slopes c = (
   rw (
     ← c.number-number.ensures,
     ← c.carries_tension.ensures,
