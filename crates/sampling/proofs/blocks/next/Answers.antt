@@ -3,10 +3,10 @@ use Rattle.std.proofs.Common.{lt-ltb, le-ltb}
 use Rattle.sampling.specs.Walk.{next_cursor}
 use Rattle.sampling.proofs.blocks.next.Goals as goal
 
-pub returns-then-v-end : goal.returns-then-v-end
+pub returns-then-p-end : goal.returns-then-p-end
 unfolding next_cursor
-returns-then-v-end c = rw (← c.wide-end.ensures, lt-ltb _ _ c.if-v-end.true)
+returns-then-p-end c = rw (lt-ltb _ _ c.if-p-end.true)
 
 pub returns : goal.returns
 unfolding next_cursor
-returns c = rw (← c.wide-end.ensures, le-ltb _ _ c.if-v-end.false, c.later.ensures)
+returns c = rw (le-ltb _ _ c.if-p-end.false, c.max.ensures)
