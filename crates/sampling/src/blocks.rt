@@ -21,6 +21,7 @@ impl Cursor {
 
 // The cursor after a block: four samples on, or where the piece ends before that,
 // its end and the next piece.
+#[tactic(auto, unfolding(crate::specs::Walk::next_cursor))]
 pub fn next(ends: &[u32; 66], p: Cursor) -> Cursor
     requires { (p.v ≤ 4096) × (p.i < 65) }
     ensures { result ≡ next_cursor ends.now p }
@@ -36,6 +37,7 @@ pub fn next(ends: &[u32; 66], p: Cursor) -> Cursor
 }
 
 // The part of a piece that lies left of x. No guard: the piece is not too thin.
+#[tactic(auto, unfolding(segments::specs::Straight::part, single::specs::Rules::guarded_quotient))]
 fn part(piece: Piece, x: f32) -> f32
     requires { too_thin piece.a.x piece.b.x ≡ false }
     ensures { result ≡ Straight.part piece.a piece.b x }

@@ -75,6 +75,7 @@ trait Drawn {
 }
 
 // The distance of two samples, of which there are from 2 to 4,096.
+#[tactic(auto, unfolding(segments::specs::Segments::step))]
 fn step_of(samples: usize) -> f32
     requires { (2 ≤ samples) × (samples ≤ 4096) }
     ensures { result ≡ S.step samples }
@@ -83,6 +84,7 @@ fn step_of(samples: usize) -> f32
 }
 
 // The x of sample v.
+#[tactic(auto, unfolding(segments::specs::Segments::sample_at))]
 fn position(step: f32, v: usize) -> f32
     requires { v ≤ 8192 }
     ensures { result ≡ S.sample_at step v }

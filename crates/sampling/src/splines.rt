@@ -26,6 +26,7 @@ fn coefficients(pieces: Pieces<'_>, c1s: &mut [f32; 66], c3s: &mut [f32; 66])
 }
 
 // Sample v of the piece from the knot a on with these coefficients.
+#[tactic(auto, unfolding(crate::specs::Walk::spline_sample))]
 fn sample(a: Knot, c1: f32, c2: f32, c3: f32, step: f32, v: usize) -> f32
     requires { v ≤ 4096 }
     ensures { result ≡ spline_sample a c1 c2 c3 step v }
@@ -40,6 +41,7 @@ pub struct Spline;
 impl Drawn for Spline {
     ghost form = { F.Spline };
 
+    #[tactic(auto, unfolding(crate::specs::Pieces::piece_height))]
     fn sample_at(piece: Piece, x: f32) -> f32 {
         single::clamp(spline::spline_piece(piece.a, piece.b, piece.p, piece.q, x))
     }
