@@ -75,13 +75,6 @@ circle_at = monotone_at false
 abbrev pub box_at : List Float → List Float → ℕ → ℕ → Float
 box_at = monotone_at true
 
--- ---- the rows that the code makes of the segments, by the row of secants ds: first mᵢ₊₁, and β
-unfoldable pub right_mean : List Float → ℕ → ℕ → Float
-right_mean ds n i = cond (eqb (i + 2) n) (at ds i) (½ ⊗ (at ds i ⊕ at ds (i + 1)))
-
-unfoldable pub quotient_of : List Float → List Float → ℕ → Float
-quotient_of rs ds i = at rs i ⊘ at ds i
-
 -- ---- what the code asks of a closure that limits the tangents of a segment, by what it may say
 unfoldable pub limited : Bool → Float → Float → Float → Tangents
 limited box Δ l r = cond box (boxed Δ l r) (circled Δ l r)
