@@ -1,14 +1,14 @@
-// The answer of a call: done, or the first refusal of document 01, "When a call says no". Document
-// 02 took the number 1 away and added 20.
+// The refusals of document 01, "When a call says no", and what a call answers: done, or the first
+// of its refusals. Document 02 took the number 1 away and added 20.
 #![tactic(auto)]
 
 ghost use Rattle.std.specs.Prelude.{◌≡◌, [], ◌∷◌};
-ghost use Rattle.answers.specs.Numbers.{number_of, is_done, first_of};
+ghost use Rattle.answers.specs.Numbers as N;
+ghost use Rattle.answers.specs.Numbers.{number_of};
 ghost use Rattle.answers.specs.Checks.{first_refusal, room_check};
 
-#[derive(Clone, Copy)]
-pub enum Answer {
-    Done,
+#[derive(Clone, Copy, PartialEq, Eq)]
+pub enum Refusal {
     RecordTruncated,
     PointCount,
     PointsNotRising,
@@ -25,48 +25,47 @@ pub enum Answer {
     HeightRange,
 }
 
-impl Answer {
+// What a call answers that hands nothing back.
+pub type Answer = Result<(), Refusal>;
+
+impl Refusal {
     // The lengths that 14 allows a float table: either where it is built, the second where it is
     // looked up in.
     pub const TABLE_LENGTH: usize = 256;
 
     pub const FINE_TABLE_LENGTH: usize = 4096;
 
-    // The paper's number; 0 for done.
+    // The paper's number.
     pub fn number(self) -> u8
-        ensures { result ≡ number_of self }
+        ensures { result ≡ N.refusal_number self }
     {
         match self {
-            Answer::Done => 0,
-            Answer::RecordTruncated => 2,
-            Answer::PointCount => 3,
-            Answer::PointsNotRising => 4,
-            Answer::UnknownKind => 5,
-            Answer::FieldMismatch => 6,
-            Answer::TrailingBytes => 7,
-            Answer::UnsupportedFormat => 8,
-            Answer::PictureTooLarge => 9,
-            Answer::MissingPlane => 10,
-            Answer::RowStep => 11,
-            Answer::PlaneTooShort => 12,
-            Answer::OutputTooSmall => 13,
-            Answer::TableLength => 14,
-            Answer::HeightRange => 20,
+            Refusal::RecordTruncated => 2,
+            Refusal::PointCount => 3,
+            Refusal::PointsNotRising => 4,
+            Refusal::UnknownKind => 5,
+            Refusal::FieldMismatch => 6,
+            Refusal::TrailingBytes => 7,
+            Refusal::UnsupportedFormat => 8,
+            Refusal::PictureTooLarge => 9,
+            Refusal::MissingPlane => 10,
+            Refusal::RowStep => 11,
+            Refusal::PlaneTooShort => 12,
+            Refusal::OutputTooSmall => 13,
+            Refusal::TableLength => 14,
+            Refusal::HeightRange => 20,
         }
-    }
-
-    pub fn is_done(self) -> bool
-        ensures { result ≡ is_done self }
-    {
-        self.number() == 0
     }
 }
 
-// The first refusal of two answers.
-pub fn first_of(a: Answer, b: Answer) -> Answer
-    ensures { result ≡ first_of a b }
+// The number of an answer: 0 for done, else the refusal's.
+pub fn number_of(answer: Answer) -> u8
+    ensures { result ≡ number_of answer }
 {
-    if a.is_done() { b } else { a }
+    match answer {
+        Ok(()) => 0,
+        Err(refusal) => refusal.number(),
+    }
 }
 
 // 13, of an output of so many bytes that is to take count.
@@ -74,8 +73,7 @@ pub fn room_for(count: usize, held: usize) -> Answer
     ensures { result ≡ first_refusal (room_check count held ∷ []) }
 {
     if held < count {
-        Answer::OutputTooSmall
-    } else {
-        Answer::Done
+        return Err(Refusal::OutputTooSmall);
     }
+    Ok(())
 }

@@ -7,8 +7,7 @@ use Rattle.std.specs.Float.{binary32}
 use Rattle.std.specs.Float.Ieee.{mul, div, of_int, of_bits, to_bits}
 use Rattle.lists.specs.Tabulate.{tabulate}
 use Rattle.floats.specs.Notation.{◌⊗◌}
-use Rattle.answers.specs.declared.Answer.TheVariants.{Done}
-use Rattle.answers.specs.Numbers.{number_of}
+use Rattle.answers.specs.Numbers.{number_of, done}
 use Rattle.single.specs.Constants.{𝟏/𝟐𝟓𝟔, 𝟐}
 use Rattle.single.specs.Root.{root_of}
 use Rattle.points.specs.Points.{at_level, straight_curve}
@@ -81,7 +80,7 @@ P9 = refl
 
 -- "P10 record (hexadecimal) 11 02 00 00 FF FF 00: straight master, Linear; .."
 pub P10 : read_record (0x11 ∷ 0x02 ∷ 0x00 ∷ 0x00 ∷ 0xFF ∷ 0xFF ∷ 0x00 ∷ [])
-    ≡ record { answer = Done; set = with_kind Linear (master_only straight_curve) }
+    ≡ record { answer = done; set = with_kind Linear (master_only straight_curve) }
 unfolding Computed.read
 P10 = refl
 
@@ -93,7 +92,7 @@ P10-longer b = refl
 
 -- "P11 map 0x80": it "becomes an accepted empty set", of kind 3 ..
 pub P11 : read_record (0x80 ∷ [])
-    ≡ record { answer = Done; set = with_kind MonotoneCubicBox (master_only []) }
+    ≡ record { answer = done; set = with_kind MonotoneCubicBox (master_only []) }
 unfolding Computed.read
 P11 = refl
 

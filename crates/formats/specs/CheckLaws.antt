@@ -1,12 +1,12 @@
 -- What is known once a check has passed.
 use Rattle.std.specs.Prelude.{ℕ, ◌*◌, ◌≤◌, ◌≡◌, refl, Bool, true, false, ◌||◌, ltb}
 use Rattle.std.proofs.Common.{true≢false, ltb-false}
-use Rattle.answers.specs.declared.Answer.TheVariants.{Done}
 use Rattle.answers.specs.Checks.{AllPassed, all_passed}
 use Rattle.rows.specs.Rows.{Rows, needed}
 use Rattle.formats.specs.declared.PixelFormat.{PixelFormat}
 use Rattle.formats.specs.Formats.{bytes_a_pixel}
 use Rattle.formats.specs.Checks.{too_large, wrong_step, plane_checks, lut_checks, lut_answer}
+use Rattle.answers.specs.Numbers.{done}
 
 pub neither : (s t : Bool) → s || t ≡ false → (s ≡ false) × (t ≡ false)
 neither true t e = absurd (true≢false e)
@@ -44,7 +44,7 @@ module _ (f : PixelFormat) (w h step len : ℕ) where
         };
       }
 
-  pub lut_done : lut_answer f w h step len ≡ Done → GoodPlane f w h step len
+  pub lut_done : lut_answer f w h step len ≡ done → GoodPlane f w h step len
   unfolding lut_answer
   lut_done e = let passed = all_passed (lut_checks f w h step len) e in
       good_plane passed.0 passed.1

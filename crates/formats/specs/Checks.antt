@@ -1,19 +1,13 @@
 -- The checks of the picture calls on numbers, in the order of document 01's section "When a call
 -- says no". Definitions only.
 use Rattle.std.specs.Prelude.{ℕ, ◌*◌, ◌≡◌, Bool, cond, ◌||◌, List, [], ◌∷◌, ◌++◌, ltb, eqb}
-use Rattle.answers.specs.declared.Answer.{Answer}
-use Rattle.answers.specs.declared.Answer.TheVariants.{
-  UnsupportedFormat,
-  PictureTooLarge,
-  MissingPlane,
-  RowStep,
-  PlaneTooShort,
-}
+use Rattle.answers.specs.declared.Refusal.TheVariants.{UnsupportedFormat, PictureTooLarge, MissingPlane, RowStep, PlaneTooShort}
 use Rattle.answers.specs.Checks.{Check, ◌when◌, first_refusal, room_check}
 use Rattle.rows.specs.Rows.{needed}
 use Rattle.formats.specs.declared.PixelFormat.{PixelFormat}
 use Rattle.formats.specs.declared.Lengths.{Lengths}
 use Rattle.formats.specs.Formats.{bytes_a_pixel, planes_read}
+use Rattle.answers.specs.Numbers.{Answer}
 
 -- the limits of 9 and 11
 abbrev pub largest_side : ℕ

@@ -1,5 +1,7 @@
 -- The twelve formats: their numbers, and the layout of each. Definitions only.
-use Rattle.std.specs.Prelude.{ℕ, Bool, true, false, List, [], ◌∷◌, get_or}
+use Rattle.std.specs.Prelude.{ℕ, Bool, true, false, cond, List, [], ◌∷◌, get_or, ltb, Result, Ok, Err}
+use Rattle.answers.specs.declared.Refusal.{Refusal}
+use Rattle.answers.specs.declared.Refusal.TheVariants.{UnsupportedFormat}
 use Rattle.formats.specs.declared.Layout.{Layout}
 use Rattle.formats.specs.declared.PixelFormat.{PixelFormat}
 use Rattle.formats.specs.declared.PixelFormat.TheVariants.{
@@ -30,6 +32,10 @@ last_format = 11
 -- a greater number is none: it is refused before anything is asked of its format
 unfoldable pub format_of : ℕ → PixelFormat
 format_of n = get_or in_order n Gray8
+
+-- 8 of a number above the last, else its format
+abbrev pub numbered_format : ℕ → Result PixelFormat Refusal
+numbered_format n = cond (ltb last_format n) (Err UnsupportedFormat) (Ok (format_of n))
 
 -- the columns of the table below: bytes, alpha, planes, by colour
 abbrev pub new_layout : ℕ → ℕ → ℕ → Bool → Layout

@@ -12,7 +12,7 @@ ghost use Rattle.formats.specs.Checks.{
 };
 
 use crate::{Lengths, PixelFormat};
-use answers::{Answer, first_of, room_for};
+use answers::{Answer, Refusal, room_for};
 
 fn too_large(w: usize, h: usize) -> bool
     ensures { result ≡ too_large w h }
@@ -46,13 +46,12 @@ fn plane_answer(w: usize, h: usize, row: usize, step: usize, len: usize) -> Answ
     ensures { result ≡ first_refusal (plane_checks w h row step len) }
 {
     if wrong_step(row, step) {
-        return Answer::RowStep;
+        return Err(Refusal::RowStep);
     }
     if len < needed_bytes(w, h, row, step) {
-        Answer::PlaneTooShort
-    } else {
-        Answer::Done
+        return Err(Refusal::PlaneTooShort);
     }
+    Ok(())
 }
 
 // 9, 11, 12.
@@ -60,7 +59,7 @@ pub fn lut_answer(format: PixelFormat, w: usize, h: usize, step: usize, len: usi
     ensures { result ≡ lut_answer format w h step len }
 {
     if too_large(w, h) {
-        return Answer::PictureTooLarge;
+        return Err(Refusal::PictureTooLarge);
     }
     plane_answer(w, h, w * format.bytes_a_pixel(), step, len)
 }
@@ -69,13 +68,12 @@ pub fn lut_answer(format: PixelFormat, w: usize, h: usize, step: usize, len: usi
 fn output_answer(format: PixelFormat, size: usize, held: Lengths) -> Answer
     ensures { result ≡ first_refusal (output_checks format size held) }
 {
-    let first = room_for(size, held.out);
-    if format.planes_read() == 3 {
-        let cb = room_for(held.cb, held.out_cb);
-        let cr = room_for(held.cr, held.out_cr);
-        return first_of(first, first_of(cb, cr));
+    room_for(size, held.out)?;
+    if format.planes_read() != 3 {
+        return Ok(());
     }
-    first
+    room_for(held.cb, held.out_cb)?;
+    room_for(held.cr, held.out_cr)
 }
 
 // 8, 9, 10, 11, 12, 13.
@@ -91,16 +89,15 @@ pub fn picture_answer(
 {
     let read = format.planes_read();
     if read == 0 {
-        return Answer::UnsupportedFormat;
+        return Err(Refusal::UnsupportedFormat);
     }
     if too_large(w, h) {
-        return Answer::PictureTooLarge;
+        return Err(Refusal::PictureTooLarge);
     }
     if planes < read {
-        return Answer::MissingPlane;
+        return Err(Refusal::MissingPlane);
     }
     let row = w * format.bytes_a_pixel();
-    let plane = plane_answer(w, h, row, step, held.plane);
-    let output = output_answer(format, h * row, held);
-    first_of(plane, output)
+    plane_answer(w, h, row, step, held.plane)?;
+    output_answer(format, h * row, held)
 }

@@ -2,12 +2,14 @@
 #![tactic(auto)]
 
 ghost use Rattle.std.specs.Prelude.{◌≡◌};
-ghost use Rattle.formats.specs.Formats.{format_of, new_layout, layout_of};
+ghost use Rattle.formats.specs.Formats.{format_of, numbered_format, new_layout, layout_of};
 ghost use Rattle.formats.specs.Formats.{bytes_a_pixel, alpha_of, planes_read, by_colour};
+
+use answers::Refusal;
 
 pub mod checks;
 
-#[derive(Clone, Copy)]
+#[derive(Clone, Copy, PartialEq, Eq)]
 pub enum PixelFormat {
     Gray8,
     Ya8,
@@ -45,6 +47,20 @@ pub fn format_of(n: u8) -> PixelFormat
         in_order[n as usize]
     } else {
         PixelFormat::Gray8
+    }
+}
+
+// 8, of a number above the last.
+impl TryFrom<u8> for PixelFormat {
+    type Error = Refusal;
+
+    ghost try_from_gives = { λ n r. r ≡ numbered_format n };
+
+    fn try_from(n: u8) -> Result<PixelFormat, Refusal> {
+        if PixelFormat::LAST < n {
+            return Err(Refusal::UnsupportedFormat);
+        }
+        Ok(format_of(n))
     }
 }
 

@@ -1,10 +1,10 @@
 -- Calls of the lookup where a slip would show, computed: a flat table, what is clamped to either
 -- end, the weights of the two entries, and tables that are an entry short or long.
-use Rattle.std.specs.Prelude.{◌≡◌, refl, true, false, cond, [], ◌∷◌, ℕ, eqb, replicate, Float}
+use Rattle.std.specs.Prelude.{◌≡◌, refl, true, false, cond, [], ◌∷◌, ℕ, eqb, replicate, Float, Err}
 use Rattle.std.specs.Float.{nan, inf, binary32}
 use Rattle.std.specs.Float.Ieee.{lt, le, add, sub, mul, div, of_int, of_bits}
 use Rattle.lists.specs.Tabulate.{tabulate}
-use Rattle.answers.specs.declared.Answer.TheVariants.{Done, TableLength}
+use Rattle.answers.specs.declared.Refusal.TheVariants.{TableLength}
 use Rattle.answers.specs.Checks.{first_refusal}
 use Rattle.single.specs.Constants.{𝟎, ½, 𝟏, 𝟐, 𝟐𝟓𝟓}
 use Rattle.single.specs.Rules.{floor_of}
@@ -17,6 +17,7 @@ use Rattle.lookup.specs.Lookup.{
   lookup_checks,
   looked_up,
 }
+use Rattle.answers.specs.Numbers.{done}
 
 -- a table of nothing but 255 gives 1 at both zeros, within, at the end, for
 -- NaN and for the infinities
@@ -64,10 +65,10 @@ unfolding looked_up tabulate looked blended position clamped_unit floor_of lt le
 weights = refl
 
 -- 14: "A float table's length isn't .. 4,096 (lookup)"; 256 is a length of a build only
-pub length_refused : (first_refusal (lookup_checks 4096) ≡ Done)
-    × (first_refusal (lookup_checks 4095) ≡ TableLength)
-    × (first_refusal (lookup_checks 4097) ≡ TableLength)
-    × (first_refusal (lookup_checks 256) ≡ TableLength)
+pub length_refused : (first_refusal (lookup_checks 4096) ≡ done)
+    × (first_refusal (lookup_checks 4095) ≡ Err TableLength)
+    × (first_refusal (lookup_checks 4097) ≡ Err TableLength)
+    × (first_refusal (lookup_checks 256) ≡ Err TableLength)
 length_refused = (refl, refl, refl, refl)
 
 -- "lent memory is unchanged"

@@ -9,7 +9,7 @@ ghost use Rattle.lists.specs.Stored.{Stored};
 ghost use Rattle.single.specs.Rules.{floor_of};
 ghost use Rattle.lookup.specs.Lookup as L;
 
-use answers::Answer;
+use answers::{Answer, Refusal};
 use single::count_to_float;
 
 // Clamped to 0..1: −0 stays, NaN gives 0.
@@ -53,7 +53,7 @@ fn blend(table: &[f32], v: f32, i: u16) -> f32
 fn block_size(n: usize) -> usize
     ensures { result ≡ min n 64 }
 {
-    if n < 64 { n } else { 64 }
+    n.min(64)
 }
 
 // The indices of the n values from the place at on.
@@ -62,10 +62,8 @@ fn indices(values: &[f32], at: usize, n: usize) -> [u16; 64]
     ensures { Stored (L.index_from values.now at) 0 n (replicate 64 0) result }
 {
     let mut indices = [0u16; 64];
-    let mut j = 0;
-    while j < n {
+    for j in 0..n {
         indices[j] = index(values[at + j]);
-        j += 1;
     }
     indices
 }
@@ -77,12 +75,9 @@ fn replace(table: &[f32], indices: &[u16; 64], at: usize, n: usize, values: &mut
     ensures { Stored (L.looked table.now values.old) at (at + n)
         values.old values.new }
 {
-    let mut j = 0;
-    while j < n {
+    for j in 0..n {
         let v = values[at + j];
-        let y = blend(table, v, indices[j]);
-        values[at + j] = y;
-        j += 1;
+        values[at + j] = blend(table, v, indices[j]);
     }
 }
 
@@ -90,8 +85,8 @@ fn replace(table: &[f32], indices: &[u16; 64], at: usize, n: usize, values: &mut
 pub fn lookup(table: &[f32], values: &mut [f32]) -> Answer
     ensures { L.LookupCall table.now values.old result values.new }
 {
-    if table.len() != Answer::FINE_TABLE_LENGTH {
-        return Answer::TableLength;
+    if table.len() != Refusal::FINE_TABLE_LENGTH {
+        return Err(Refusal::TableLength);
     }
     let end = values.len();
     let mut at = 0;
@@ -101,5 +96,5 @@ pub fn lookup(table: &[f32], values: &mut [f32]) -> Answer
         replace(table, &indices, at, n, values);
         at += n;
     }
-    Answer::Done
+    Ok(())
 }

@@ -1,8 +1,7 @@
 -- What a one-table call leaves is what is computed for it in specs/Examples.
 use Rattle.std.specs.Prelude.{◌≡◌, cond, List, ℕ}
 use Rattle.std.proofs.Common.{◌∙◌, ap}
-use Rattle.answers.specs.declared.Answer.{Answer}
-use Rattle.answers.specs.Numbers.{is_done}
+use Rattle.answers.specs.Numbers.{is_done, Answer}
 use Rattle.formats.specs.declared.PixelFormat.{PixelFormat}
 use Rattle.pictures.specs.OneTable.{OneTableCall, toned_within}
 use Rattle.pictures.specs.Examples.{more, plane, left}

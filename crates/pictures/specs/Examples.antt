@@ -1,23 +1,12 @@
 -- Calls where a slip would show, computed from the definitions: what is toned and what stays in
 -- each of the twelve formats, and the order of the refusals. Each value is document 01's: the
 -- sentence is quoted above it.
-use Rattle.std.specs.Prelude.{◌≡◌, refl, false, cond, List, [], ◌∷◌, ℕ, ◌+◌, length, get_or, replicate}
+use Rattle.std.specs.Prelude.{◌≡◌, refl, false, cond, List, [], ◌∷◌, ℕ, ◌+◌, length, get_or, replicate, Result, Ok, Err}
 use Rattle.std.proofs.Common.{ap, arith}
 use Rattle.std.specs.Float.Ieee.{add, sub, neg, mul, div, lt, of_int, of_bits}
-use Rattle.answers.specs.declared.Answer.{Answer}
-use Rattle.answers.specs.declared.Answer.TheVariants.{
-  Done,
-  PointCount,
-  PointsNotRising,
-  HeightRange,
-  UnsupportedFormat,
-  PictureTooLarge,
-  MissingPlane,
-  RowStep,
-  PlaneTooShort,
-  OutputTooSmall,
-}
-use Rattle.answers.specs.Numbers.{is_done}
+use Rattle.answers.specs.declared.Refusal.TheVariants.{PointCount, PointsNotRising, HeightRange, UnsupportedFormat, PictureTooLarge, MissingPlane, RowStep, PlaneTooShort, OutputTooSmall}
+use Rattle.answers.specs.declared.Refusal.{Refusal}
+use Rattle.answers.specs.Numbers.{is_done, answer_of, Answer, done}
 use Rattle.lists.specs.Each.{each}
 use Rattle.lists.specs.Tabulate.{tabulate, filled}
 use Rattle.floats.specs.Value.{absolute}
@@ -41,17 +30,16 @@ use Rattle.formats.specs.declared.PixelFormat.{PixelFormat}
 use Rattle.formats.specs.declared.PixelFormat.TheVariants.{Gray8, Rgb24, Cmyk, Yuv420P}
 use Rattle.formats.specs.Checks.{lut_answer}
 use Rattle.formats.specs.Examples.{yuv, others}
-use Rattle.pictures.specs.declared.Toned.{Toned}
+use Rattle.pictures.specs.declared.Steps.{Steps}
 use Rattle.pictures.specs.OneTable.{OneTableCall, toned_within}
 use Rattle.pictures.specs.Runs.{
   Outputs,
   Run,
-  row_bytes,
   answer,
   toned_by,
   first,
   chroma,
-  step_of,
+  handed,
   SetCall,
 }
 
@@ -85,11 +73,11 @@ lut_answered = lut_answer
 
 -- ---- the one-table call: what it answers
 -- "also at height 0"; and without columns no byte is needed
-pub no_rows : lut_answer Gray8 4 0 3 0 ≡ RowStep
+pub no_rows : lut_answer Gray8 4 0 3 0 ≡ Err RowStep
 unfolding lut_answered
 no_rows = refl
 
-pub no_columns_lem : lut_answer Gray8 0 2 3 0 ≡ Done
+pub no_columns_lem : lut_answer Gray8 0 2 3 0 ≡ done
 unfolding lut_answered
 no_columns_lem = refl
 
@@ -156,17 +144,17 @@ refused_plane = (refl, refl)
 -- ---- the order of the refusals: each line mends the first fault of the line before it, and has
 -- all the later ones still
 pub refusals_in_order :
-    (answer (run many Cmyk 4097 2 2 3 7 7 2) ≡ PointCount)
-    × (answer (run falling Cmyk 4097 2 2 3 7 7 2) ≡ PointsNotRising)
-    × (answer (run high Cmyk 4097 2 2 3 7 7 2) ≡ HeightRange)
-    × (answer (run line Cmyk 4097 2 2 3 7 7 2) ≡ UnsupportedFormat)
-    × (answer (run line Yuv420P 4097 2 2 3 7 7 2) ≡ PictureTooLarge)
-    × (answer (run line Yuv420P 4 2 2 3 7 7 2) ≡ MissingPlane)
-    × (answer (run line Yuv420P 4 2 3 3 7 7 2) ≡ RowStep)
-    × (answer (run line Yuv420P 4 2 3 4 7 7 2) ≡ PlaneTooShort)
-    × (answer (run line Yuv420P 4 2 3 4 8 7 2) ≡ OutputTooSmall)
-    × (answer (run line Yuv420P 4 2 3 4 8 8 2) ≡ OutputTooSmall)
-    × (answer (run line Yuv420P 4 2 3 4 8 8 3) ≡ Done)
+    (answer (run many Cmyk 4097 2 2 3 7 7 2) ≡ Err PointCount)
+    × (answer (run falling Cmyk 4097 2 2 3 7 7 2) ≡ Err PointsNotRising)
+    × (answer (run high Cmyk 4097 2 2 3 7 7 2) ≡ Err HeightRange)
+    × (answer (run line Cmyk 4097 2 2 3 7 7 2) ≡ Err UnsupportedFormat)
+    × (answer (run line Yuv420P 4097 2 2 3 7 7 2) ≡ Err PictureTooLarge)
+    × (answer (run line Yuv420P 4 2 2 3 7 7 2) ≡ Err MissingPlane)
+    × (answer (run line Yuv420P 4 2 3 3 7 7 2) ≡ Err RowStep)
+    × (answer (run line Yuv420P 4 2 3 4 7 7 2) ≡ Err PlaneTooShort)
+    × (answer (run line Yuv420P 4 2 3 4 8 7 2) ≡ Err OutputTooSmall)
+    × (answer (run line Yuv420P 4 2 3 4 8 8 2) ≡ Err OutputTooSmall)
+    × (answer (run line Yuv420P 4 2 3 4 8 8 3) ≡ done)
 unfolding answered
 refusals_in_order = (refl, refl, refl, refl, refl, refl, refl, refl, refl, refl, refl)
 
@@ -184,9 +172,9 @@ chroma_run cb cr outCb outCr = record {
 }
 
 pub chroma_apart :
-    (answer (chroma_run (1 ∷ 2 ∷ 3 ∷ []) (4 ∷ 5 ∷ []) 2 3) ≡ OutputTooSmall)
-    × (answer (chroma_run (1 ∷ 2 ∷ []) (3 ∷ 4 ∷ 5 ∷ []) 3 2) ≡ OutputTooSmall)
-    × (answer (chroma_run (1 ∷ 2 ∷ 3 ∷ []) (4 ∷ 5 ∷ []) 3 2) ≡ Done)
+    (answer (chroma_run (1 ∷ 2 ∷ 3 ∷ []) (4 ∷ 5 ∷ []) 2 3) ≡ Err OutputTooSmall)
+    × (answer (chroma_run (1 ∷ 2 ∷ []) (3 ∷ 4 ∷ 5 ∷ []) 3 2) ≡ Err OutputTooSmall)
+    × (answer (chroma_run (1 ∷ 2 ∷ 3 ∷ []) (4 ∷ 5 ∷ []) 3 2) ≡ done)
 unfolding answered
 chroma_apart = (refl, refl, refl)
 
@@ -220,21 +208,24 @@ picture w h step f = record {
   };
 }
 
+-- the steps that are handed back; none beside a refusal
+abbrev steps_in : Result Steps Refusal → List ℕ
+steps_in (Ok s) = s.step ∷ s.cb_step ∷ s.cr_step ∷ []
+steps_in (Err r) = []
+
 -- what the contract of the call says of the outputs afterwards, and of the steps handed back
 abbrev written : Run → List (List ℕ)
 written r =
     let l = r.lent in
-    first r ∷ chroma r l.cb l.outputs.cb ∷ chroma r l.cr l.outputs.cr
-    ∷ (cond (is_done (answer r)) (row_bytes r) 0 ∷ step_of r l.cb ∷ step_of r l.cr ∷ []) ∷ []
+    first r ∷ chroma r l.cb l.outputs.cb ∷ chroma r l.cr l.outputs.cr ∷ steps_in (handed r) ∷ []
 
-pub written_is : (r : Run) (t : Toned) (after : Outputs) → SetCall r t after
-    → after.first ∷ after.cb ∷ after.cr ∷ (t.step ∷ t.cb_step ∷ t.cr_step ∷ []) ∷ []
-    ≡ written r
-written_is r t after c = rw (c.first, c.cb, c.cr, c.step, c.cb_step, c.cr_step)
+pub written_is : (r : Run) (t : Result Steps Refusal) (after : Outputs) → SetCall r t after
+    → after.first ∷ after.cb ∷ after.cr ∷ steps_in t ∷ [] ≡ written r
+written_is r t after c = rw (c.first, c.cb, c.cr, c.handed)
 
 -- a refusal: "lent memory is unchanged"
 abbrev unchanged : List (List ℕ)
-unchanged = replicate 17 99 ∷ replicate 4 99 ∷ replicate 3 99 ∷ (0 ∷ 0 ∷ 0 ∷ []) ∷ []
+unchanged = replicate 17 99 ∷ replicate 4 99 ∷ replicate 3 99 ∷ [] ∷ []
 
 -- "Gray8 and luma by the master", "tight rows", "Output bytes past that are unchanged"
 abbrev by_master : List ℕ
@@ -296,7 +287,7 @@ first_row_within a c =
     let copied : ◌≡◌ {A = ℕ} 10 20 = ap (λ (l : List ℕ). get_or l 9 0) (rw c.answer at c.plane) in
     omega (arith, copied)
 
-pub first_row_by_set : (t : Toned) (cb cr : List ℕ)
+pub first_row_by_set : (t : Result Steps Refusal) (cb cr : List ℕ)
     → SetCall (picture 2 2 9 Gray8) t
     (record { first = 254 ∷ 253 ∷ 10 ∷ 11 ∷ replicate 13 99; cb = cb; cr = cr })
     → ⊥
@@ -312,7 +303,7 @@ copied_within a c =
     let copied : ◌≡◌ {A = ℕ} 1 11 = ap (λ (l : List ℕ). get_or l 0 0) (rw c.answer at c.plane) in
     omega (arith, copied)
 
-pub copied_by_set : (t : Toned) (cb cr : List ℕ)
+pub copied_by_set : (t : Result Steps Refusal) (cb cr : List ℕ)
     → SetCall (picture 2 2 9 Gray8) t
     (record { first = 1 ∷ 2 ∷ 10 ∷ 11 ∷ replicate 13 99; cb = cb; cr = cr })
     → ⊥
@@ -322,8 +313,8 @@ copied_by_set t cb cr c =
     omega (arith, copied)
 
 -- "a call that answers 13 on sufficient space, or some number always"
-pub not_always_refused : (a : Answer) (new : List ℕ) (t : Toned) (after : Outputs)
+pub not_always_refused : (a : Answer) (new : List ℕ) (t : Result Steps Refusal) (after : Outputs)
     → OneTableCall Gray8 2 2 9 more plane a new → SetCall (picture 2 2 9 Gray8) t after
-    → (a ≡ Done) × (t.answer ≡ Done)
+    → (a ≡ done) × (answer_of t ≡ done)
 unfolding answered lut_answered
-not_always_refused a new t after c d = (c.answer, d.answer)
+not_always_refused a new t after c d = (c.answer, ap answer_of d.handed)

@@ -1,8 +1,7 @@
 -- The one-table call: what it answers, and what the plane holds afterwards, as document 01's
 -- section "Pictures" has it. Definitions only.
 use Rattle.std.specs.Prelude.{ℕ, ◌*◌, ◌≡◌, cond, List, length}
-use Rattle.answers.specs.declared.Answer.{Answer}
-use Rattle.answers.specs.Numbers.{is_done}
+use Rattle.answers.specs.Numbers.{is_done, Answer}
 use Rattle.lists.specs.Each.{each}
 use Rattle.rows.specs.Bytes.{same, row_byte}
 use Rattle.rows.specs.Rows.{plane_byte}

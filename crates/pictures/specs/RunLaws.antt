@@ -1,12 +1,13 @@
 -- What is known once the set call is done or refused, and that the table of "the list that tones a
 -- byte" tones it.
-use Rattle.std.specs.Prelude.{ℕ, zero, suc, ◌≤◌, ◌≡◌, refl, true, false, List, [], ◌∷◌, length}
-use Rattle.std.proofs.Common.{ltb-false}
+use Rattle.std.specs.Prelude.{ℕ, zero, suc, ◌≤◌, ◌≡◌, refl, true, false, List, [], ◌∷◌, length, Result, Ok}
+use Rattle.std.proofs.Common.{ap, ◌∙◌, ltb-false}
 use Rattle.std.proofs.lemmas.Bool.{eqb-false}
-use Rattle.answers.specs.declared.Answer.TheVariants.{Done}
-use Rattle.answers.specs.Numbers.{is_done}
+use Rattle.answers.specs.declared.Refusal.{Refusal}
+use Rattle.answers.specs.Numbers.{is_done, answer_of, done}
 use Rattle.answers.specs.Checks.{AllPassed, room_check, all_passed}
 use Rattle.answers.proofs.CheckLaws.{done_append}
+use Rattle.answers.proofs.NumberLaws.{answer_handed}
 use Rattle.points.specs.declared.Heights.TheVariants.{Fine}
 use Rattle.tables.specs.Tables.{byte_table}
 use Rattle.sets.specs.Sets.{View, view_of, curve_checks, set_checks, set_answer}
@@ -15,7 +16,7 @@ use Rattle.formats.specs.declared.PixelFormat.{PixelFormat}
 use Rattle.formats.specs.Formats.{planes_read}
 use Rattle.formats.specs.Checks.{Supported}
 use Rattle.formats.specs.CheckLaws.{GoodPlane, good_plane}
-use Rattle.pictures.specs.declared.Toned.{Toned}
+use Rattle.pictures.specs.declared.Steps.{Steps}
 use Rattle.pictures.specs.Runs.{
   Outputs,
   Run,
@@ -27,6 +28,7 @@ use Rattle.pictures.specs.Runs.{
   tables_of,
   first,
   chroma,
+  steps_of,
   SetCall,
 }
 
@@ -39,7 +41,7 @@ tables_of_lem f v (suc (suc j)) = refl
 
 -- what is known of a run of the set call once it is accepted
 pub record Accepted (r : Run) : Type 0 where
-  pub lists : set_answer Fine r.job.set ≡ Done
+  pub lists : set_answer Fine r.job.set ≡ done
   pub legal : Legal Fine (view_of r.job.set)
   pub supported : Supported r.job.format
   pub planes : planes_read r.job.format ≤ r.job.planes
@@ -51,7 +53,7 @@ pub record Accepted (r : Run) : Type 0 where
       → (length r.lent.cb.bytes ≤ length r.lent.outputs.cb)
       × (length r.lent.cr.bytes ≤ length r.lent.outputs.cr)
 
-pub accepted_run : (r : Run) → answer r ≡ Done → Accepted r
+pub accepted_run : (r : Run) → answer r ≡ done → Accepted r
 unfolding answer set_answer
 accepted_run r e =
     let j = r.job in
@@ -89,9 +91,16 @@ fields_same first cb cr = rw (first, cb, cr)
 pub outputs_same : {a b : Outputs} → a.first ≡ b.first → a.cb ≡ b.cb → a.cr ≡ b.cr → a ≡ b
 outputs_same first cb cr = fields_same first cb cr
 
-pub refused_outputs : {r : Run} {t : Toned} {after : Outputs} → SetCall r t after
-    → is_done t.answer ≡ false → after ≡ r.lent.outputs
-unfolding first chroma
-refused_outputs call refused =
-    let not = rw call.answer at refused in
-    outputs_same (rw not at call.first) (rw not at call.cb) (rw not at call.cr)
+module _ {r : Run} {t : Result Steps Refusal} {after : Outputs} (call : SetCall r t after) where
+  -- what is answered, and the steps where nothing is refused
+  pub call_answer : answer_of t ≡ answer r
+  call_answer = ap answer_of call.handed ∙ answer_handed (answer r) (steps_of r)
+
+  pub call_steps : answer r ≡ done → t ≡ Ok (steps_of r)
+  call_steps e = rw e at call.handed
+
+  pub refused_outputs : is_done (answer_of t) ≡ false → after ≡ r.lent.outputs
+  unfolding first chroma
+  refused_outputs refused =
+      let not = rw call_answer at refused in
+      outputs_same (rw not at call.first) (rw not at call.cb) (rw not at call.cr)

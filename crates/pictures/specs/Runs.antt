@@ -1,9 +1,10 @@
 -- A run of the set call: all that it is given, what it answers and what its outputs hold
 -- afterwards, as document 01's sections "Pictures" and "When a call says no" have them. Definitions
 -- only.
-use Rattle.std.specs.Prelude.{ℕ, zero, suc, ◌*◌, ◌<◌, ◌≡◌, Bool, cond, ◌&&◌, List, ◌++◌, length, get_or, drop}
-use Rattle.answers.specs.declared.Answer.{Answer}
-use Rattle.answers.specs.Numbers.{is_done}
+use Rattle.std.specs.Prelude.{ℕ, zero, suc, ◌*◌, ◌<◌, ◌≡◌, Bool, cond, ◌&&◌, List, ◌++◌, length, get_or, drop, Result, Ok}
+use Rattle.std.specs.Result.{result_and}
+use Rattle.answers.specs.declared.Refusal.{Refusal}
+use Rattle.answers.specs.Numbers.{is_done, Answer}
 use Rattle.answers.specs.Checks.{Check, first_refusal}
 use Rattle.lists.specs.Tabulate.{filled}
 use Rattle.points.specs.declared.Point.{Point}
@@ -22,7 +23,7 @@ use Rattle.formats.specs.declared.Lengths.{Lengths}
 use Rattle.formats.specs.Formats.{bytes_a_pixel, alpha_of, by_colour}
 use Rattle.formats.specs.Checks.{chroma_read, picture_checks}
 use Rattle.pictures.specs.declared.Job.{Job}
-use Rattle.pictures.specs.declared.Toned.{Toned}
+use Rattle.pictures.specs.declared.Steps.{Steps}
 
 -- "A plane is its bytes together with its row step"
 pub record PlaneOf : Type 0 where
@@ -140,17 +141,27 @@ module _ (r : Run) where
   unfoldable pub chroma : PlaneOf → List ℕ → List ℕ
   chroma plane out = cond (accepted && has_chroma r) (copied plane out) out
 
-  -- "its step handed back"; zeros beside a refusal, and where there is no chroma
-  abbrev pub step_of : PlaneOf → ℕ
-  step_of plane = cond (accepted && has_chroma r) plane.step 0
+-- ---- what the set call hands back
+module _ (r : Run) where
+  -- "its step handed back"; 0 where there is no chroma
+  abbrev pub chroma_step : PlaneOf → ℕ
+  chroma_step plane = cond (has_chroma r) plane.step 0
+
+  abbrev pub steps_of : Steps
+  steps_of = record {
+    step = row_bytes r;
+    cb_step = chroma_step r.lent.cb;
+    cr_step = chroma_step r.lent.cr;
+  }
+
+  -- the steps of the outputs, or the first refusal
+  abbrev pub handed : Result Steps Refusal
+  handed = result_and (answer r) (Ok steps_of)
 
 -- what a call of the set call does: what it hands back, t, and the outputs after it; and what
 -- follows from the types of what it was given
-pub record SetCall (r : Run) (t : Toned) (after : Outputs) : Type 0 where
-  pub answer : t.answer ≡ answer r
-  pub step : t.step ≡ cond (accepted r) (row_bytes r) 0
-  pub cb_step : t.cb_step ≡ step_of r r.lent.cb
-  pub cr_step : t.cr_step ≡ step_of r r.lent.cr
+pub record SetCall (r : Run) (t : Result Steps Refusal) (after : Outputs) : Type 0 where
+  pub handed : t ≡ handed r
   pub first : after.first ≡ first r
   pub cb : after.cb ≡ chroma r r.lent.cb r.lent.outputs.cb
   pub cr : after.cr ≡ chroma r r.lent.cr r.lent.outputs.cr

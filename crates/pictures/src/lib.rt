@@ -11,10 +11,10 @@ ghost use Rattle.formats.specs.Checks.{Supported};
 ghost use Rattle.pictures.specs.OneTable.{OneTableCall};
 ghost use Rattle.pictures.specs.Runs.{tables_of, tight_rows, SetCall};
 
-use answers::{Answer, first_of};
+use answers::{Answer, Refusal};
 use formats::{Lengths, PixelFormat, checks};
 use points::{Curve, Heights};
-use rows::{copy_bytes, tone_rows, tone_rows_into};
+use rows::{Grid, Tables, copy_bytes, tone_rows, tone_rows_into};
 use sets::{Curves, chosen_table};
 use tables::{CurveInterpolation, entries_of};
 
@@ -29,27 +29,13 @@ pub struct Job {
     pub planes: usize,
 }
 
-// What the set call answers, and the row steps of its outputs.
+// The row steps of the set call's outputs: of the tight rows, then of Cb and Cr as they were given,
+// 0 where there is no chroma.
 #[derive(Clone, Copy)]
-pub struct Toned {
-    pub answer: Answer,
+pub struct Steps {
     pub step: usize,
     pub cb_step: usize,
     pub cr_step: usize,
-}
-
-impl Toned {
-    // A refusal, with zeros for the steps.
-    fn refused(answer: Answer) -> Toned
-        ensures { result ≡ record { answer = answer; step = 0; cb_step = 0; cr_step = 0 } }
-    {
-        Toned {
-            answer,
-            step: 0,
-            cb_step: 0,
-            cr_step: 0,
-        }
-    }
 }
 
 // Tones a plane in place by one table, all twelve formats. Alpha, chroma and
@@ -66,19 +52,16 @@ pub fn apply_tone_lut(
 {
     let w = width as usize;
     let h = height as usize;
-    let answer = checks::lut_answer(format, w, h, step, plane.len());
-    if answer.is_done() {
-        tone_rows(
-            plane,
-            step,
-            w,
-            h,
-            format.bytes_a_pixel(),
-            format.alpha(),
-            &table,
-        );
-    }
-    answer
+    checks::lut_answer(format, w, h, step, plane.len())?;
+    let grid = Grid { w, h, step };
+    tone_rows(
+        plane,
+        grid,
+        format.bytes_a_pixel(),
+        format.alpha(),
+        &table,
+    );
+    Ok(())
 }
 
 // The table of a list, where it is present. Else nothing is built, and nothing reads the zeros.
@@ -121,13 +104,13 @@ fn tone_first(
     let blue_table = own_table(blue, set.blue.curve, kind);
     tone_rows_into(
         plane,
-        step,
-        w,
-        h,
+        Grid { w, h, step },
         format.bytes_a_pixel(),
-        chosen_table(red, &red_table, &master_table),
-        chosen_table(green, &green_table, &master_table),
-        chosen_table(blue, &blue_table, &master_table),
+        Tables {
+            red: chosen_table(red, &red_table, &master_table),
+            green: chosen_table(green, &green_table, &master_table),
+            blue: chosen_table(blue, &blue_table, &master_table),
+        },
         out,
     );
 }
@@ -145,7 +128,7 @@ pub fn apply_pixels<'a, 'x, 'y, 'z>(
     out: &'x mut [u8],
     out_cb: &'y mut [u8],
     out_cr: &'z mut [u8],
-) -> Toned
+) -> Result<Steps, Refusal>
     ensures { SetCall (record {
       job = job;
       lent = record {
@@ -176,29 +159,22 @@ pub fn apply_pixels<'a, 'x, 'y, 'z>(
         out_cb: out_cb.len(),
         out_cr: out_cr.len(),
     };
-    let answer = first_of(
-        set.check(Heights::Fine),
-        checks::picture_answer(format, w, h, job.planes, step, held),
-    );
-    if !answer.is_done() {
-        return Toned::refused(answer);
-    }
+    set.check(Heights::Fine)?;
+    checks::picture_answer(format, w, h, job.planes, step, held)?;
     tone_first(set, format, plane, step, w, h, out);
     let row = w * format.bytes_a_pixel();
     if format.planes_read() == 3 {
         copy_bytes(cb, out_cb);
         copy_bytes(cr, out_cr);
-        return Toned {
-            answer,
+        return Ok(Steps {
             step: row,
             cb_step,
             cr_step,
-        };
+        });
     }
-    Toned {
-        answer,
+    Ok(Steps {
         step: row,
         cb_step: 0,
         cr_step: 0,
-    }
+    })
 }

@@ -3,14 +3,14 @@
 // a plane takes it apart and leaves the work to one on slices and numbers.
 #![tactic(auto)]
 
-ghost use Rattle.std.specs.Prelude.{◌≡◌, ◌+◌, ◌*◌, ◌≤◌, min};
+ghost use Rattle.std.specs.Prelude.{◌≡◌};
 ghost use Rattle.pictures.specs.OneTable.{OneTableCall};
 ghost use Rattle.pictures.specs.Runs.{SetCall};
 ghost use Rattle.planes.specs.Planes.{row_of};
 
-use answers::Answer;
+use answers::{Answer, Refusal};
 use formats::PixelFormat;
-use pictures::{Job, Toned, apply_pixels, apply_tone_lut};
+use pictures::{Job, Steps, apply_pixels, apply_tone_lut};
 
 // A plane that is read.
 #[derive(Clone, Copy)]
@@ -26,37 +26,14 @@ pub struct PlaneMut<'a> {
     pub step: usize,
 }
 
-// Where row y begins in a plane of len bytes; at its end, where it has no such row.
-fn row_start(len: usize, step: usize, y: usize) -> usize
-    ensures { result ≡ min (y * step) len }
-{
-    if step == 0 {
-        return 0;
-    }
-    if len / step < y {
-        return len;
-    }
-    y * step
-}
-
-// Where n bytes from start on end, or the plane does.
-fn row_end(len: usize, start: usize, n: usize) -> usize
-    requires { start ≤ len }
-    ensures { result ≡ min (start + n) len }
-{
-    if len - start < n {
-        return len;
-    }
-    start + n
-}
-
 // The row at y, of n bytes, as far as the plane holds it.
+#[tactic(auto, unfolding(crate::specs::Planes::row_of))]
 pub fn row_at<'a>(bytes: &'a [u8], step: usize, y: usize, n: usize) -> &'a [u8]
     ensures { result.now ≡ row_of bytes.now step y n }
 {
     let len = bytes.len();
-    let start = row_start(len, step, y);
-    let end = row_end(len, start, n);
+    let start = y.saturating_mul(step).min(len);
+    let end = start.saturating_add(n).min(len);
     &bytes[start..end]
 }
 
@@ -79,7 +56,7 @@ pub fn tone_picture<'a, 'x, 'y, 'z>(
     out: &'x mut [u8],
     out_cb: &'y mut [u8],
     out_cr: &'z mut [u8],
-) -> Toned
+) -> Result<Steps, Refusal>
     ensures { SetCall (record {
       job = job;
       lent = record {

@@ -1,9 +1,9 @@
 -- Document 01's marked examples, as far as they speak of lists: P3's kept points, the knots of an
 -- empty list (P1) and of (128,200) (P2). And the words of points and of heights, and the exact
 -- broken line of a list given unsorted, at their edges.
-use Rattle.std.specs.Prelude.{◌≡◌, refl, List, [], ◌∷◌, ℕ, zero, suc, ◌-◌, ◌≤◌, ◌<◌}
+use Rattle.std.specs.Prelude.{◌≡◌, refl, List, [], ◌∷◌, ℕ, zero, suc, ◌-◌, ◌≤◌, ◌<◌, Err}
 use Rattle.std.proofs.Common.{arith, lit<, lit≤}
-use Rattle.answers.specs.declared.Answer.TheVariants.{Done, PointCount, HeightRange}
+use Rattle.answers.specs.declared.Refusal.TheVariants.{PointCount, HeightRange}
 use Rattle.answers.specs.Checks.{first_refusal}
 use Rattle.points.specs.declared.Point.{Point}
 use Rattle.points.specs.declared.Curve.{Curve}
@@ -25,6 +25,7 @@ use Rattle.points.specs.Points.{
 use Rattle.points.specs.Joined.{curve_of}
 use Rattle.points.specs.Knots.{rest, knots, given_knots, x_of, OnLine}
 use Rattle.points.specs.Order.{All, Typed, Proper, WholeHeight, Rising, NeverFalls}
+use Rattle.answers.specs.Numbers.{done}
 
 pub P3-kept
     : kept (at_level 10 5 ∷ at_level 10 9 ∷ at_level 0 0 ∷ []) ≡ at_level 0 0 ∷ at_level 10 5 ∷ []
@@ -54,7 +55,7 @@ pub rounded_at_edges : (rounded 0 ≡ 0) × (rounded 127 ≡ 0) × (rounded 128 
 rounded_at_edges = (refl, refl, refl, refl, refl, refl, refl, refl)
 
 pub count_at_edges :
-    (first_refusal (count_check 64 ∷ []) ≡ Done) × (first_refusal (count_check 65 ∷ []) ≡ PointCount)
+    (first_refusal (count_check 64 ∷ []) ≡ done) × (first_refusal (count_check 65 ∷ []) ≡ Err PointCount)
 count_at_edges = (refl, refl)
 
 -- a list with points at 0 and at 255 has no further knots, one with points next to them has two
@@ -67,14 +68,14 @@ knots_at_edges = (refl, refl)
 -- 20: "a height above 65,280", of any point; when today's record is written, also "one that isn't a
 -- multiple of 256"
 pub heights_at_edges :
-    (first_refusal (height_check Fine (pt 0 1 ∷ pt 1 65280 ∷ []) ∷ []) ≡ Done)
-    × (first_refusal (height_check Fine (pt 0 1 ∷ pt 1 65281 ∷ []) ∷ []) ≡ HeightRange)
-    × (first_refusal (height_check Fine (pt 0 65535 ∷ pt 1 0 ∷ []) ∷ []) ≡ HeightRange)
-    × (first_refusal (height_check Whole (pt 0 256 ∷ pt 1 65280 ∷ []) ∷ []) ≡ Done)
-    × (first_refusal (height_check Whole (pt 0 0 ∷ pt 1 65281 ∷ []) ∷ []) ≡ HeightRange)
-    × (first_refusal (height_check Whole (pt 0 0 ∷ pt 1 65279 ∷ []) ∷ []) ≡ HeightRange)
-    × (first_refusal (height_check Whole (pt 0 1 ∷ pt 1 0 ∷ []) ∷ []) ≡ HeightRange)
-    × (first_refusal (height_check Whole (pt 0 65536 ∷ []) ∷ []) ≡ HeightRange)
+    (first_refusal (height_check Fine (pt 0 1 ∷ pt 1 65280 ∷ []) ∷ []) ≡ done)
+    × (first_refusal (height_check Fine (pt 0 1 ∷ pt 1 65281 ∷ []) ∷ []) ≡ Err HeightRange)
+    × (first_refusal (height_check Fine (pt 0 65535 ∷ pt 1 0 ∷ []) ∷ []) ≡ Err HeightRange)
+    × (first_refusal (height_check Whole (pt 0 256 ∷ pt 1 65280 ∷ []) ∷ []) ≡ done)
+    × (first_refusal (height_check Whole (pt 0 0 ∷ pt 1 65281 ∷ []) ∷ []) ≡ Err HeightRange)
+    × (first_refusal (height_check Whole (pt 0 0 ∷ pt 1 65279 ∷ []) ∷ []) ≡ Err HeightRange)
+    × (first_refusal (height_check Whole (pt 0 1 ∷ pt 1 0 ∷ []) ∷ []) ≡ Err HeightRange)
+    × (first_refusal (height_check Whole (pt 0 65536 ∷ []) ∷ []) ≡ Err HeightRange)
 unfolding all_allowed
 heights_at_edges = (refl, refl, refl, refl, refl, refl, refl, refl)
 
@@ -82,10 +83,10 @@ heights_at_edges = (refl, refl, refl, refl, refl, refl, refl, refl)
 abbrev claiming : ℕ → Curve
 claiming n = curve_of (pt 7 0 ∷ pt 7 65281 ∷ []) n
 
-pub given_at_edges : (first_refusal (list_checks (claiming 65)) ≡ PointCount)
-    × (first_refusal (list_checks (claiming 64)) ≡ HeightRange)
-    × (first_refusal (list_checks (claiming 2)) ≡ HeightRange)
-    × (first_refusal (list_checks (claiming 1)) ≡ Done)
+pub given_at_edges : (first_refusal (list_checks (claiming 65)) ≡ Err PointCount)
+    × (first_refusal (list_checks (claiming 64)) ≡ Err HeightRange)
+    × (first_refusal (list_checks (claiming 2)) ≡ Err HeightRange)
+    × (first_refusal (list_checks (claiming 1)) ≡ done)
 unfolding all_allowed
 given_at_edges = (refl, refl, refl, refl)
 

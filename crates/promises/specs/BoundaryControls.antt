@@ -3,8 +3,7 @@
 -- one names it. And what the clauses ask of a call is met by one.
 use Rattle.std.specs.Prelude.{ℕ, ◌+◌, ◌*◌, ◌<◌, ◌≡◌, refl, false, List, [], ◌∷◌, get_or, replicate}
 use Rattle.std.proofs.Common.{arith, ap, lit<}
-use Rattle.answers.specs.declared.Answer.TheVariants.{Done}
-use Rattle.answers.specs.Numbers.{number_of}
+use Rattle.answers.specs.Numbers.{number_of, done}
 use Rattle.answers.specs.Checks.{first_refusal}
 use Rattle.points.specs.declared.Curve.{Curve}
 use Rattle.points.specs.Joined.{FullRows}
@@ -54,7 +53,7 @@ none = record { present = false; curve = sixty_four 0 }
 module _ (kind : CurveInterpolation) (tension : (carried_of kind).tension < 256) where
   abbrev handed : RecordRead
   handed = record {
-    answer = Done;
+    answer = done;
     set = record {
       master = sixty_four 1;
       red = none;

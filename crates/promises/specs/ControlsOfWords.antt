@@ -5,7 +5,7 @@ use Rattle.std.specs.Prelude.{ℕ, zero, suc, ◌+◌, ◌*◌, ◌≤◌, ◌<�
 use Rattle.std.proofs.Common.{mul-pos, mul-le-mul_right, arith, ap, inl, inr, ⊎_elim, lit<, lit≤}
 use Rattle.std.proofs.Math.Decide.{dec_lt}
 use Rattle.std.proofs.lemmas.Bool.{eqb-false}
-use Rattle.answers.specs.declared.Answer.TheVariants.{RecordTruncated, PointCount}
+use Rattle.answers.specs.declared.Refusal.TheVariants.{RecordTruncated, PointCount}
 use Rattle.answers.specs.Checks.{◌when◌}
 use Rattle.points.specs.declared.Point.{Point}
 use Rattle.points.specs.Points.{pt, at_level}

@@ -9,8 +9,7 @@
 use Rattle.std.specs.Prelude.{ℕ, ◌≡◌, refl, false, List, [], eqb, length, replicate, Float}
 use Rattle.std.proofs.Common.{ap, ◌∙◌, true≢false}
 use Rattle.lists.specs.Test.{by_test}
-use Rattle.answers.specs.declared.Answer.{Answer}
-use Rattle.answers.specs.Numbers.{number_of, is_done}
+use Rattle.answers.specs.Numbers.{number_of, is_done, Answer}
 use Rattle.answers.specs.Checks.{first_refusal}
 use Rattle.points.specs.declared.Curve.{Curve}
 use Rattle.points.specs.declared.Heights.{Heights}

@@ -3,13 +3,12 @@
 -- here: each call that answers 0 gives what its definition says, the definitions are those of the
 -- published curves, and records survive writing then reading. What a call gives with another
 -- number is the first demand's.
-use Rattle.std.specs.Prelude.{ℕ, ◌+◌, ◌≤◌, ◌<◌, ◌≡◌, true, List, [], ◌∷◌, ◌++◌, ℤ, length, take, drop, T, Float}
+use Rattle.std.specs.Prelude.{ℕ, ◌+◌, ◌≤◌, ◌<◌, ◌≡◌, true, List, [], ◌∷◌, ◌++◌, ℤ, length, take, drop, T, Float, Err}
 use Rattle.std.proofs.Common.{arith}
 use Rattle.std.specs.Float.Ieee.Scale.{finite}
 use Rattle.lists.specs.Tabulate.{tabulate}
-use Rattle.answers.specs.declared.Answer.{Answer}
-use Rattle.answers.specs.declared.Answer.TheVariants.{Done, OutputTooSmall}
-use Rattle.answers.specs.Numbers.{number_of}
+use Rattle.answers.specs.declared.Refusal.TheVariants.{OutputTooSmall}
+use Rattle.answers.specs.Numbers.{number_of, Answer, done}
 use Rattle.answers.specs.Checks.{first_refusal, room_check}
 use Rattle.single.specs.Rules.{byte_of}
 use Rattle.points.specs.declared.Point.{Point}
@@ -188,19 +187,19 @@ write_record_lem = Fact.write_record_writes
 
 -- what was written, up to its length, is read without a refusal as the same set
 pub written_then_read : {set : Curves} {old new : List ℕ} {w : Written} {r : RecordRead}
-    → WriteRecordCall set old w new → w.answer ≡ Done
-    → ReadRecordCall (take w.length new) r → (r.answer ≡ Done) × Same r.set set
+    → WriteRecordCall set old w new → w.answer ≡ done
+    → ReadRecordCall (take w.length new) r → (r.answer ≡ done) × Same r.set set
 written_then_read = RoundTripLaws.written_then_read
 
 -- on the definitions: the record of every set that passes its check, with a tension of a byte or
 -- slopes of 16 bits, is read as that set
 pub round_trip : (v : View) → Legal Whole v → LegalKind v.kind
-    → read_record (encode v) ≡ record { answer = Done; set = v }
+    → read_record (encode v) ≡ record { answer = done; set = v }
 round_trip = RoundTripLaws.round_trip
 
 -- and a set that was read can be written: its record is not longer than the one it was read from,
 -- but for a byte where that one leaves kind 2 out, the writer refuses it for want of room alone ..
-pub not_longer : (s : List ℕ) → (read_record s).answer ≡ Done
+pub not_longer : (s : List ℕ) → (read_record s).answer ≡ done
     → length (encode (read_record s).set) ≤ length s + one_if (leaves_two_out s)
 not_longer = NotLonger.not_longer
 
@@ -211,15 +210,15 @@ accepted_not_refused = Writing.accepted_not_refused
 
 -- .. and never in a buffer that is so much longer than that record
 pub accepted_fits : (s : List ℕ) {old new : List ℕ} {r : RecordRead} {w : Written}
-    → ReadRecordCall s r → r.answer ≡ Done
+    → ReadRecordCall s r → r.answer ≡ done
     → WriteRecordCall r.set old w new
-    → length s + one_if (leaves_two_out s) ≤ length old → w.answer ≡ Done
+    → length s + one_if (leaves_two_out s) ≤ length old → w.answer ≡ done
 accepted_fits = Writing.accepted_fits
 
 -- .. nor any set whose lists pass the check in 522 bytes: they always suffice
 pub always_fits : {set : Curves} {old new : List ℕ} {w : Written} → WriteRecordCall set old w new
     → 522 ≤ length old
-    → (w.answer ≡ set_answer Whole set) × (w.answer ≡ OutputTooSmall → ⊥)
+    → (w.answer ≡ set_answer Whole set) × (w.answer ≡ Err OutputTooSmall → ⊥)
 always_fits = RoomLaws.always_fits
 
 -- records are canonical: the same sets are written as the same bytes ..
@@ -229,13 +228,13 @@ pub same_bytes : {a b : Curves} {old newA new_b : List ℕ} {w x : Written} → 
 same_bytes = Writing.same_runs
 
 -- .. an accepted record has the writer's, but for bit 7 and the naming of its kind ..
-pub accepted_in_full : (s : List ℕ) → AllBytes s → (read_record s).answer ≡ Done
+pub accepted_in_full : (s : List ℕ) → AllBytes s → (read_record s).answer ≡ done
     → named_in_full s ≡ named_in_full (encode (read_record s).set)
 accepted_in_full = Canonical.accepted_in_full
 
 -- .. and comes back byte for byte if it has bit 7 and does not name kind 3
 pub returned : (s : List ℕ) {old new : List ℕ} {r : RecordRead} {w : Written} → AllBytes s
-    → ReadRecordCall s r → r.answer ≡ Done
-    → has_writer_form s ≡ true → WriteRecordCall r.set old w new → w.answer ≡ Done
+    → ReadRecordCall s r → r.answer ≡ done
+    → has_writer_form s ≡ true → WriteRecordCall r.set old w new → w.answer ≡ done
     → (w.length ≡ length s) × (take w.length new ≡ s)
 returned = WriterFormLaws.returned

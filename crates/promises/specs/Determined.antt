@@ -7,7 +7,6 @@ use Rattle.std.proofs.Math.Decide.{ℕ_discrete, dec_lt}
 use Rattle.std.proofs.lemmas.Bool.{false≢true}
 use Rattle.std.proofs.Math.Bool.{and-eq-true_iff}
 use Rattle.lists.specs.Test.{by_test}
-use Rattle.answers.specs.declared.Answer.TheVariants.{Done}
 use Rattle.tables.specs.Tables.{entry_of}
 use Rattle.rows.specs.Rows.{in_row}
 use Rattle.formats.specs.declared.PixelFormat.{PixelFormat}
@@ -30,6 +29,7 @@ use Rattle.promises.specs.Words.{
 }
 use Rattle.promises.specs.Results.{byte_index, ExactPlane}
 use Rattle.promises.specs.PlaceFacts.{split_index, place_at}
+use Rattle.answers.specs.Numbers.{done}
 
 -- ---- a chroma output
 -- by the plane in front and what is behind it, where it keeps its length
@@ -143,7 +143,7 @@ one_plane f w h step table old a b c d =
 
 -- ---- what is handed back, and where the bytes lie
 pub handed_back : (a : Call) → ExactPicture a
-    → (a.answered.answer ≡ Done) × (a.answered.step ≡ row_bytes a.given)
+    → (a.answered.answer ≡ done) × (a.answered.step ≡ row_bytes a.given)
 handed_back a e = (e.done, e.step)
 
 pub steps_handed_back : (a : Call) → PassedThrough a → has_chroma a.given ≡ true

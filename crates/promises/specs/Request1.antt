@@ -4,8 +4,7 @@
 -- P10 and P11 are in Marked of the crate `examples`.
 use Rattle.std.specs.Prelude.{ℕ, ◌+◌, ◌<◌, ◌≡◌, true, false, cond, not, List, ◌∷◌, eqb, get_or}
 use Rattle.std.proofs.Common.{sym, ap, ◌∙◌}
-use Rattle.answers.specs.declared.Answer.TheVariants.{Done}
-use Rattle.answers.specs.Numbers.{is_done}
+use Rattle.answers.specs.Numbers.{is_done, done}
 use Rattle.answers.proofs.NumberLaws.{never_one}
 use Rattle.answers.specs.Checks.{Check, first_refusal}
 use Rattle.points.specs.declared.Curve.{Curve}
@@ -41,8 +40,8 @@ refused_record s {r} call refused =
 
 -- ---- a record that names no kind
 module _ (m : ℕ) (s : List ℕ) {r : RecordRead} (call : ReadRecordCall (m ∷ s) r)
-    (accepted : r.answer ≡ Done) (unnamed : bit 16 m ≡ false) where
-  read : (read_record (m ∷ s)).answer ≡ Done
+    (accepted : r.answer ≡ done) (unnamed : bit 16 m ≡ false) where
+  read : (read_record (m ∷ s)).answer ≡ done
   read = sym call.answer ∙ accepted
 
   kind_read_lem : kind_number r.set.interpolation ≡ kind_number (read_record (m ∷ s)).set.kind
@@ -84,7 +83,7 @@ bit_7_alone m s small before after =
 -- ---- "The writer sets bit 7 always and leaves the kind out when it is 3"
 -- and only then, bit 4 telling whether it is there
 pub writer_map : {set : Curves} {old new : List ℕ} {w : Written} → WriteRecordCall set old w new
-    → w.answer ≡ Done
+    → w.answer ≡ done
     → (bit 128 (get_or new 0 0) ≡ true)
     × (bit 16 (get_or new 0 0) ≡ not (eqb (kind_number set.interpolation) 3))
 writer_map = Writing.written_map

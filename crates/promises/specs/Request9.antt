@@ -5,8 +5,8 @@
 use Rattle.std.specs.Prelude.{ℕ, ◌<◌, ◌≡◌, length}
 use Rattle.std.proofs.Common.{arith, ap}
 use mathlib.Core.List.{List, [], ◌∷◌, Memᴰ}
-use Rattle.answers.specs.declared.Answer.TheVariants.{Done, HeightRange}
-use Rattle.answers.specs.Numbers.{number_of}
+use Rattle.answers.specs.declared.Refusal.TheVariants.{HeightRange}
+use Rattle.answers.specs.Numbers.{number_of, done}
 use Rattle.answers.proofs.NumberLaws.{number_unique}
 use Rattle.answers.specs.Checks.{first_refusal, room_check}
 use Rattle.floats.specs.Value.{Is}
@@ -78,7 +78,7 @@ module _ (s : List ℕ) {r : RecordRead} (call : ReadRecordCall s r) where
   read_heights = Runs.read_heights s call
 
   -- it may be toned, and the reader never answers 20
-  pub read_passes : set_answer Fine r.set ≡ Done
+  pub read_passes : set_answer Fine r.set ≡ done
   read_passes = Runs.read_passes s call
 
   pub reader_never_20 : number_of r.answer ≡ 20 → ⊥
@@ -87,15 +87,15 @@ module _ (s : List ℕ) {r : RecordRead} (call : ReadRecordCall s r) where
 -- and what its writer takes
 module _ {set : Curves} {old new : List ℕ} {w : Written}
     (call : WriteRecordCall set old w new) where
-  pub written_heights : w.answer ≡ Done → HoldsLevels (view_of set)
+  pub written_heights : w.answer ≡ done → HoldsLevels (view_of set)
   written_heights = Runs.written_heights call
 
   -- ---- "20 .., when today's record is written, one that isn't a multiple of 256"
   -- of a set that may be toned: with such a height 20, whatever the room, and else 13 or nothing
-  pub fine_refused : set_answer Fine set ≡ Done → (HoldsLevels (view_of set) → ⊥)
+  pub fine_refused : set_answer Fine set ≡ done → (HoldsLevels (view_of set) → ⊥)
       → number_of w.answer ≡ 20
   fine_refused fine not_whole = ap number_of (Runs.not_whole_refused call fine not_whole)
 
-  pub whole_accepted : set_answer Fine set ≡ Done → HoldsLevels (view_of set)
+  pub whole_accepted : set_answer Fine set ≡ done → HoldsLevels (view_of set)
       → w.answer ≡ first_refusal (room_check (length (encode (view_of set))) (length old) ∷ [])
   whole_accepted fine whole = Runs.whole_not_refused call fine whole

@@ -4,9 +4,7 @@ use Rattle.std.proofs.Common.{arith, sym, ap, ◌∙◌}
 use Rattle.lists.specs.Each.{length_each}
 use Rattle.lists.specs.Tabulate.{tabulate}
 use Rattle.lists.specs.Test.{by_test}
-use Rattle.answers.specs.declared.Answer.{Answer}
-use Rattle.answers.specs.declared.Answer.TheVariants.{Done}
-use Rattle.answers.specs.Numbers.{number_of}
+use Rattle.answers.specs.Numbers.{number_of, Answer, done}
 use Rattle.answers.proofs.NumberLaws.{number_unique}
 use Rattle.points.specs.declared.Curve.{Curve}
 use Rattle.points.specs.declared.Sorted.{Sorted}
@@ -56,7 +54,7 @@ lookup_replaces {table} call zero =
 module _ {f : PixelFormat} {w h step : ℕ} {table old new : List ℕ} {r : Answer}
     (call : OneTableCall f w h step table old r new) (zero : number_of r ≡ 0) where
   rows : Rows w h (w * bytes_a_pixel f) step (length old)
-  rows = (lut_done f w h step (length old) (sym call.answer ∙ number_unique r Done zero)).rows
+  rows = (lut_done f w h step (length old) (sym call.answer ∙ number_unique r done zero)).rows
 
   pub plane_is : new ≡ toned_within f w h step table old
   plane_is = rw zero at call.plane
@@ -109,6 +107,6 @@ pub write_record_writes : {set : Curves} {old new : List ℕ} {r : Written}
     → (r.length ≡ length (encode (view_of set)))
     × (new ≡ encode (view_of set) ++ drop (length (encode (view_of set))) old)
 write_record_writes {set} {old} {r = r} call zero =
-    let d = done_case set old (sym call.answer ∙ number_unique r.answer Done zero) in
+    let d = done_case set old (sym call.answer ∙ number_unique r.answer done zero) in
     let is = write_done set old d.0 d.1 in
     (rw is at call.length, rw is at call.buffer)

@@ -1,7 +1,6 @@
 -- The words of the third demand, with document 01's terms, and of document 02's U9, which restates
 -- it for finer heights. Definitions only.
 use Rattle.std.specs.Prelude.{ℕ, ◌+◌, ◌*◌, ◌≤◌, ◌<◌, ◌≡◌, ◌⊎◌, true, false, cond, List, [], length, get_or, take}
-use Rattle.answers.specs.declared.Answer.TheVariants.{Done}
 use Rattle.points.specs.declared.Point.{Point}
 use Rattle.points.specs.Knots.{OnLine}
 use Rattle.points.specs.Order.{All, WholeHeight, NeverFalls}
@@ -27,6 +26,7 @@ use Rattle.pictures.specs.Runs.{
   chroma,
   SetCall,
 }
+use Rattle.answers.specs.Numbers.{done}
 
 -- ---- runs
 -- a run of the set call, whole: what it was given, what it answered and the three outputs after it,
@@ -39,7 +39,7 @@ pub record Call : Type 0 where
 
 -- the documents do not refuse the run
 abbrev pub Accepted : Call → Type 0
-Accepted c = answer c.given ≡ Done
+Accepted c = answer c.given ≡ done
 
 -- two runs "share one set, format and size". "Two sets are the same if their lists, point by point,
 -- the colours present, and the kind with its tension or slopes agree"
@@ -150,7 +150,7 @@ pub record Copied (plane before after : List ℕ) : Type 0 where
 -- ---- what a run that is not refused gives
 -- "exactly the picture they define"
 pub record ExactPicture (c : Call) : Type 0 where
-  pub done : c.answered.answer ≡ Done
+  pub done : c.answered.answer ≡ done
   pub step : c.answered.step ≡ row_bytes c.given
   -- the three outputs are those of the definition
   pub out_is : c.after.first ≡ first c.given

@@ -1,8 +1,8 @@
 -- Into 522 bytes the writer never answers 13, by its definition and in any run.
-use Rattle.std.specs.Prelude.{ℕ, ◌≤◌, ◌≡◌, List, length}
+use Rattle.std.specs.Prelude.{ℕ, ◌≤◌, ◌≡◌, List, length, Err}
 use Rattle.std.proofs.Common.{ap, ◌∙◌}
 use Rattle.std.proofs.Math.Path.{sym}
-use Rattle.answers.specs.declared.Answer.TheVariants.{OutputTooSmall}
+use Rattle.answers.specs.declared.Refusal.TheVariants.{OutputTooSmall}
 use Rattle.answers.specs.Numbers.{number_of}
 use Rattle.points.specs.declared.Heights.TheVariants.{Whole}
 use Rattle.sets.specs.declared.Curves.{Curves}
@@ -16,7 +16,7 @@ use borrow.Author.Tests.{eqb-false}
 
 module _ (s : Curves) (buffer : List ℕ) (enough : longest ≤ length buffer) where
   -- the answer is never 13
-  pub never_thirteen : (write_record s buffer).answer ≡ OutputTooSmall → ⊥
+  pub never_thirteen : (write_record s buffer).answer ≡ Err OutputTooSmall → ⊥
   never_thirteen e =
       eqb-false (number_of (set_answer Whole s)) 13 (set_never s)
       (ap number_of (sym (longest_suffices s buffer enough) ∙ e))
@@ -26,7 +26,7 @@ module _ (s : Curves) (buffer : List ℕ) (enough : longest ≤ length buffer) w
 pub always_fits : {set : Curves} {before after : List ℕ} {w : Written}
     → WriteRecordCall set before w after
     → longest ≤ length before
-    → (w.answer ≡ set_answer Whole set) × (w.answer ≡ OutputTooSmall → ⊥)
+    → (w.answer ≡ set_answer Whole set) × (w.answer ≡ Err OutputTooSmall → ⊥)
 always_fits {set} {before} wrote room =
     let same = wrote.answer in
     (same ∙ longest_suffices set before room, λ e. never_thirteen set before room (sym same ∙ e))

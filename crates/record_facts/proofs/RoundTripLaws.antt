@@ -7,7 +7,6 @@ use Rattle.std.proofs.Math.Seq.{take-append_seam}
 use Rattle.points.specs.declared.Point.{Point}
 use Rattle.points.specs.declared.Heights.TheVariants.{Whole}
 use Rattle.tables.specs.Kinds.{LegalKind}
-use Rattle.answers.specs.declared.Answer.TheVariants.{Done}
 use Rattle.sets.specs.declared.Curves.{Curves}
 use Rattle.sets.specs.Legal.{LegalList, LegalColour, Legal, legal_view}
 use Rattle.sets.specs.Sets.{View, view_of}
@@ -24,6 +23,7 @@ use Rattle.records.specs.Views.{ReadRecordCall}
 use Rattle.writing.specs.declared.Written.{Written}
 use Rattle.writing.specs.Statements.{WriteRecordCall}
 use Rattle.record_facts.specs.RoundTrip.{list_or, list_back, colour_back, kind_back, regroup}
+use Rattle.answers.specs.Numbers.{done}
 
 -- ---- a field
 field_back : (o : Option (List Point)) (t : List ℕ) → LegalColour Whole o
@@ -39,7 +39,7 @@ master_back (p ∷ l) t h = list_back 1 (p ∷ l) t h (omega arith)
 -- ---- the record
 -- for every set whose lists, with whole heights, and kind are legal
 pub round_trip : (v : View) → Legal Whole v → LegalKind v.kind
-    → read_record (encode v) ≡ record { answer = Done; set = v }
+    → read_record (encode v) ≡ record { answer = done; set = v }
 unfolding read_record encode read_fields
 round_trip v h legal =
     let master = master_field v.master in
@@ -68,9 +68,9 @@ round_trip v h legal =
 
 -- what the writer leaves in the buffer, read up to the length written
 pub written_back : (s : Curves) (buffer : List ℕ) → LegalKind s.interpolation
-    → (write_record s buffer).answer ≡ Done
+    → (write_record s buffer).answer ≡ done
     → read_record (take (write_record s buffer).length (write_record s buffer).buffer)
-    ≡ record { answer = Done; set = view_of s }
+    ≡ record { answer = done; set = view_of s }
 written_back s buffer legal done =
     let d = done_case s buffer done in
     let e = encode (view_of s) in
@@ -81,9 +81,9 @@ written_back s buffer legal done =
 module _ {set : Curves} {before after : List ℕ} {w : Written} {r : RecordRead} where
   -- "reading what the writer wrote gives the same set back": of a run that answers done, the bytes
   -- up to its length are read as the same set
-  pub written_then_read : WriteRecordCall set before w after → w.answer ≡ Done
+  pub written_then_read : WriteRecordCall set before w after → w.answer ≡ done
       → ReadRecordCall (take w.length after) r
-      → (r.answer ≡ Done) × Same r.set set
+      → (r.answer ≡ done) × Same r.set set
   written_then_read wrote done handed =
       let written = sym wrote.answer ∙ done in
       let back = written_back set before (wrote.held done).kind written in

@@ -3,7 +3,6 @@ use Rattle.std.specs.Prelude.{ℕ, ◌≡◌, List, [], ◌∷◌, true, length,
 use Rattle.std.proofs.Common.{ap, ◌∙◌}
 use Rattle.std.proofs.Math.Path.{sym}
 use Rattle.std.proofs.Math.Seq.{take-append_seam}
-use Rattle.answers.specs.declared.Answer.TheVariants.{Done}
 use Rattle.sets.specs.Sets.{view_of}
 use Rattle.records.specs.declared.RecordRead.{RecordRead}
 use Rattle.records.specs.Map.{bit}
@@ -16,9 +15,10 @@ use Rattle.writing.specs.Statements.{WriteRecordCall}
 use Rattle.record_facts.specs.Found.{AllBytes}
 use Rattle.record_facts.specs.Canonical.{has_writer_form, encode_is, no_map, as_written}
 use Rattle.record_facts.specs.Spelling.{record_naming, record_is}
+use Rattle.answers.specs.Numbers.{done}
 
 -- one that has the writer's form is what the writer makes of its set
-pub accepted_is : (s : List ℕ) → AllBytes s → (read_record s).answer ≡ Done → has_writer_form s ≡ true
+pub accepted_is : (s : List ℕ) → AllBytes s → (read_record s).answer ≡ done → has_writer_form s ≡ true
     → encode (read_record s).set ≡ s
 accepted_is [] bytes accepted e = absurd (no_map accepted)
 accepted_is (m ∷ s) bytes accepted e =
@@ -31,8 +31,8 @@ accepted_is (m ∷ s) bytes accepted e =
 
 -- a record that was accepted and has the writer's form comes back byte for byte
 pub returned : (s : List ℕ) {before after : List ℕ} {r : RecordRead} {w : Written} → AllBytes s
-    → ReadRecordCall s r → r.answer ≡ Done
-    → has_writer_form s ≡ true → WriteRecordCall r.set before w after → w.answer ≡ Done
+    → ReadRecordCall s r → r.answer ≡ done
+    → has_writer_form s ≡ true → WriteRecordCall r.set before w after → w.answer ≡ done
     → (w.length ≡ length s) × (take w.length after ≡ s)
 returned s {before} {r = r} {w} bytes handed accepted form wrote done =
     let d = done_case r.set before (sym wrote.answer ∙ done) in

@@ -6,8 +6,7 @@ use Rattle.std.specs.Prelude.{ℕ, ◌+◌, ◌*◌, ◌≡◌, refl, List, [], 
 use Rattle.std.proofs.Common.{arith, sym, ap, ◌∙◌, append-nil, true≢false, length-append, eqb-true}
 use Rattle.std.proofs.lemmas.Bool.{false≢true, not-false}
 use Rattle.lists.specs.Test.{by_test}
-use Rattle.answers.specs.declared.Answer.TheVariants.{Done}
-use Rattle.answers.specs.Numbers.{is_done}
+use Rattle.answers.specs.Numbers.{is_done, done}
 use Rattle.answers.specs.Checks.{first_append}
 use Rattle.points.specs.declared.Heights.TheVariants.{Whole}
 use Rattle.tables.specs.declared.CurveInterpolation.{CurveInterpolation}
@@ -149,12 +148,12 @@ written_in_full v =
     (λ e. rw bits.0 (left_out v.kind (sym bits.1 ∙ e)))
 
 -- ---- an accepted record
-pub no_map : (read_record []).answer ≡ Done → ⊥
+pub no_map : (read_record []).answer ≡ done → ⊥
 unfolding read_record
 no_map e = true≢false (ap is_done (sym e))
 
 -- differs from what the writer makes of its set in what `named_in_full` puts in alone
-pub accepted_in_full : (s : List ℕ) → AllBytes s → (read_record s).answer ≡ Done
+pub accepted_in_full : (s : List ℕ) → AllBytes s → (read_record s).answer ≡ done
     → named_in_full s ≡ named_in_full (encode (read_record s).set)
 accepted_in_full [] bytes accepted = absurd (no_map accepted)
 accepted_in_full (m ∷ s) bytes accepted =
@@ -163,7 +162,7 @@ accepted_in_full (m ∷ s) bytes accepted =
     ∙ sym (written_in_full set)
 
 -- in the writer's form a kind is named just where the writer names it
-module _ (m : ℕ) (s : List ℕ) (accepted : (read_record (m ∷ s)).answer ≡ Done) where
+module _ (m : ℕ) (s : List ℕ) (accepted : (read_record (m ∷ s)).answer ≡ done) where
   abbrev set : View
   set = (read_record (m ∷ s)).set
 
@@ -182,7 +181,7 @@ module _ (m : ℕ) (s : List ℕ) (accepted : (read_record (m ∷ s)).answer ≡
 
 -- what the writer makes of its set has the writer's form; that no other record has it is in
 -- proofs/WriterFormLaws
-pub writer_form : (s : List ℕ) → (read_record s).answer ≡ Done → encode (read_record s).set ≡ s
+pub writer_form : (s : List ℕ) → (read_record s).answer ≡ done → encode (read_record s).set ≡ s
     → has_writer_form s ≡ true
 writer_form [] accepted e = absurd (no_map accepted)
 writer_form (m ∷ s) accepted e =
@@ -199,7 +198,7 @@ naming_length newer false v = simp length-append (omega arith)
 
 -- a byte less than what the writer makes of its set where it leaves kind 2 out, a byte more where
 -- it names kind 3, and else as long
-pub accepted_length : (s : List ℕ) → (read_record s).answer ≡ Done
+pub accepted_length : (s : List ℕ) → (read_record s).answer ≡ done
     → length s + one_if (leaves_two_out s)
     ≡ length (encode (read_record s).set) + one_if (names_three s)
 accepted_length [] accepted = absurd (no_map accepted)

@@ -1,13 +1,13 @@
 -- The facts about records at their edges: which records have the writer's form, and in what the
 -- others differ from it; which numbers are bytes, which sets are legal, which heights whole; a set
 -- with the longest record, and one byte less of room or input.
-use Rattle.std.specs.Prelude.{ℕ, zero, suc, ◌-◌, ◌<◌, ◌≡◌, refl, true, false, List, [], ◌∷◌, ◌++◌, pos, length, take, get_or}
+use Rattle.std.specs.Prelude.{ℕ, zero, suc, ◌-◌, ◌<◌, ◌≡◌, refl, true, false, List, [], ◌∷◌, ◌++◌, pos, length, take, get_or, Err}
 use Rattle.std.proofs.Common.{arith}
 use Rattle.std.proofs.Math.Bool.{false≢true}
 use Rattle.std.proofs.Math.Option.{some}
 use Rattle.std.proofs.Math.Dec.{lit<, lit≤}
 use Rattle.points.specs.Joined.{FullRows, curve_of}
-use Rattle.answers.specs.declared.Answer.TheVariants.{Done, OutputTooSmall, TrailingBytes}
+use Rattle.answers.specs.declared.Refusal.TheVariants.{OutputTooSmall, TrailingBytes}
 use Rattle.answers.specs.Checks.{first_refusal}
 use Rattle.lists.specs.Tabulate.{tabulate}
 use Rattle.points.specs.declared.Curve.{Curve}
@@ -41,6 +41,7 @@ use Rattle.record_facts.specs.Canonical.{
   has_writer_form,
   named_in_full,
 }
+use Rattle.answers.specs.Numbers.{done}
 
 -- ---- the writer's form
 -- bit 7 is set, and 3 is not named
@@ -181,13 +182,13 @@ not_whole = (
 
 -- a stored 255 is the height 65,280; 256, which is no byte, would be 65,536
 pub stored_255 : read_record (0x81 ∷ 1 ∷ 7 ∷ 255 ∷ [])
-    ≡ record { answer = Done; set = one_point 65280 }
+    ≡ record { answer = done; set = one_point 65280 }
 unfolding read_record read_fields read_list read_points pairs rises_from read_kind read_number read_carried
     kind_of
 stored_255 = refl
 
 pub stored_256 : read_record (0x81 ∷ 1 ∷ 7 ∷ 256 ∷ [])
-    ≡ record { answer = Done; set = one_point 65536 }
+    ≡ record { answer = done; set = one_point 65536 }
 unfolding read_record read_fields read_list read_points pairs rises_from read_kind read_number read_carried
     kind_of
 stored_256 = refl
@@ -234,11 +235,11 @@ unfolding encode bits_under pair_bytes tabulate
 longest_reached = refl
 
 -- 522 bytes of room suffice, 521 do not
-pub just_enough : first_refusal (write_checks longest_set longest) ≡ Done
+pub just_enough : first_refusal (write_checks longest_set longest) ≡ done
 unfolding rises_from all_allowed encode bits_under pair_bytes tabulate
 just_enough = refl
 
-pub one_less : first_refusal (write_checks longest_set (longest - 1)) ≡ OutputTooSmall
+pub one_less : first_refusal (write_checks longest_set (longest - 1)) ≡ Err OutputTooSmall
 unfolding rises_from all_allowed encode bits_under pair_bytes tabulate
 one_less = refl
 
@@ -246,13 +247,13 @@ one_less = refl
 abbrev pub byte_behind : List ℕ
 byte_behind = encode (view_of longest_set) ++ 0 ∷ []
 
-pub whole_refused : (read_record byte_behind).answer ≡ TrailingBytes
+pub whole_refused : (read_record byte_behind).answer ≡ Err TrailingBytes
 unfolding read_record read_fields read_list read_points pairs rises_from read_kind read_number read_carried
     kind_of
     read_slopes encode bits_under pair_bytes tabulate
 whole_refused = refl
 
-pub cut_accepted : (read_record (take longest byte_behind)).answer ≡ Done
+pub cut_accepted : (read_record (take longest byte_behind)).answer ≡ done
 unfolding read_record read_fields read_list read_points pairs rises_from read_kind read_number read_carried
     kind_of
     read_slopes encode bits_under pair_bytes tabulate

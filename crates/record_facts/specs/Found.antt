@@ -9,9 +9,8 @@ use Rattle.std.proofs.Math.ListN.{get_or-eq_default, get_or-append}
 use Rattle.std.specs.Int.Signed.{mag}
 use Rattle.std.proofs.lemmas.Bool.{not-false}
 use Rattle.lists.specs.Test.{by_test}
-use Rattle.answers.specs.declared.Answer.{Answer}
-use Rattle.answers.specs.declared.Answer.TheVariants.{Done, RecordTruncated, UnknownKind}
-use Rattle.answers.specs.Numbers.{is_done}
+use Rattle.answers.specs.declared.Refusal.TheVariants.{RecordTruncated, UnknownKind}
+use Rattle.answers.specs.Numbers.{is_done, Answer, done}
 use Rattle.answers.proofs.NumberLaws.{done_is}
 use Rattle.points.specs.declared.Point.{Point}
 use Rattle.points.specs.Points.{limit, rises, rises_from}
@@ -430,12 +429,12 @@ fields_of m v c kind =
 -- ---- the record
 -- nothing follows the last field
 end_found : {P : View → List ℕ → Type 0} {s : List ℕ} {p : Parse View} → Spelled P s p
-    → (read_result (p ▷ end_step)).answer ≡ Done → P (read_result (p ▷ end_step)).set s
+    → (read_result (p ▷ end_step)).answer ≡ done → P (read_result (p ▷ end_step)).set s
 end_found (found v c [] h w) e = rw (w ∙ append-nil c) h
 end_found (found v c (b ∷ t) h w) e = absurd (true≢false (ap is_done (sym e)))
 end_found (none_found a h) e = absurd (true≢false (ap is_done (sym e) ∙ h))
 
-pub accepted : (m : ℕ) (s : List ℕ) → (read_record (m ∷ s)).answer ≡ Done
+pub accepted : (m : ℕ) (s : List ℕ) → (read_record (m ∷ s)).answer ≡ done
     → Fields m (read_record (m ∷ s)).set s
 unfolding read_record read_fields
 accepted m s e = fields_of m _ s (end_found (in_order m s) e)

@@ -1,14 +1,13 @@
 -- "Today's stored record holds whole heights only": every height that its reader hands back is a
 -- multiple of 256, and the reader never answers 20; of the sets that may be toned its writer takes
 -- those of whole heights, and answers 20 for the others.
-use Rattle.std.specs.Prelude.{ℕ, ◌%◌, ◌≡◌, refl, Bool, true, false, not, List, [], ◌∷◌, leb}
+use Rattle.std.specs.Prelude.{ℕ, ◌%◌, ◌≡◌, refl, Bool, true, false, not, List, [], ◌∷◌, leb, Err}
 use Rattle.std.proofs.Common.{sym, ◌∙◌, true≢false, eq-eqb, le-ltb}
 use Rattle.std.proofs.lemmas.Bool.{false≢true, eqb-false, not-true}
 use Rattle.std.proofs.Math.Option.{Option, none, some}
 use Rattle.lists.specs.Test.{by_test}
-use Rattle.answers.specs.declared.Answer.{Answer}
-use Rattle.answers.specs.declared.Answer.TheVariants.{Done, TrailingBytes, HeightRange}
-use Rattle.answers.specs.Numbers.{number_of, is_done}
+use Rattle.answers.specs.declared.Refusal.TheVariants.{TrailingBytes, HeightRange}
+use Rattle.answers.specs.Numbers.{number_of, is_done, Answer, done}
 use Rattle.answers.specs.Checks.{Check, ◌when◌}
 use Rattle.points.specs.declared.Point.{Point}
 use Rattle.points.specs.declared.Curve.{Curve}
@@ -137,11 +136,11 @@ whole_passes (p ∷ l) e h =
 -- what the writer's checks answer for a set that may be toned: done, or 20, and done where its
 -- heights are whole
 record OnHeights (v : View) (a : Answer) : Type 0 where
-  refused : is_done a ≡ false → a ≡ HeightRange
-  whole : HoldsLevels v → a ≡ Done
+  refused : is_done a ≡ false → a ≡ Err HeightRange
+  whole : HoldsLevels v → a ≡ done
 
 module _ (v : View) where
-  list_heights : (c : Curve) → curve_answer Fine c ≡ Done
+  list_heights : (c : Curve) → curve_answer Fine c ≡ done
       → (HoldsLevels v → All WholeHeight (list_of c))
       → Refusals (OnHeights v) (curve_checks Whole c)
   list_heights c e h =
@@ -155,14 +154,14 @@ module _ (v : View) where
       })
       and no_more
 
-  colour_heights : (c : Channel) → channel_answer Fine c ≡ Done
+  colour_heights : (c : Channel) → channel_answer Fine c ≡ done
       → (HoldsLevels v → OfColour (All WholeHeight) (channel_of c))
       → Refusals (OnHeights v) (channel_checks (curve_checks Whole) c)
   unfolding channel_answer curve_answer
   colour_heights c e h =
       refusals_if c.present (λ t. list_heights c.curve (rw t at e) (λ all. rw t at (h all)))
 
-on_heights : (s : Curves) → set_answer Fine s ≡ Done → OnHeights (view_of s) (set_answer Whole s)
+on_heights : (s : Curves) → set_answer Fine s ≡ done → OnHeights (view_of s) (set_answer Whole s)
 unfolding set_answer
 on_heights s fine =
     let p = passed_set Fine s fine in
@@ -175,15 +174,15 @@ on_heights s fine =
     (colour_heights v s.blue p.blue (λ all. all.blue)))
 
 -- a set that may be written has whole heights
-pub passed_whole_set : (s : Curves) → set_answer Whole s ≡ Done → HoldsLevels (view_of s)
+pub passed_whole_set : (s : Curves) → set_answer Whole s ≡ done → HoldsLevels (view_of s)
 passed_whole_set s e =
     every_list (λ l h. passed_whole l h.high) (view_of s) (legal_view Whole s e)
 
-module _ (s : Curves) (fine : set_answer Fine s ≡ Done) where
+module _ (s : Curves) (fine : set_answer Fine s ≡ done) where
   -- and one of whole heights that may be toned may be written
-  pub whole_set_passes : HoldsLevels (view_of s) → set_answer Whole s ≡ Done
+  pub whole_set_passes : HoldsLevels (view_of s) → set_answer Whole s ≡ done
   whole_set_passes = (on_heights s fine).whole
 
   -- one that may not is refused with 20
-  pub refused_20 : is_done (set_answer Whole s) ≡ false → set_answer Whole s ≡ HeightRange
+  pub refused_20 : is_done (set_answer Whole s) ≡ false → set_answer Whole s ≡ Err HeightRange
   refused_20 = (on_heights s fine).refused

@@ -4,8 +4,7 @@ use Rattle.std.specs.Prelude.{◌≡◌, refl, Bool, true, false, List, [], ◌�
 use Rattle.std.proofs.Common.{ap, arith, length-take, take_all, get_or-take, le-ltb, ltb-true, ltb-false}
 use Rattle.std.proofs.Math.Seq.{take-nil}
 use Rattle.lists.specs.Test.{by_test}
-use Rattle.answers.specs.declared.Answer.{Answer}
-use Rattle.answers.specs.declared.Answer.TheVariants.{RecordTruncated, PointCount, TrailingBytes}
+use Rattle.answers.specs.declared.Refusal.TheVariants.{RecordTruncated, PointCount, TrailingBytes}
 use Rattle.answers.specs.Checks.{Check, ◌when◌, refuses}
 use Rattle.points.specs.declared.Point.{Point}
 use Rattle.points.specs.Points.{limit}
@@ -39,6 +38,7 @@ use Rattle.records.specs.Format.{
   read_result,
   read_record,
 }
+use Rattle.answers.specs.Numbers.{Answer}
 
 -- what is read of an input, and of its front: the same refusal, or the same value with a front left
 -- of at least n bytes, if there are so many

@@ -3,7 +3,6 @@
 use Rattle.std.specs.Prelude.{ℕ, ◌+◌, ◌/◌, ◌%◌, ◌<◌, ◌≡◌, refl, true, false, cond, List, [], ◌∷◌, eqb}
 use Rattle.std.proofs.Common.{arith, ap, ◌∙◌}
 use Rattle.lists.specs.Test.{by_test}
-use Rattle.answers.specs.declared.Answer.TheVariants.{Done}
 use Rattle.tables.specs.declared.CurveInterpolation.{CurveInterpolation}
 use Rattle.tables.specs.declared.CurveInterpolation.TheVariants.{MonotoneCubic, MonotoneCubicBox}
 use Rattle.tables.specs.Kinds.{kind_of}
@@ -23,6 +22,7 @@ use Rattle.records.specs.Format.{
   read_record,
 }
 use Rattle.record_facts.specs.Spelling.{unnamed_kind_lem}
+use Rattle.answers.specs.Numbers.{done}
 
 -- ---- without bit 7, and with it
 module _ (m : ℕ) (s : List ℕ) where
@@ -30,7 +30,7 @@ module _ (m : ℕ) (s : List ℕ) where
   unfolding read_record
   old_as_before older = rw older
 
-  module _ (accepted : (read_record (m ∷ s)).answer ≡ Done) (unnamed : bit 16 m ≡ false) where
+  module _ (accepted : (read_record (m ∷ s)).answer ≡ done) (unnamed : bit 16 m ≡ false) where
     pub old_kind : bit 128 m ≡ false → (read_record (m ∷ s)).set.kind ≡ MonotoneCubic
     old_kind older = unnamed_kind_lem m s accepted unnamed ∙ ap unnamed_kind older
 

@@ -2,9 +2,7 @@
 -- a call never answers is read off its checks.
 use Rattle.std.specs.Prelude.{ℕ, ◌≡◌, refl, Bool, true, false, cond, List, [], ◌∷◌, ◌++◌, eqb}
 use Rattle.lists.specs.Test.{by_test}
-use Rattle.answers.specs.declared.Answer.{Answer}
-use Rattle.answers.specs.declared.Answer.TheVariants.{Done}
-use Rattle.answers.specs.Numbers.{number_of}
+use Rattle.answers.specs.Numbers.{number_of, Answer, done}
 use Rattle.answers.specs.Checks.{Check, refuses, first_refusal}
 use Rattle.points.specs.declared.Curve.{Curve}
 use Rattle.sets.specs.declared.Curves.{Curves}
@@ -28,7 +26,7 @@ h also rest = (λ t. h) and rest
 
 module _ {P : Answer → Type 0} where
   -- so P of the first refusal, and of done where there is none
-  pub first_has : {cs : List Check} → P Done → Refusals P cs → P (first_refusal cs)
+  pub first_has : {cs : List Check} → P done → Refusals P cs → P (first_refusal cs)
   first_has done no_more = done
   first_has done (◌and◌ {c} h rest) =
       by_test (refuses c) (λ t. rw t (h t)) (λ t. rw t (first_has done rest))

@@ -2,12 +2,12 @@
 -- for the same set, room for a record that was read, and which heights are read and written. Others
 -- are in proofs/: the round trip in RoundTripLaws, room for every record in RoomLaws, and which
 -- come back byte for byte in WriterFormLaws.
-use Rattle.std.specs.Prelude.{ℕ, ◌+◌, ◌≤◌, ◌≡◌, List, [], ◌∷◌, true, false, not, eqb, ltb, length, get_or}
+use Rattle.std.specs.Prelude.{ℕ, ◌+◌, ◌≤◌, ◌≡◌, List, [], ◌∷◌, true, false, not, eqb, ltb, length, get_or, Err}
 use Rattle.std.proofs.Common.{arith, ap, ◌∙◌, le-ltb}
 use Rattle.std.proofs.Math.Path.{refl, sym}
 use Rattle.lists.specs.Test.{by_test}
-use Rattle.answers.specs.declared.Answer.TheVariants.{Done, OutputTooSmall, HeightRange}
-use Rattle.answers.specs.Numbers.{number_of, is_done}
+use Rattle.answers.specs.declared.Refusal.TheVariants.{OutputTooSmall, HeightRange}
+use Rattle.answers.specs.Numbers.{number_of, is_done, done}
 use Rattle.answers.proofs.NumberLaws.{done_is}
 use Rattle.answers.specs.Checks.{first_refusal, room_check}
 use Rattle.answers.proofs.CheckLaws.{first_stops, first_goes_on}
@@ -37,7 +37,7 @@ use Rattle.record_facts.specs.Canonical.{leaves_two_out, accepted_length, same_w
 
 -- a set that passes the writer's check of its lists is refused for its room alone
 passed_not_refused : {set : Curves} {before after : List ℕ} {w : Written}
-    → WriteRecordCall set before w after → set_answer Whole set ≡ Done
+    → WriteRecordCall set before w after → set_answer Whole set ≡ done
     → w.answer ≡ first_refusal (room_check (length (encode (view_of set))) (length before) ∷ [])
 unfolding set_answer
 passed_not_refused {set} {before} wrote passed =
@@ -55,9 +55,9 @@ accepted_not_refused s handed wrote = rw handed.set at (passed_not_refused wrote
 -- and of a record that was accepted it is done in every buffer that has room for that record, with
 -- a byte more where it leaves kind 2 out
 pub accepted_fits : (s : List ℕ) {before after : List ℕ} {r : RecordRead} {w : Written}
-    → ReadRecordCall s r → r.answer ≡ Done
+    → ReadRecordCall s r → r.answer ≡ done
     → WriteRecordCall r.set before w after
-    → length s + one_if (leaves_two_out s) ≤ length before → w.answer ≡ Done
+    → length s + one_if (leaves_two_out s) ≤ length before → w.answer ≡ done
 accepted_fits s {before} handed accepted wrote room =
     let long = accepted_length s (sym handed.answer ∙ accepted) in
     accepted_not_refused s handed wrote
@@ -77,7 +77,7 @@ same_runs {a} {b} {before} same left right =
 -- of a run that answers done, the first byte of the buffer is a map with bit 7, and with bit 4
 -- unless the kind is 3
 pub written_map : {set : Curves} {before after : List ℕ} {w : Written}
-    → WriteRecordCall set before w after → w.answer ≡ Done
+    → WriteRecordCall set before w after → w.answer ≡ done
     → (bit 128 (get_or after 0 0) ≡ true)
     × (bit 16 (get_or after 0 0) ≡ not (eqb (kind_number set.interpolation) 3))
 unfolding encode
@@ -92,24 +92,24 @@ module _ (s : List ℕ) {r : RecordRead} (handed : ReadRecordCall s r) where
   read_heights = rw handed.set (read_whole s)
 
   -- and passes the check of a set call
-  pub read_passes : set_answer Fine r.set ≡ Done
+  pub read_passes : set_answer Fine r.set ≡ done
   read_passes = fine_set Whole r.set handed.legal
 
   -- the reader never answers 20
-  pub reader_never_20 : r.answer ≡ HeightRange → ⊥
+  pub reader_never_20 : r.answer ≡ Err HeightRange → ⊥
   reader_never_20 e = never_20 s (ap number_of (sym handed.answer ∙ e))
 
 module _ {set : Curves} {before after : List ℕ} {w : Written}
     (wrote : WriteRecordCall set before w after)
   where
     -- a set that was written has whole heights
-    pub written_heights : w.answer ≡ Done → HoldsLevels (view_of set)
+    pub written_heights : w.answer ≡ done → HoldsLevels (view_of set)
     written_heights done =
         passed_whole_set set (done_case set before (sym wrote.answer ∙ done)).0
 
     -- of one that passes the check of a set call
-    module _ (fine : set_answer Fine set ≡ Done) where
-      lists_refused : is_done (set_answer Whole set) ≡ false → w.answer ≡ HeightRange
+    module _ (fine : set_answer Fine set ≡ done) where
+      lists_refused : is_done (set_answer Whole set) ≡ false → w.answer ≡ Err HeightRange
       unfolding set_answer
       lists_refused t =
           wrote.answer ∙ write_answer set before
@@ -117,8 +117,8 @@ module _ {set : Curves} {before after : List ℕ} {w : Written}
           ∙ refused_20 set fine t
 
       -- every refusal but 13 is 20
-      pub only_20 : (w.answer ≡ Done → ⊥) → (w.answer ≡ OutputTooSmall → ⊥)
-          → w.answer ≡ HeightRange
+      pub only_20 : (w.answer ≡ done → ⊥) → (w.answer ≡ Err OutputTooSmall → ⊥)
+          → w.answer ≡ Err HeightRange
       only_20 refused roomy =
           by_test (is_done (set_answer Whole set))
           (λ t.
@@ -128,7 +128,7 @@ module _ {set : Curves} {before after : List ℕ} {w : Written}
           lists_refused
 
       -- where a height is no multiple of 256, it is refused with 20, whatever the room
-      pub not_whole_refused : (HoldsLevels (view_of set) → ⊥) → w.answer ≡ HeightRange
+      pub not_whole_refused : (HoldsLevels (view_of set) → ⊥) → w.answer ≡ Err HeightRange
       not_whole_refused not_whole =
           by_test (is_done (set_answer Whole set))
           (λ t. absurd (not_whole (passed_whole_set set (done_is (set_answer Whole set) t))))

@@ -7,7 +7,6 @@ use mathlib.Core.List.{List, [], ◌∷◌, ◌++◌, append_assoc}
 use Rattle.std.proofs.Math.ListN.{length-append}
 use Rattle.std.proofs.lemmas.Bool.{eqb-false}
 use Rattle.lists.specs.Test.{by_test}
-use Rattle.answers.specs.declared.Answer.TheVariants.{Done}
 use Rattle.tables.specs.Kinds.{kind_number, kind_bits}
 use Rattle.sets.specs.Sets.{View}
 use Rattle.records.specs.Map.{bit, carried_bits}
@@ -22,6 +21,7 @@ use Rattle.record_facts.specs.Found.{
   accepted,
   carried_same,
 }
+use Rattle.answers.specs.Numbers.{done}
 
 -- the record of a set with bit 7, or without it, that names its kind, or does not: its map, and the
 -- bytes after that
@@ -86,7 +86,7 @@ module _ (m : ℕ) (s : List ℕ) (v : View) (f : Fields m v s) where
       (sym (append_assoc f.front (kind_byte (bit 16 m) v.kind) (carried_bytes v.kind)))))
 
 -- ---- an accepted record
-module _ (m : ℕ) (s : List ℕ) (e : (read_record (m ∷ s)).answer ≡ Done) where
+module _ (m : ℕ) (s : List ℕ) (e : (read_record (m ∷ s)).answer ≡ done) where
   abbrev set : View
   set = (read_record (m ∷ s)).set
 

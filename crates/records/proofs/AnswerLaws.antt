@@ -2,7 +2,7 @@
 use Rattle.std.specs.Prelude.{ℕ, ◌≡◌, refl, Bool, true, false, List, [], ◌∷◌, ltb}
 use Rattle.std.proofs.Common.{le-ltb}
 use Rattle.lists.specs.Test.{by_test}
-use Rattle.answers.specs.declared.Answer.TheVariants.{RecordTruncated, UnknownKind}
+use Rattle.answers.specs.declared.Refusal.TheVariants.{RecordTruncated, UnknownKind}
 use Rattle.answers.specs.Checks.{◌when◌, first_refusal}
 use Rattle.tables.specs.declared.CurveInterpolation.{CurveInterpolation}
 use Rattle.tables.specs.Kinds.{kind_number, last_kind}
@@ -33,9 +33,9 @@ kind_read_lem unnamed false m s =
     rw (le-ltb last_kind (kind_number unnamed) (number_known unnamed))
     (checked_read (RecordTruncated when false ∷ UnknownKind when false ∷ [])
     (agreed_read m (kind_number unnamed) s))
-kind_read_lem unnamed true m [] = record { answer = refl; goes_on = refl }
+kind_read_lem unnamed true m [] = record { answer = refl; goes_on = tt }
 kind_read_lem unnamed true m (k ∷ s) =
-    by_test (ltb last_kind k) (λ t. rw t (record { answer = refl; goes_on = refl }))
+    by_test (ltb last_kind k) (λ t. rw t (record { answer = refl; goes_on = tt }))
     (λ t.
     rw t (checked_read (RecordTruncated when false ∷ UnknownKind when false ∷ [])
     (agreed_read m k s)))

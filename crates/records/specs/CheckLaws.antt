@@ -1,17 +1,15 @@
 -- What the record reader's steps answer beside the record's checks, and that it hands back the
 -- empty set where one of them fails. That it answers their first refusal is in proofs/AnswerLaws.
-use Rattle.std.specs.Prelude.{ℕ, ◌*◌, ◌≡◌, refl, Bool, true, false, cond, not, List, [], ◌∷◌, ◌++◌, ltb, length, get_or, drop}
+use Rattle.std.specs.Prelude.{ℕ, ◌*◌, ◌≡◌, refl, Bool, true, false, cond, not, List, [], ◌∷◌, ◌++◌, ltb, length, get_or, drop, Err}
 use Rattle.std.proofs.Common.{arith, sym, ap, true≢false, le-ltb}
 use Rattle.lists.specs.Test.{by_test}
-use Rattle.answers.specs.declared.Answer.{Answer}
-use Rattle.answers.specs.declared.Answer.TheVariants.{Done, RecordTruncated, TrailingBytes}
-use Rattle.answers.specs.Numbers.{is_done}
+use Rattle.answers.specs.declared.Refusal.{Refusal}
+use Rattle.answers.specs.declared.Refusal.TheVariants.{RecordTruncated, TrailingBytes}
+use Rattle.answers.specs.Numbers.{is_done, Answer, done}
 use Rattle.answers.specs.Checks.{
   Check,
   ◌when◌,
-  refuses,
   first_refusal,
-  refusal,
   first_append,
   AllPassed,
   all_passed,
@@ -42,19 +40,18 @@ use Rattle.records.specs.Checks.{
 
 -- ---- what a reading behind checks finds: a refusal of theirs, or what it finds without them
 module _ {A : Type 0} (p : Parse A) where
-  checked_refused : (cs : List Check) {a : Answer} → a ≡ first_refusal cs → is_done a ≡ false
-      → checked cs p ≡ refused a
-  checked_refused [] e not_done = absurd (true≢false (rw e at not_done))
-  checked_refused (c ∷ cs) e not_done =
-      by_test (refuses c) (λ t. rw t (ap refused (sym (rw t at e))))
-      (λ t. rw t (checked_refused cs (rw t at e) not_done))
+  checked_refused : (cs : List Check) {r : Refusal} → first_refusal cs ≡ Err r
+      → checked cs p ≡ refused r
+  checked_refused [] e = absurd (true≢false (ap is_done e))
+  checked_refused (c ∷ cs) e =
+      by_test c.fails (λ t. rw t (ap refused (cc (rw t at e))))
+      (λ t. rw t (checked_refused cs (rw t at e)))
 
-  pub checked_stops : (cs ds : List Check) {a : Answer} → a ≡ first_refusal cs → is_done a ≡ false
-      → checked (cs ++ ds) p ≡ refused a
-  checked_stops cs ds e not_done =
-      checked_refused (cs ++ ds) (first_stops cs ds e not_done) not_done
+  pub checked_stops : (cs ds : List Check) {r : Refusal} → first_refusal cs ≡ Err r
+      → checked (cs ++ ds) p ≡ refused r
+  checked_stops cs ds e = checked_refused (cs ++ ds) (sym (first_stops cs ds e))
 
-  pub checked_goes_on : (cs ds : List Check) → first_refusal cs ≡ Done
+  pub checked_goes_on : (cs ds : List Check) → first_refusal cs ≡ done
       → checked (cs ++ ds) p ≡ checked ds p
   checked_goes_on [] ds done = refl
   checked_goes_on (c ∷ cs) ds done =
@@ -63,21 +60,21 @@ module _ {A : Type 0} (p : Parse A) where
 
 -- what every refusal has, and the reading once its checks have passed
 pub checked_has : {A : Type 0} (P : Parse A → Type 0)
-    → ((a : Answer) → is_done a ≡ false → P (refused a))
+    → ((r : Refusal) → P (refused r))
     → (cs : List Check) (p : Parse A) → (AllPassed cs → P p) → P (checked cs p)
 checked_has P refusals [] p holds = holds tt
 checked_has P refusals (c ∷ cs) p holds =
-    by_test (refuses c) (λ t. rw t (refusals c.answer (refusal c t)))
+    by_test c.fails (λ t. rw t (refusals c.refusal))
     (λ t. rw t (checked_has P refusals cs p (λ passed. holds (t, passed))))
 
 -- ---- the reader against the flat list
 abbrev answer_of : {A : Type 0} → Parse A → Answer
-answer_of (good v s) = Done
-answer_of (refused a) = a
+answer_of (good v s) = done
+answer_of (refused r) = Err r
 
 abbrev GoesOn : {A : Type 0} → List ℕ → Parse A → Type 0
 GoesOn t (good v s) = s ≡ t
-GoesOn t (refused a) = is_done a ≡ false
+GoesOn t (refused r) = Unit {0}
 
 -- a reading answers the first refusal of the checks, and where it refuses nothing it goes on with t
 pub record Reads {A : Type 0} (cs : List Check) (t : List ℕ) (p : Parse A) : Type 0 where
@@ -95,24 +92,24 @@ pub reads_then :
 reads_then {cs = cs} {ds = ds} {p = good v s} next f g =
     let h = rw (← f.goes_on) at (g v) in
     record { answer = rw (first_append cs ds, ← f.answer) h.answer; goes_on = h.goes_on }
-reads_then {cs = cs} {ds = ds} {p = refused a} next f g =
-    record { answer = rw (first_append cs ds, ← f.answer, f.goes_on); goes_on = f.goes_on }
+reads_then {cs = cs} {ds = ds} {p = refused r} next f g =
+    record { answer = first_stops cs ds (sym f.answer); goes_on = tt }
 
 -- a reading behind checks
-behind : {A : Type 0} (c : Check) (t : Bool) → refuses c ≡ t
+behind : {A : Type 0} (c : Check) (t : Bool)
     → {cs : List Check} {u : List ℕ} {p : Parse A}
     → Reads cs u p
-    → (answer_of (cond t (refused c.answer) p) ≡ cond t c.answer (first_refusal cs))
-    × GoesOn u (cond t (refused c.answer) p)
-behind c true e f = (refl, refusal c e)
-behind c false e f = (f.answer, f.goes_on)
+    → (answer_of (cond t (refused c.refusal) p) ≡ cond t (Err c.refusal) (first_refusal cs))
+    × GoesOn u (cond t (refused c.refusal) p)
+behind c true f = (refl, tt)
+behind c false f = (f.answer, f.goes_on)
 
 pub checked_read : {A : Type 0} (cs : List Check) {ds : List Check} {u : List ℕ} {p : Parse A}
     → Reads ds u p
     → Reads (cs ++ ds) u (checked cs p)
 checked_read [] f = f
 checked_read (c ∷ cs) f =
-    let r = behind c (refuses c) refl (checked_read cs f) in
+    let r = behind c c.fails (checked_read cs f) in
     record { answer = r.0; goes_on = r.1 }
 
 -- a list
@@ -120,7 +117,7 @@ list_read : (least : ℕ) (s : List ℕ)
     → Reads (stored_list_checks least s) (drop (get_or s 0 0 * point_bytes One) (drop 1 s))
     (read_list least s)
 unfolding read_list read_points
-list_read least [] = record { answer = refl; goes_on = refl }
+list_read least [] = record { answer = refl; goes_on = tt }
 list_read least (n ∷ s) =
     checked_read (stored_list_checks least (n ∷ s))
     (reads_on (pairs One n s) (drop (n * point_bytes One) s))
@@ -135,13 +132,13 @@ pub step_read : {A B : Type 0} {cs : List Check} {t : List ℕ} {p : Parse A} (f
     → Reads cs t p
     → Reads cs t (p ▷ λ v s. good (f v) s)
 step_read {p = good v s} f h = record { answer = h.answer; goes_on = h.goes_on }
-step_read {p = refused a} f h = record { answer = h.answer; goes_on = h.goes_on }
+step_read {p = refused r} f h = record { answer = h.answer; goes_on = h.goes_on }
 
 -- the kind
 tension_read : (k : ℕ) (s : List ℕ)
     → Reads (RecordTruncated when ltb (length s) 1 ∷ []) (drop 1 s) (read_tension k s)
 unfolding read_tension
-tension_read k [] = record { answer = refl; goes_on = refl }
+tension_read k [] = record { answer = refl; goes_on = tt }
 tension_read k (q ∷ s) =
     rw (le-ltb (length (q ∷ s)) 1 (omega arith))
     (checked_read (RecordTruncated when false ∷ []) (reads_on _ s))
@@ -167,17 +164,17 @@ agreed_read m k s = checked_read (bits_check m k ∷ []) (carried_read k s)
 pub end_read : (v : View) (s : List ℕ)
     → Reads (TrailingBytes when not (is_empty s) ∷ []) [] (end_step v s)
 end_read v [] = checked_read (TrailingBytes when false ∷ []) (reads_on v [])
-end_read v (b ∷ s) = record { answer = refl; goes_on = refl }
+end_read v (b ∷ s) = record { answer = refl; goes_on = tt }
 
 pub result_answer : {cs : List Check} {p : Parse View} → Reads cs [] p
     → (read_result p).answer ≡ first_refusal cs
 result_answer {p = good v s} f = f.answer
-result_answer {p = refused a} f = f.answer
+result_answer {p = refused r} f = f.answer
 
 -- ---- a refused record holds nothing
 result_empty : (p : Parse View) → is_done (read_result p).answer ≡ false → (read_result p).set ≡ empty_view
 result_empty (good v s) e = absurd (true≢false e)
-result_empty (refused a) e = refl
+result_empty (refused r) e = refl
 
 pub read_empty : (s : List ℕ) → is_done (read_record s).answer ≡ false
     → (read_record s).set ≡ empty_view

@@ -3,7 +3,7 @@
 -- read without the parser of `Format`, whose answer is the first refusal of the list
 -- (proofs/AnswerLaws). Definitions only.
 use Rattle.std.specs.Prelude.{ℕ, ◌*◌, Bool, true, false, cond, not, ◌&&◌, List, [], ◌∷◌, ◌++◌, ltb, length, get_or, drop}
-use Rattle.answers.specs.declared.Answer.TheVariants.{RecordTruncated, TrailingBytes}
+use Rattle.answers.specs.declared.Refusal.TheVariants.{RecordTruncated, TrailingBytes}
 use Rattle.answers.specs.Checks.{Check, ◌when◌}
 use Rattle.tables.specs.declared.CurveInterpolation.{CurveInterpolation}
 use Rattle.tables.specs.Kinds.{kind_number, carries_tension, carries_slopes}

@@ -2,15 +2,7 @@
 -- 01's P10. What bit 7 says of a missing kind, and that it says nothing else.
 use Rattle.std.specs.Prelude.{◌≡◌, refl, true, false, [], ◌∷◌, pos, negsuc}
 use Rattle.std.proofs.Math.Option.{some}
-use Rattle.answers.specs.declared.Answer.TheVariants.{
-  Done,
-  RecordTruncated,
-  PointCount,
-  PointsNotRising,
-  UnknownKind,
-  FieldMismatch,
-  TrailingBytes,
-}
+use Rattle.answers.specs.declared.Refusal.TheVariants.{RecordTruncated, PointCount, PointsNotRising, UnknownKind, FieldMismatch, TrailingBytes}
 use Rattle.points.specs.Points.{rises_from}
 use Rattle.tables.specs.declared.CurveInterpolation.TheVariants.{
   MonotoneCubic,
@@ -27,6 +19,7 @@ use Rattle.records.specs.PointLists.{pairs, read_points, read_list}
 use Rattle.records.specs.Kinds.{unnamed_kind, read_number, read_tension, read_slopes}
 use Rattle.records.specs.Kinds.{read_carried, read_kind}
 use Rattle.records.specs.Format.{read_fields, read_record, read_result}
+use Rattle.answers.specs.Numbers.{done}
 
 -- ---- a kind that is not named
 -- "relied on kind 2", and bit 7: "a missing kind means 3", which today is the default too
@@ -37,7 +30,7 @@ pub default_unnamed : unnamed_kind true ≡ default
 default_unnamed = refl
 
 pub old_empty : read_record (0x00 ∷ [])
-    ≡ record { answer = Done; set = with_kind MonotoneCubic empty_view }
+    ≡ record { answer = done; set = with_kind MonotoneCubic empty_view }
 unfolding read_record read_fields read_kind read_number read_carried kind_of
 old_empty = refl
 
@@ -48,35 +41,35 @@ all_bits = refl
 
 -- "a count of 0 being an empty one"
 pub red_empty : read_record (2 ∷ 0 ∷ [])
-    ≡ record { answer = Done; set = with_kind MonotoneCubic (with_colour Red (some []) empty_view) }
+    ≡ record { answer = done; set = with_kind MonotoneCubic (with_colour Red (some []) empty_view) }
 unfolding read_record read_fields read_list read_points pairs read_kind read_number read_carried rises_from
     kind_of
 red_empty = refl
 
 pub new_red_empty : read_record (0x82 ∷ 0 ∷ [])
-    ≡ record { answer = Done; set = with_kind MonotoneCubicBox (with_colour Red (some []) empty_view) }
+    ≡ record { answer = done; set = with_kind MonotoneCubicBox (with_colour Red (some []) empty_view) }
 unfolding read_record read_fields read_list read_points pairs read_kind read_number read_carried rises_from
     kind_of
 new_red_empty = refl
 
 -- ---- a kind that is named stands, bit 7 or not: 2 and 3 each way
 pub new_names_2 : read_record (0x90 ∷ 2 ∷ [])
-    ≡ record { answer = Done; set = with_kind MonotoneCubic empty_view }
+    ≡ record { answer = done; set = with_kind MonotoneCubic empty_view }
 unfolding read_record read_fields read_kind read_number read_carried kind_of
 new_names_2 = refl
 
 pub old_names_3 : read_record (0x10 ∷ 3 ∷ [])
-    ≡ record { answer = Done; set = with_kind MonotoneCubicBox empty_view }
+    ≡ record { answer = done; set = with_kind MonotoneCubicBox empty_view }
 unfolding read_record read_fields read_kind read_number read_carried kind_of
 old_names_3 = refl
 
 pub cardinal : read_record (0x30 ∷ 7 ∷ 128 ∷ [])
-    ≡ record { answer = Done; set = with_kind (Cardinal 128) empty_view }
+    ≡ record { answer = done; set = with_kind (Cardinal 128) empty_view }
 unfolding read_record read_fields read_kind read_number read_carried read_tension kind_of
 cardinal = refl
 
 pub clamped : read_record (0x50 ∷ 8 ∷ 0x00 ∷ 0x80 ∷ 0xff ∷ 0x7f ∷ [])
-    ≡ record { answer = Done; set = with_kind (ClampedCubic (negsuc 32767) (pos 32767)) empty_view }
+    ≡ record { answer = done; set = with_kind (ClampedCubic (negsuc 32767) (pos 32767)) empty_view }
 unfolding read_record read_fields read_kind read_number read_carried read_slopes kind_of
 clamped = refl
 
@@ -114,7 +107,7 @@ no_kind_byte = refl
 
 -- 9 is a kind
 pub last_kind_lem : read_record (0x10 ∷ 9 ∷ [])
-    ≡ record { answer = Done; set = with_kind NotAKnotCubic empty_view }
+    ≡ record { answer = done; set = with_kind NotAKnotCubic empty_view }
 unfolding read_record read_fields read_kind read_number read_carried kind_of
 last_kind_lem = refl
 
@@ -163,7 +156,7 @@ unfolding read_record read_fields read_kind read_number
 new_bits_disagree = refl
 
 pub new_clamped : read_record (0xd0 ∷ 8 ∷ 0x00 ∷ 0x80 ∷ 0xff ∷ 0x7f ∷ [])
-    ≡ record { answer = Done; set = with_kind (ClampedCubic (negsuc 32767) (pos 32767)) empty_view }
+    ≡ record { answer = done; set = with_kind (ClampedCubic (negsuc 32767) (pos 32767)) empty_view }
 unfolding read_record read_fields read_kind read_number read_carried read_slopes kind_of
 new_clamped = refl
 

@@ -2,10 +2,9 @@
 -- "Stored record" and "When a call says no" have it. Here are the fields in their order;
 -- `PointLists` has a list, `Kinds` the kind, `Map` the bits of the first byte.
 -- Definitions only.
-use Rattle.std.specs.Prelude.{ℕ, ◌+◌, ◌*◌, List, [], ◌∷◌, Bool, cond}
+use Rattle.std.specs.Prelude.{ℕ, ◌+◌, ◌*◌, List, [], ◌∷◌, Bool, cond, Err}
 use Rattle.std.proofs.Math.Option.{Option, none, some}
-use Rattle.answers.specs.declared.Answer.{Answer}
-use Rattle.answers.specs.declared.Answer.TheVariants.{Done, RecordTruncated, TrailingBytes}
+use Rattle.answers.specs.declared.Refusal.TheVariants.{RecordTruncated, TrailingBytes}
 use Rattle.points.specs.declared.Point.{Point}
 use Rattle.points.specs.Points.{limit}
 use Rattle.tables.specs.declared.CurveInterpolation.{CurveInterpolation}
@@ -17,6 +16,7 @@ use Rattle.records.specs.Parse.{Parse, good, refused, ◌▷◌}
 use Rattle.records.specs.Map.{bit, colour_bit}
 use Rattle.records.specs.PointLists.{point_bytes, read_field}
 use Rattle.records.specs.Kinds.{unnamed_kind, read_kind}
+use Rattle.answers.specs.Numbers.{Answer, done}
 
 -- ---- the fields in their order, each replacing one member of the set
 -- a master has at least one point: refusal 3 otherwise
@@ -53,8 +53,8 @@ pub record Read : Type 0 where
 
 -- "a record reader hands back the empty set of the default kind, without colours"
 abbrev pub read_result : Parse View → Read
-read_result (good v s) = record { answer = Done; set = v }
-read_result (refused a) = record { answer = a; set = empty_view }
+read_result (good v s) = record { answer = done; set = v }
+read_result (refused r) = record { answer = Err r; set = empty_view }
 
 -- a record without its map is refused with 2
 unfoldable pub read_record : List ℕ → Read

@@ -1,7 +1,7 @@
 -- The kind of the record: its byte, and the tension or the slopes that it carries.
 -- Definitions only.
 use Rattle.std.specs.Prelude.{ℕ, ◌+◌, ◌-◌, ◌*◌, List, [], ◌∷◌, Bool, true, false, cond, not, length, get_or, drop, ltb, eqb, ℤ, pos, negsuc}
-use Rattle.answers.specs.declared.Answer.TheVariants.{RecordTruncated, UnknownKind, FieldMismatch}
+use Rattle.answers.specs.declared.Refusal.TheVariants.{RecordTruncated, UnknownKind, FieldMismatch}
 use Rattle.answers.specs.Checks.{Check, ◌when◌}
 use Rattle.tables.specs.declared.CurveInterpolation.{CurveInterpolation}
 use Rattle.tables.specs.declared.CurveInterpolation.TheVariants.{MonotoneCubic, MonotoneCubicBox}

@@ -1,6 +1,6 @@
 -- A list of the record: "a count byte, then x, y pairs". Definitions only.
 use Rattle.std.specs.Prelude.{ℕ, zero, suc, ◌+◌, ◌*◌, List, [], ◌∷◌, ◌++◌, Bool, cond, length, get_or, drop, ltb}
-use Rattle.answers.specs.declared.Answer.TheVariants.{RecordTruncated, PointCount}
+use Rattle.answers.specs.declared.Refusal.TheVariants.{RecordTruncated, PointCount}
 use Rattle.answers.specs.Checks.{Check, ◌when◌}
 use Rattle.points.specs.declared.Point.{Point}
 use Rattle.points.specs.Points.{pt, at_level, count_check}

@@ -1,15 +1,12 @@
 // A list of the record: a count byte, then x, y pairs. An edition says how a pair is stored.
-ghost use Rattle.std.specs.Prelude.{◌≡◌, ◌+◌, ◌*◌, ◌≤◌, ◌<◌, length, drop};
-ghost use Rattle.answers.specs.declared.Answer.TheVariants.{Done};
+ghost use Rattle.std.specs.Prelude.{◌≡◌, ◌*◌, ◌≤◌, length};
 ghost use Rattle.answers.specs.Checks.{first_refusal};
-ghost use Rattle.points.specs.declared.Heights.TheVariants.{Whole};
 ghost use Rattle.points.specs.Points.{limit, list_of};
-ghost use Rattle.sets.specs.Sets.{curve_answer};
 ghost use Rattle.records.specs.PointLists.{point_bytes, point_of, pairs, count_checks};
 ghost use Rattle.records.specs.PointLists.{read_list, read_field};
-ghost use Rattle.records.specs.Views.{after, ListRead};
+ghost use Rattle.records.specs.Views.{ListRead};
 
-use answers::Answer;
+use answers::{Answer, Refusal};
 use points::{Curve, Point, check_count};
 
 // How a point is stored: its x, then its height, as a level in one byte, or in 256ths, low byte
@@ -18,28 +15,6 @@ use points::{Curve, Point, check_count};
 pub enum Edition {
     One,
     Two,
-}
-
-// A list as read, and where the next field starts.
-#[derive(Clone, Copy)]
-pub struct CurveRead {
-    pub answer: Answer,
-    pub next: usize,
-    pub curve: Curve,
-}
-
-// A byte as a count.
-fn wide(x: u8) -> usize
-    ensures { (result ≡ x) × (result < 256) }
-{
-    x as usize
-}
-
-// A height from its two bytes.
-fn height_of(low: u8, high: u8) -> u16
-    ensures { result ≡ low + high * 256 }
-{
-    low as u16 + high as u16 * 256
 }
 
 // How many bytes a point is.
@@ -52,27 +27,27 @@ pub fn point_bytes(edition: Edition) -> usize
     }
 }
 
-// A point: its x, then its height.
-fn read_point(edition: Edition, s: &[u8], at: usize) -> Point
-    requires { at + point_bytes edition ≤ length s.now }
-    ensures { result ≡ point_of edition (drop at s.now) }
+// The point at the front: its x, then its height.
+fn read_point(edition: Edition, bytes: &[u8]) -> Point
+    requires { point_bytes edition ≤ length bytes.now }
+    ensures { result ≡ point_of edition bytes.now }
 {
     match edition {
         Edition::One => Point {
-            x: s[at],
-            y: height_of(0, s[at + 1]),
+            x: bytes[0],
+            y: u16::from_le_bytes([0, bytes[1]]),
         },
         Edition::Two => Point {
-            x: s[at],
-            y: height_of(s[at + 1], s[at + 2]),
+            x: bytes[0],
+            y: u16::from_le_bytes([bytes[1], bytes[2]]),
         },
     }
 }
 
-// n points from a position on.
-pub fn read_points(edition: Edition, s: &[u8], from: usize, n: usize) -> Curve
-    requires { (n ≤ limit) × (from + n * point_bytes edition ≤ length s.now) }
-    ensures { (list_of result ≡ pairs edition n (drop from s.now)) × (result.count ≡ n) }
+// The first n points.
+pub fn read_points(edition: Edition, bytes: &[u8], n: usize) -> Curve
+    requires { (n ≤ limit) × (n * point_bytes edition ≤ length bytes.now) }
+    ensures { (list_of result ≡ pairs edition n bytes.now) × (result.count ≡ n) }
 {
     let stride = point_bytes(edition);
     let mut curve = Curve {
@@ -80,26 +55,12 @@ pub fn read_points(edition: Edition, s: &[u8], from: usize, n: usize) -> Curve
         ys: [0; 64],
         count: n,
     };
-    let mut at = from;
-    let mut i: usize = 0;
-    while i < n {
-        let p = read_point(edition, s, at);
-        curve.xs[i] = p.x;
-        curve.ys[i] = p.y;
-        at += stride;
-        i += 1;
+    for i in 0..n {
+        let point = read_point(edition, &bytes[i * stride..]);
+        curve.xs[i] = point.x;
+        curve.ys[i] = point.y;
     }
     curve
-}
-
-fn no_curve(refusal: Answer) -> CurveRead
-    ensures { (result.answer ≡ refusal) × (curve_answer Whole result.curve ≡ Done) }
-{
-    CurveRead {
-        answer: refusal,
-        next: 0,
-        curve: Curve::empty(),
-    }
 }
 
 // 3, of the count of a list of at least so many points.
@@ -107,63 +68,39 @@ fn check_stored_count(n: usize, least: usize) -> Answer
     ensures { result ≡ first_refusal (count_checks least n) }
 {
     if n < least {
-        return Answer::PointCount;
+        return Err(Refusal::PointCount);
     }
     check_count(n)
 }
 
 // A list of at least so many points: its count, then its points.
-fn read_curve(s: &[u8], at: usize, least: usize) -> CurveRead
-    ensures { ListRead s.now (read_list least (drop at s.now)) result }
+fn read_curve(rest: &[u8], least: usize) -> Result<(Curve, &[u8]), Refusal>
+    ensures { ListRead (read_list least rest.now) result }
 {
-    if s.len() <= at {
-        return no_curve(Answer::RecordTruncated);
-    }
-    let n = wide(s[at]);
-    let counted = check_stored_count(n, least);
-    if !counted.is_done() {
-        return no_curve(counted);
-    }
-    let from = at + 1;
+    let Some((n, rest)) = rest.split_first() else {
+        return Err(Refusal::RecordTruncated);
+    };
+    let n = *n as usize;
+    check_stored_count(n, least)?;
     let bytes = n * point_bytes(Edition::One);
-    if s.len() - from < bytes {
-        return no_curve(Answer::RecordTruncated);
+    if rest.len() < bytes {
+        return Err(Refusal::RecordTruncated);
     }
-    let curve = read_points(Edition::One, s, from, n);
-    if curve.is_rising() {
-        CurveRead {
-            answer: Answer::Done,
-            next: from + bytes,
-            curve,
-        }
-    } else {
-        no_curve(Answer::PointsNotRising)
+    let curve = read_points(Edition::One, rest, n);
+    if !curve.is_rising() {
+        return Err(Refusal::PointsNotRising);
     }
+    Ok((curve, &rest[bytes..]))
 }
 
 // A list whose field is there only where its bit is set.
-pub fn read_field(s: &[u8], at: usize, present: bool, least: usize) -> CurveRead
-    ensures { ListRead s.now (read_field present least (drop at s.now)) result }
+#[tactic(auto, using(crate::proofs::Lists::empty_passes))]
+pub fn read_field(rest: &[u8], present: bool, least: usize) -> Result<(Curve, &[u8]), Refusal>
+    ensures { ListRead (read_field present least rest.now) result }
 {
     if present {
-        read_curve(s, at, least)
+        read_curve(rest, least)
     } else {
-        CurveRead {
-            answer: Answer::Done,
-            next: at,
-            curve: Curve::empty(),
-        }
-    }
-}
-
-// A field behind an earlier answer: a refusal stays, and the list is then empty.
-pub fn field_after(before: Answer, s: &[u8], at: usize, present: bool, least: usize) -> CurveRead
-    ensures { ListRead s.now
-        (after before (read_field present least (drop at s.now))) result }
-{
-    if before.is_done() {
-        read_field(s, at, present, least)
-    } else {
-        no_curve(before)
+        Ok((Curve::empty(), rest))
     }
 }

@@ -5,9 +5,8 @@ use Rattle.std.proofs.Common.{◌∙◌, le-ltb}
 use Rattle.std.proofs.lemmas.Bool.{false≢true}
 use Rattle.std.proofs.Math.Option.{Option, none, some}
 use Rattle.lists.specs.Test.{by_test}
-use Rattle.answers.specs.declared.Answer.{Answer}
-use Rattle.answers.specs.declared.Answer.TheVariants.{Done, HeightRange}
-use Rattle.answers.specs.Numbers.{first_of}
+use Rattle.answers.specs.declared.Refusal.TheVariants.{HeightRange}
+use Rattle.answers.specs.Numbers.{first_of, Answer, done}
 use Rattle.answers.specs.Checks.{◌when◌, first_refusal}
 use Rattle.points.specs.declared.Point.{Point}
 use Rattle.points.specs.declared.Curve.{Curve}
@@ -29,20 +28,20 @@ both_lists true b = refl
 both_lists false b = refl
 
 module _ (passed heights : Heights) where
-  list_alone : (c : Curve) → curve_answer passed c ≡ Done
+  list_alone : (c : Curve) → curve_answer passed c ≡ done
       → curve_answer heights c ≡ answer_for (all_allowed heights (list_of c))
   unfolding curve_answer
   list_alone c e =
       let p = passed_list passed c e in
       rw (le-ltb 64 c.count p.few, p.rising)
 
-  colour_alone : (c : Channel) → channel_answer passed c ≡ Done
+  colour_alone : (c : Channel) → channel_answer passed c ≡ done
       → channel_answer heights c ≡ answer_for (colour_allowed heights (channel_of c))
   unfolding channel_answer curve_answer
   colour_alone c e =
       by_test c.present (λ t. rw t (list_alone c.curve (rw t at e))) (λ t. rw t)
 
-  pub heights_alone : (s : Curves) → set_answer passed s ≡ Done
+  pub heights_alone : (s : Curves) → set_answer passed s ≡ done
       → set_answer heights s ≡ first_refusal (heights_check heights (view_of s) ∷ [])
   heights_alone s e =
       let p = passed_set passed s e in

@@ -1,14 +1,9 @@
 -- Sets where a slip in the order of the checks would show: each line mends the first fault of the
 -- line before it, and has later ones still. U9: 20 is "tested in each list after 3 and 4, before
 -- the next list".
-use Rattle.std.specs.Prelude.{ℕ, ◌-◌, ◌≡◌, refl, List, [], ◌∷◌, ◌++◌, length, replicate}
+use Rattle.std.specs.Prelude.{ℕ, ◌-◌, ◌≡◌, refl, List, [], ◌∷◌, ◌++◌, length, replicate, Err}
 use Rattle.points.specs.Joined.{curve_of}
-use Rattle.answers.specs.declared.Answer.TheVariants.{
-  Done,
-  PointCount,
-  PointsNotRising,
-  HeightRange,
-}
+use Rattle.answers.specs.declared.Refusal.TheVariants.{PointCount, PointsNotRising, HeightRange}
 use Rattle.points.specs.declared.Point.{Point}
 use Rattle.points.specs.declared.Curve.{Curve}
 use Rattle.points.specs.declared.Heights.TheVariants.{Fine, Whole}
@@ -16,6 +11,7 @@ use Rattle.points.specs.Points.{pt, straight_curve, rises_from, all_allowed}
 use Rattle.tables.specs.declared.CurveInterpolation.TheVariants.{Linear}
 use Rattle.sets.specs.declared.Curves.{Curves}
 use Rattle.sets.specs.Sets.{present_channel, curve_answer, set_answer}
+use Rattle.answers.specs.Numbers.{done}
 
 -- a list as a `Curve` stores it: in 64 places, zeros behind the list
 abbrev pub stored : List Point → ℕ → Curve
@@ -47,52 +43,52 @@ four master red green blue = record {
 
 -- 3, then 4, then 20
 pub list_order :
-    (curve_answer Fine (stored (pt 9 65281 ∷ pt 8 0 ∷ []) 65) ≡ PointCount)
-    × (curve_answer Fine (stored (pt 9 65281 ∷ pt 8 0 ∷ []) 2) ≡ PointsNotRising)
-    × (curve_answer Fine (stored (pt 8 65281 ∷ pt 9 0 ∷ []) 2) ≡ HeightRange)
-    × (curve_answer Fine (stored (pt 8 65280 ∷ pt 9 0 ∷ []) 2) ≡ Done)
+    (curve_answer Fine (stored (pt 9 65281 ∷ pt 8 0 ∷ []) 65) ≡ Err PointCount)
+    × (curve_answer Fine (stored (pt 9 65281 ∷ pt 8 0 ∷ []) 2) ≡ Err PointsNotRising)
+    × (curve_answer Fine (stored (pt 8 65281 ∷ pt 9 0 ∷ []) 2) ≡ Err HeightRange)
+    × (curve_answer Fine (stored (pt 8 65280 ∷ pt 9 0 ∷ []) 2) ≡ done)
 unfolding curve_answer rises_from all_allowed
 list_order = (refl, refl, refl, refl)
 
 -- "before the next list": master, red, green, blue
 pub master_first :
-    (set_answer Fine (four many high falling many) ≡ PointCount)
-    × (set_answer Fine (four falling many high many) ≡ PointsNotRising)
-    × (set_answer Fine (four high many falling many) ≡ HeightRange)
+    (set_answer Fine (four many high falling many) ≡ Err PointCount)
+    × (set_answer Fine (four falling many high many) ≡ Err PointsNotRising)
+    × (set_answer Fine (four high many falling many) ≡ Err HeightRange)
 unfolding set_answer rises_from all_allowed
 master_first = (refl, refl, refl)
 
 pub red_second :
-    (set_answer Fine (four line many high falling) ≡ PointCount)
-    × (set_answer Fine (four line falling many high) ≡ PointsNotRising)
-    × (set_answer Fine (four line high many falling) ≡ HeightRange)
+    (set_answer Fine (four line many high falling) ≡ Err PointCount)
+    × (set_answer Fine (four line falling many high) ≡ Err PointsNotRising)
+    × (set_answer Fine (four line high many falling) ≡ Err HeightRange)
 unfolding set_answer rises_from all_allowed
 red_second = (refl, refl, refl)
 
 pub green_third :
-    (set_answer Fine (four line line many high) ≡ PointCount)
-    × (set_answer Fine (four line line falling many) ≡ PointsNotRising)
-    × (set_answer Fine (four line line high falling) ≡ HeightRange)
+    (set_answer Fine (four line line many high) ≡ Err PointCount)
+    × (set_answer Fine (four line line falling many) ≡ Err PointsNotRising)
+    × (set_answer Fine (four line line high falling) ≡ Err HeightRange)
 unfolding set_answer rises_from all_allowed
 green_third = (refl, refl, refl)
 
 pub blue_last :
-    (set_answer Fine (four line line line many) ≡ PointCount)
-    × (set_answer Fine (four line line line falling) ≡ PointsNotRising)
-    × (set_answer Fine (four line line line high) ≡ HeightRange)
+    (set_answer Fine (four line line line many) ≡ Err PointCount)
+    × (set_answer Fine (four line line line falling) ≡ Err PointsNotRising)
+    × (set_answer Fine (four line line line high) ≡ Err HeightRange)
 unfolding set_answer rises_from all_allowed
 blue_last = (refl, refl, refl)
 
-pub accepted : (set_answer Fine (four line line line line) ≡ Done)
-    × (set_answer Fine (four fine fine fine fine) ≡ Done)
+pub accepted : (set_answer Fine (four line line line line) ≡ done)
+    × (set_answer Fine (four fine fine fine fine) ≡ done)
 unfolding set_answer rises_from all_allowed
 accepted = (refl, refl)
 
 -- "when today's record is written, one that isn't a multiple of 256", in any list
-pub fine_refused : (set_answer Whole (four line line line line) ≡ Done)
-    × (set_answer Whole (four fine line line line) ≡ HeightRange)
-    × (set_answer Whole (four line fine line line) ≡ HeightRange)
-    × (set_answer Whole (four line line fine line) ≡ HeightRange)
-    × (set_answer Whole (four line line line fine) ≡ HeightRange)
+pub fine_refused : (set_answer Whole (four line line line line) ≡ done)
+    × (set_answer Whole (four fine line line line) ≡ Err HeightRange)
+    × (set_answer Whole (four line fine line line) ≡ Err HeightRange)
+    × (set_answer Whole (four line line fine line) ≡ Err HeightRange)
+    × (set_answer Whole (four line line line fine) ≡ Err HeightRange)
 unfolding set_answer rises_from all_allowed
 fine_refused = (refl, refl, refl, refl, refl)

@@ -2,7 +2,7 @@
 -- proofs/HeightLaws. Definitions only.
 use Rattle.std.specs.Prelude.{Bool, true, not, ◌&&◌, List}
 use Rattle.std.proofs.Math.Option.{Option, none, some}
-use Rattle.answers.specs.declared.Answer.TheVariants.{HeightRange}
+use Rattle.answers.specs.declared.Refusal.TheVariants.{HeightRange}
 use Rattle.answers.specs.Checks.{Check, ◌when◌}
 use Rattle.points.specs.declared.Point.{Point}
 use Rattle.points.specs.declared.Heights.{Heights}

@@ -5,9 +5,7 @@ use Rattle.std.proofs.Common.{arith, sym, ap, ◌∙◌, length-take}
 use Rattle.std.proofs.Math.Option.{Option}
 use borrow.Author.Tests.{ltb-false, le-ltb, not-false}
 use Rattle.lists.specs.Test.{by_test}
-use Rattle.answers.specs.declared.Answer.{Answer}
-use Rattle.answers.specs.declared.Answer.TheVariants.{Done}
-use Rattle.answers.specs.Numbers.{first_of}
+use Rattle.answers.specs.Numbers.{first_of, Answer, done}
 use Rattle.answers.specs.Checks.{Check, first_refusal, first_append, all_passed}
 use Rattle.answers.proofs.CheckLaws.{done_append, first_goes_on}
 use Rattle.points.specs.declared.Point.{Point}
@@ -50,13 +48,13 @@ pub record LegalSet (heights : Heights) (v : View) : Type 0 where
 
 -- ---- from the check
 -- two lists of checks pass behind one another where each does
-append_done : (cs ds : List Check) → first_refusal cs ≡ Done → first_refusal ds ≡ Done
-    → first_refusal (cs ++ ds) ≡ Done
+append_done : (cs ds : List Check) → first_refusal cs ≡ done → first_refusal ds ≡ done
+    → first_refusal (cs ++ ds) ≡ done
 append_done cs ds p q = sym (first_goes_on cs ds p (sym q))
 
 -- a list of checks that passes where the whole does
 record Within (whole part : List Check) : Type 0 where
-  passes : first_refusal whole ≡ Done → first_refusal part ≡ Done
+  passes : first_refusal whole ≡ done → first_refusal part ≡ done
 
 within_self : (cs : List Check) → Within cs cs
 within_self cs = record { passes = λ e. e }
@@ -89,12 +87,12 @@ module _ (checks : Curve → List Check) (s : Curves) where
 
   -- a set passes where each of its lists does, in whatever order they go
   part_done : (part : List Check) → Within (set_checks checks s) part
-      → first_refusal (set_checks checks s) ≡ Done → first_refusal part ≡ Done
+      → first_refusal (set_checks checks s) ≡ done → first_refusal part ≡ done
   part_done part w = w.passes
 
-  every_done : first_refusal (set_checks checks s) ≡ Done
-      → (of_master ≡ Done) × (of_colour s.red ≡ Done) × (of_colour s.green ≡ Done)
-      × (of_colour s.blue ≡ Done)
+  every_done : first_refusal (set_checks checks s) ≡ done
+      → (of_master ≡ done) × (of_colour s.red ≡ done) × (of_colour s.green ≡ done)
+      × (of_colour s.blue ≡ done)
   every_done e = (
     part_done (checks s.master) (search (within_self, within_left, within_right)) e,
     part_done (channel_checks checks s.red) (search (within_self, within_left, within_right)) e,
@@ -102,25 +100,25 @@ module _ (checks : Curve → List Check) (s : Curves) where
     part_done (channel_checks checks s.blue) (search (within_self, within_left, within_right)) e,
   )
 
-  done_of_every : of_master ≡ Done → of_colour s.red ≡ Done → of_colour s.green ≡ Done
-      → of_colour s.blue ≡ Done → first_refusal (set_checks checks s) ≡ Done
+  done_of_every : of_master ≡ done → of_colour s.red ≡ done → of_colour s.green ≡ done
+      → of_colour s.blue ≡ done → first_refusal (set_checks checks s) ≡ done
   done_of_every master red green blue = search append_done
 
 module _ (heights : Heights) where
   -- a set passes where each of its lists does
   pub record Passed (s : Curves) : Type 0 where
-    pub master : curve_answer heights s.master ≡ Done
-    pub red : channel_answer heights s.red ≡ Done
-    pub green : channel_answer heights s.green ≡ Done
-    pub blue : channel_answer heights s.blue ≡ Done
+    pub master : curve_answer heights s.master ≡ done
+    pub red : channel_answer heights s.red ≡ done
+    pub green : channel_answer heights s.green ≡ done
+    pub blue : channel_answer heights s.blue ≡ done
 
-  pub passed_set : (s : Curves) → set_answer heights s ≡ Done → Passed s
+  pub passed_set : (s : Curves) → set_answer heights s ≡ done → Passed s
   unfolding set_answer channel_answer curve_answer
   passed_set s e =
       let p = every_done (curve_checks heights) s e in
       record { master = p.0; red = p.1; green = p.2; blue = p.3 }
 
-  passing_set : (s : Curves) → Passed s → set_answer heights s ≡ Done
+  passing_set : (s : Curves) → Passed s → set_answer heights s ≡ done
   unfolding set_answer channel_answer curve_answer
   passing_set s p = done_of_every (curve_checks heights) s p.master p.red p.green p.blue
 
@@ -131,7 +129,7 @@ module _ (heights : Heights) where
     pub rising : rises (list_of c) ≡ true
     pub high : all_allowed heights (list_of c) ≡ true
 
-  pub passed_list : (c : Curve) → curve_answer heights c ≡ Done → PassedList c
+  pub passed_list : (c : Curve) → curve_answer heights c ≡ done → PassedList c
   unfolding curve_answer
   passed_list c e =
       let p = all_passed (curve_checks heights c) e in
@@ -141,21 +139,21 @@ module _ (heights : Heights) where
         high = not-false (all_allowed heights (list_of c)) search;
       }
 
-  pub passed_count : (c : Curve) → curve_answer heights c ≡ Done → c.count ≤ 64
+  pub passed_count : (c : Curve) → curve_answer heights c ≡ done → c.count ≤ 64
   passed_count c e = (passed_list c e).few
 
   -- whatever heights a set was let have, it may be toned
-  fine_list : (c : Curve) → curve_answer heights c ≡ Done → curve_answer Fine c ≡ Done
+  fine_list : (c : Curve) → curve_answer heights c ≡ done → curve_answer Fine c ≡ done
   unfolding curve_answer
   fine_list c e = let p = passed_list c e in
       rw (le-ltb 64 c.count p.few, p.rising, passed_fine heights (list_of c) p.high)
 
-  fine_colour_lem : (c : Channel) → channel_answer heights c ≡ Done → channel_answer Fine c ≡ Done
+  fine_colour_lem : (c : Channel) → channel_answer heights c ≡ done → channel_answer Fine c ≡ done
   unfolding channel_answer curve_answer
   fine_colour_lem c e =
       by_test c.present (λ t. rw t (fine_list c.curve (rw t at e))) (λ t. rw t)
 
-  pub fine_set : (s : Curves) → set_answer heights s ≡ Done → set_answer Fine s ≡ Done
+  pub fine_set : (s : Curves) → set_answer heights s ≡ done → set_answer Fine s ≡ done
   fine_set s e =
       let p = passed_set heights s e in
       passing_set Fine s (record {
@@ -165,7 +163,7 @@ module _ (heights : Heights) where
         blue = fine_colour_lem s.blue p.blue;
       })
 
-  legal_list : (c : Curve) → curve_answer heights c ≡ Done → LegalList heights (list_of c)
+  legal_list : (c : Curve) → curve_answer heights c ≡ done → LegalList heights (list_of c)
   legal_list c e =
       let p = passed_list c e in
       record {
@@ -174,12 +172,12 @@ module _ (heights : Heights) where
         high = p.high;
       }
 
-  legal_colour : (c : Channel) → channel_answer heights c ≡ Done → LegalColour heights (channel_of c)
+  legal_colour : (c : Channel) → channel_answer heights c ≡ done → LegalColour heights (channel_of c)
   unfolding channel_answer curve_answer
   legal_colour c e =
       by_test c.present (λ t. rw t (legal_list c.curve (rw t at e))) (λ t. rw t tt)
 
-  pub legal_view : (s : Curves) → set_answer heights s ≡ Done → Legal heights (view_of s)
+  pub legal_view : (s : Curves) → set_answer heights s ≡ done → Legal heights (view_of s)
   legal_view s e =
       let p = passed_set heights s e in
       record {

@@ -6,7 +6,6 @@ use Rattle.std.proofs.Math.Path.{◌≡◌, sym}
 use Rattle.std.proofs.lemmas.Bool.{false≢true}
 use Rattle.std.proofs.Math.Option.{some}
 use Rattle.lists.specs.Test.{by_test}
-use Rattle.answers.specs.declared.Answer.TheVariants.{Done}
 use Rattle.answers.specs.Checks.{Check, first_refusal}
 use Rattle.points.specs.declared.Curve.{Curve}
 use Rattle.points.specs.declared.Heights.{Heights}
@@ -28,6 +27,7 @@ use Rattle.sets.specs.Sets.{
 }
 use Rattle.sets.specs.Same.{SameCurve, SameChannel, Same}
 use Rattle.sets.specs.Legal.{passed_count, passed_set}
+use Rattle.answers.specs.Numbers.{done}
 
 -- ---- a set is the same as itself
 same_curve_refl : (c : Curve) → SameCurve c c
@@ -101,7 +101,7 @@ pub record Full (s : Curves) : Type 0 where
 
 module _ (heights : Heights) where
   curve_same : (a b : Curve) → FullRows a → FullRows b
-      → curve_answer heights a ≡ Done → curve_answer heights b ≡ Done
+      → curve_answer heights a ≡ done → curve_answer heights b ≡ done
       → list_of a ≡ list_of b → SameCurve a b
   curve_same a b a-long b-long a-done b-done e = record {
     count = omega (
@@ -116,7 +116,7 @@ module _ (heights : Heights) where
   }
 
   channel_same : (a b : Channel) → FullRows a.curve → FullRows b.curve
-      → channel_answer heights a ≡ Done → channel_answer heights b ≡ Done
+      → channel_answer heights a ≡ done → channel_answer heights b ≡ done
       → channel_of a ≡ channel_of b → SameChannel a b
   unfolding channel_answer curve_answer
   channel_same a b a-long b-long a-done b-done e =
@@ -136,8 +136,8 @@ module _ (heights : Heights) where
       (λ u. let z : ◌≡◌ {A = ℕ} 0 1 = cc (rw (t, u) at e) in absurd (omega arith))
       (λ u. record { present = t ∙ sym u; curve = λ v. absurd (false≢true (sym t ∙ v)) }))
 
-  pub view_same : (a b : Curves) → Full a → Full b → set_answer heights a ≡ Done
-      → set_answer heights b ≡ Done → view_of a ≡ view_of b → Same a b
+  pub view_same : (a b : Curves) → Full a → Full b → set_answer heights a ≡ done
+      → set_answer heights b ≡ done → view_of a ≡ view_of b → Same a b
   view_same a b a-full b-full a-done b-done e =
       let a-passed = passed_set heights a a-done in
       let b-passed = passed_set heights b b-done in

@@ -2,8 +2,7 @@
 -- document 01's sections "The set" and "When a call says no" have them. Definitions only.
 use Rattle.std.specs.Prelude.{ℕ, ◌≡◌, Bool, cond, not, true, false, List, [], ◌∷◌, ◌++◌}
 use Rattle.std.proofs.Math.Option.{Option, none, some}
-use Rattle.answers.specs.declared.Answer.{Answer}
-use Rattle.answers.specs.declared.Answer.TheVariants.{PointsNotRising}
+use Rattle.answers.specs.declared.Refusal.TheVariants.{PointsNotRising}
 use Rattle.answers.specs.Checks.{Check, ◌when◌, first_refusal}
 use Rattle.points.specs.declared.Point.{Point}
 use Rattle.points.specs.declared.Curve.{Curve}
@@ -15,6 +14,7 @@ use Rattle.sets.specs.declared.Channel.{Channel}
 use Rattle.sets.specs.declared.Colour.{Colour}
 use Rattle.sets.specs.declared.Colour.TheVariants.{Red, Green, Blue}
 use Rattle.sets.specs.declared.Curves.{Curves}
+use Rattle.answers.specs.Numbers.{Answer}
 
 -- "MonotoneCubicBox (3) as the default for new sets"
 abbrev pub default : CurveInterpolation

@@ -3,9 +3,9 @@ use Rattle.std.specs.Prelude.{ℕ, ◌≤◌, ◌≡◌, true, [], ◌∷◌}
 use Rattle.std.proofs.Math.Decide.{ℕ_discrete}
 use Rattle.std.proofs.Common.{arith, ne_eqb, eqb-true}
 use Rattle.std.proofs.lemmas.Bool.{not-false}
-use Rattle.answers.specs.declared.Answer.TheVariants.{Done}
 use Rattle.answers.specs.Checks.{first_refusal, all_passed}
 use Rattle.tables.specs.Tables.{is_table_length, length_check}
+use Rattle.answers.specs.Numbers.{done}
 
 two_to_4096 : (S : ℕ) → is_table_length S ≡ true → (2 ≤ S) × (S ≤ 4096)
 two_to_4096 S e = elim (ℕ_discrete S 256) [
@@ -15,5 +15,5 @@ two_to_4096 S e = elim (ℕ_discrete S 256) [
       (omega arith, omega arith)
 ]
 
-pub length_passed : (S : ℕ) → first_refusal (length_check S ∷ []) ≡ Done → (2 ≤ S) × (S ≤ 4096)
+pub length_passed : (S : ℕ) → first_refusal (length_check S ∷ []) ≡ done → (2 ≤ S) × (S ≤ 4096)
 length_passed S e = two_to_4096 S (not-false _ (all_passed (length_check S ∷ []) e).0)

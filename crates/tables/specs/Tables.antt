@@ -3,9 +3,8 @@
 use Rattle.std.specs.Prelude.{ℕ, ◌≡◌, Bool, cond, not, ◌||◌, List, [], ◌∷◌, ◌++◌, eqb, length, get_or, replicate, Float}
 use Rattle.std.specs.Float.{nan}
 use Rattle.lists.specs.Tabulate.{tabulate}
-use Rattle.answers.specs.declared.Answer.{Answer}
-use Rattle.answers.specs.declared.Answer.TheVariants.{TableLength}
-use Rattle.answers.specs.Numbers.{is_done}
+use Rattle.answers.specs.declared.Refusal.TheVariants.{TableLength}
+use Rattle.answers.specs.Numbers.{is_done, Answer}
 use Rattle.answers.specs.Checks.{Check, ◌when◌, first_refusal, table_length, fine_table_length}
 use Rattle.single.specs.Rules.{byte_of}
 use Rattle.points.specs.declared.Point.{Point}

@@ -2,10 +2,10 @@
 // the byte table by value.
 #![tactic(auto)]
 
-ghost use Rattle.std.specs.Prelude.{◌≡◌, ◌≤◌, [], ◌∷◌, length, take, replicate};
+ghost use Rattle.std.specs.Prelude.{◌≡◌, ◌≤◌, [], ◌∷◌, length, replicate};
 ghost use Rattle.answers.specs.Checks.{first_refusal};
 ghost use Rattle.single.specs.Constants.{𝟎};
-ghost use Rattle.points.specs.Points.{joined, list_of};
+ghost use Rattle.points.specs.Points.{list_of};
 ghost use Rattle.points.specs.Joined.{TypedRows};
 ghost use Rattle.tables.specs.Kinds.{
   kind_number,
@@ -26,14 +26,14 @@ ghost use Rattle.tables.specs.Tables.{
   BuildLutCall,
 };
 
-use answers::{Answer, first_of};
-use points::{Curve, given_knots};
+use answers::{Answer, Refusal};
+use points::{Curve, Knots};
 use sampling::Form;
 use spline::second::second_derivatives;
 use spline::{SplineBoundary, clamped_slope};
 
 // The kinds, in the order of document 01's numbers.
-#[derive(Clone, Copy)]
+#[derive(Clone, Copy, PartialEq, Eq)]
 pub enum CurveInterpolation {
     Linear,
     CatmullRom,
@@ -53,7 +53,7 @@ pub enum CurveInterpolation {
 }
 
 // What a kind carries beside its number.
-#[derive(Clone, Copy)]
+#[derive(Clone, Copy, PartialEq, Eq)]
 pub struct Carried {
     pub tension: u8,
     pub start: i16,
@@ -175,7 +175,7 @@ pub fn carried_by(kind: CurveInterpolation) -> Carried
     }
 }
 
-// A byte table, beside the answer.
+// A byte table, beside the answer. Stays: "A table handed back with it is all 0", document 01.
 #[derive(Clone, Copy)]
 pub struct Lut {
     pub answer: Answer,
@@ -203,63 +203,46 @@ fn form_of(kind: CurveInterpolation) -> Form
     }
 }
 
-// The values at n knots, tangents or second derivatives, to the front of a row of zeros.
-fn knot_values<'a>(
-    kind: CurveInterpolation,
-    xs: &'a [f32; 66],
-    ys: &'a [f32; 66],
-    n: usize,
-    row: &mut [f32; 66],
-)
-    requires { (2 ≤ n) × (n ≤ 66) × (row.old ≡ replicate 66 𝟎) }
-    ensures { row.new ≡ knot_value_row kind xs.now ys.now n }
+// The values at the knots, tangents or second derivatives, to the front of a row of zeros.
+fn knot_values(kind: CurveInterpolation, knots: &Knots, row: &mut [f32; 66])
+    requires { row.old ≡ replicate 66 𝟎 }
+    ensures { row.new ≡ knot_value_row kind knots.now.xs knots.now.ys knots.now.count }
 {
     match kind {
         CurveInterpolation::Linear => {}
-        CurveInterpolation::CatmullRom => tangents::catmull_rom(xs, ys, n, row),
-        CurveInterpolation::MonotoneCubic => monotone::monotone(false, xs, ys, n, row),
-        CurveInterpolation::MonotoneCubicBox => monotone::monotone(true, xs, ys, n, row),
+        CurveInterpolation::CatmullRom => tangents::catmull_rom(knots, row),
+        CurveInterpolation::MonotoneCubic => monotone::cubic(knots, row),
+        CurveInterpolation::MonotoneCubicBox => monotone::cubic_box(knots, row),
         CurveInterpolation::NaturalCubic => {
-            second_derivatives(xs, ys, n, SplineBoundary::Natural, row)
+            second_derivatives(knots, SplineBoundary::Natural, row)
         }
-        CurveInterpolation::CentripetalCatmullRom => chords::alpha(true, xs, ys, n, row),
-        CurveInterpolation::ChordalCatmullRom => chords::alpha(false, xs, ys, n, row),
-        CurveInterpolation::Cardinal { tension_q8 } => {
-            tangents::cardinal(tension_q8, xs, ys, n, row)
-        }
+        CurveInterpolation::CentripetalCatmullRom => chords::centripetal(knots, row),
+        CurveInterpolation::ChordalCatmullRom => chords::chordal(knots, row),
+        CurveInterpolation::Cardinal { tension_q8 } => tangents::cardinal(tension_q8, knots, row),
         CurveInterpolation::ClampedCubic {
             start_slope_q8,
             end_slope_q8,
         } => {
             let s0 = clamped_slope(start_slope_q8);
             let s1 = clamped_slope(end_slope_q8);
-            second_derivatives(xs, ys, n, SplineBoundary::Clamped { s0, s1 }, row)
+            second_derivatives(knots, SplineBoundary::Clamped { s0, s1 }, row)
         }
         CurveInterpolation::NotAKnotCubic => {
-            second_derivatives(xs, ys, n, SplineBoundary::NotAKnot, row)
+            second_derivatives(knots, SplineBoundary::NotAKnot, row)
         }
     }
 }
 
-// The samples of a given list, whose rows are lent. It is not checked.
-pub fn sample_curve<'a>(
-    xs: &'a [u8; 64],
-    ys: &'a [u16; 64],
-    count: usize,
-    kind: CurveInterpolation,
-    samples: &mut [f32],
-)
-    requires rows { TypedRows xs.now ys.now }
+// The samples of a given list, which is lent. It is not checked.
+pub fn sample_curve(curve: &Curve, kind: CurveInterpolation, samples: &mut [f32])
+    requires rows { TypedRows curve.now.xs curve.now.ys }
     requires counts { (2 ≤ length samples.old) × (length samples.old ≤ 4096) }
-    ensures { samples.new
-        ≡ fine_table kind (take count (joined xs.now ys.now))
-        (length samples.old) }
+    ensures { samples.new ≡ fine_table kind (list_of curve.now) (length samples.old) }
 {
-    let knots = given_knots(xs, ys, count);
-    let n = knots.count;
+    let knots = curve.given_knots();
     let mut ms = [0.0; 66];
-    knot_values(kind, &knots.xs, &knots.ys, n, &mut ms);
-    sampling::fill(form_of(kind), &knots.xs, &knots.ys, &ms, n, samples);
+    knot_values(kind, &knots, &mut ms);
+    sampling::fill(form_of(kind), &knots, &ms, samples);
 }
 
 // Each sample to a byte.
@@ -267,10 +250,8 @@ fn to_bytes(samples: &[f32; 256]) -> [u8; 256]
     ensures { result ≡ bytes_of samples.now }
 {
     let mut bytes = [0; 256];
-    let mut v: usize = 0;
-    while v < 256 {
+    for v in 0..256 {
         bytes[v] = single::to_byte(samples[v]);
-        v += 1;
     }
     bytes
 }
@@ -280,7 +261,7 @@ pub fn entries_of(curve: Curve, kind: CurveInterpolation) -> [u8; 256]
     ensures { result ≡ byte_table kind (list_of curve) }
 {
     let mut samples = [0.0; 256];
-    sample_curve(&curve.xs, &curve.ys, curve.count, kind, &mut samples);
+    sample_curve(&curve, kind, &mut samples);
     to_bytes(&samples)
 }
 
@@ -288,40 +269,37 @@ pub fn entries_of(curve: Curve, kind: CurveInterpolation) -> [u8; 256]
 pub fn byte_table(curve: Curve, kind: CurveInterpolation) -> [u8; 256]
     ensures { result ≡ table_of curve kind }
 {
-    let answer = curve.check_given();
-    if !answer.is_done() {
-        return [0; 256];
+    match curve.check_given() {
+        Ok(()) => entries_of(curve, kind),
+        Err(_) => [0; 256],
     }
-    entries_of(curve, kind)
 }
 
 // Whether a fine table has so many samples.
 fn is_table_length(count: usize) -> bool
     ensures { result ≡ is_table_length count }
 {
-    count == Answer::TABLE_LENGTH || count == Answer::FINE_TABLE_LENGTH
+    count == Refusal::TABLE_LENGTH || count == Refusal::FINE_TABLE_LENGTH
 }
 
 // 14, of a fine table of so many samples.
 pub fn length_answer(count: usize) -> Answer
     ensures { result ≡ first_refusal (length_check count ∷ []) }
 {
-    if is_table_length(count) {
-        Answer::Done
-    } else {
-        Answer::TableLength
+    if !is_table_length(count) {
+        return Err(Refusal::TableLength);
     }
+    Ok(())
 }
 
 // The fine table of a given list, into a lent slice of 256 or 4,096 samples.
 pub fn build_table(curve: Curve, kind: CurveInterpolation, samples: &mut [f32]) -> Answer
     ensures { BuildTableCall curve kind samples.old result samples.new }
 {
-    let answer = first_of(curve.check_given(), length_answer(samples.len()));
-    if answer.is_done() {
-        sample_curve(&curve.xs, &curve.ys, curve.count, kind, samples);
-    }
-    answer
+    curve.check_given()?;
+    length_answer(samples.len())?;
+    sample_curve(&curve, kind, samples);
+    Ok(())
 }
 
 // The byte table of a given list, beside the answer.

@@ -7,7 +7,6 @@ use borrow.Author.Tests.{ltb-false}
 use lib.Dec.{ltb}
 use lib.ListN.{take}
 use Rattle.lists.specs.Test.{by_test}
-use Rattle.answers.specs.declared.Answer.TheVariants.{Done}
 use Rattle.answers.specs.Checks.{first_refusal}
 use Rattle.points.specs.declared.Point.{Point}
 use Rattle.points.specs.declared.Curve.{Curve}
@@ -18,6 +17,7 @@ use Rattle.points.specs.Joined.{FullRows, joined_allowed}
 use Rattle.points.specs.CheckLaws.{few_points}
 use Rattle.records.specs.Kinds.{kind_check}
 use Rattle.tone_c.specs.Boundary.{count_of, pairs_of, given_checks, GivenList}
+use Rattle.answers.specs.Numbers.{done}
 
 first_same : (kind : ℕ) {n m : ℕ} {k l : List Point} → n ≡ m → (m ≤ limit → k ≡ l)
     → first_refusal (count_check n ∷ height_check Fine k ∷ kind_check kind ∷ [])
@@ -35,7 +35,7 @@ module _ {points : List ℕ} {curve : Curve} (given : GivenList points curve) (k
       rw (← joined_allowed Fine curve.count curve.xs curve.ys (omega (arith, full.xs, full.ys)))
       (first_same kind given.count given.list)
 
-  pub list_given : first_refusal (given_checks points kind) ≡ Done → list_of curve ≡ pairs_of points
+  pub list_given : first_refusal (given_checks points kind) ≡ done → list_of curve ≡ pairs_of points
   list_given passed =
       given.list
       (few_points (count_of points) (height_check Fine (pairs_of points) ∷ kind_check kind ∷ []) passed)

@@ -2,8 +2,8 @@
 -- bytes and numbers, for each call its refusals in the papers' order, and what is in lent memory
 -- after it. Definitions only.
 use Rattle.std.specs.Prelude.{ℕ, ◌/◌, ◌≤◌, ◌≡◌, cond, List, [], ◌∷◌, ◌++◌, ltb, eqb, ℤ, length, drop, Float}
-use Rattle.answers.specs.declared.Answer.TheVariants.{Done, UnsupportedFormat}
-use Rattle.answers.specs.Numbers.{number_of}
+use Rattle.answers.specs.declared.Refusal.TheVariants.{UnsupportedFormat}
+use Rattle.answers.specs.Numbers.{number_of, done}
 use Rattle.answers.specs.Checks.{Check, ◌when◌, first_refusal, room_check}
 use Rattle.points.specs.declared.Point.{Point}
 use Rattle.points.specs.declared.Curve.{Curve}
@@ -139,7 +139,7 @@ pub record PictureRun (asked : PictureAsked) (after : Outputs) : Type 0 where
   pub toned : Toned
   pub read : ReadRecordCall asked.stored handed
   pub call : SetCall (run_of asked handed.set) toned after
-  pub done : toned.answer ≡ Done
+  pub done : toned.answer ≡ done
 
 -- the number answered; on a refusal the outputs unchanged; and with 0 the run, which says what the
 -- outputs hold: `PictureLaws` has it by the record's bytes

@@ -1,23 +1,9 @@
 -- The definitions where a slip would show: bytes left over, the numbers of the formats, the order
 -- of each call's refusals, the greatest count of points, and arguments that a kind does not read.
-use Rattle.std.specs.Prelude.{◌≡◌, refl, List, [], ◌∷◌, ℕ, ℤ, replicate}
+use Rattle.std.specs.Prelude.{◌≡◌, refl, List, [], ◌∷◌, ℕ, ℤ, replicate, Err}
 use Rattle.std.proofs.Common.{sym, ap, ◌∙◌, eqb-true}
 use Rattle.lists.specs.Test.{by_test}
-use Rattle.answers.specs.declared.Answer.{Answer}
-use Rattle.answers.specs.declared.Answer.TheVariants.{
-  Done,
-  PointCount,
-  UnknownKind,
-  TrailingBytes,
-  UnsupportedFormat,
-  PictureTooLarge,
-  MissingPlane,
-  RowStep,
-  PlaneTooShort,
-  OutputTooSmall,
-  TableLength,
-  HeightRange,
-}
+use Rattle.answers.specs.declared.Refusal.TheVariants.{PointCount, UnknownKind, TrailingBytes, UnsupportedFormat, PictureTooLarge, MissingPlane, RowStep, PlaneTooShort, OutputTooSmall, TableLength, HeightRange}
 use Rattle.answers.specs.Checks.{first_refusal}
 use Rattle.points.specs.Points.{pt, all_allowed}
 use Rattle.tables.specs.declared.Carried.{Carried}
@@ -40,6 +26,7 @@ use Rattle.tone_c.specs.Boundary.{
   tone_record_copy_checks,
 }
 use Rattle.tone_c.specs.Version.{version}
+use Rattle.answers.specs.Numbers.{Answer, done}
 
 -- ---- the version
 -- the third: points with heights in 256ths, and 20
@@ -58,19 +45,19 @@ bytes_left_over = (refl, refl, refl)
 
 -- 65 points, then a height of 65,535, then kind 10, then an output one byte too short; 64 points
 -- and two bytes left over pass
-pub table_order : (first_refusal (tone_table_checks (replicate 195 255) 10 255) ≡ PointCount)
-    × (first_refusal (tone_table_checks (replicate 194 255) 10 255) ≡ HeightRange)
-    × (first_refusal (tone_table_checks (replicate 194 7) 10 255) ≡ UnknownKind)
-    × (first_refusal (tone_table_checks (replicate 194 7) 9 255) ≡ OutputTooSmall)
-    × (first_refusal (tone_table_checks (replicate 194 7) 9 256) ≡ Done)
+pub table_order : (first_refusal (tone_table_checks (replicate 195 255) 10 255) ≡ Err PointCount)
+    × (first_refusal (tone_table_checks (replicate 194 255) 10 255) ≡ Err HeightRange)
+    × (first_refusal (tone_table_checks (replicate 194 7) 10 255) ≡ Err UnknownKind)
+    × (first_refusal (tone_table_checks (replicate 194 7) 9 255) ≡ Err OutputTooSmall)
+    × (first_refusal (tone_table_checks (replicate 194 7) 9 256) ≡ done)
 unfolding pairs all_allowed
 table_order = (refl, refl, refl, refl, refl)
 
-pub fine_table_order : (first_refusal (tone_fine_table_checks (replicate 195 255) 10 257) ≡ PointCount)
-    × (first_refusal (tone_fine_table_checks (replicate 194 255) 10 257) ≡ HeightRange)
-    × (first_refusal (tone_fine_table_checks (replicate 194 7) 10 257) ≡ UnknownKind)
-    × (first_refusal (tone_fine_table_checks (replicate 194 7) 9 257) ≡ TableLength)
-    × (first_refusal (tone_fine_table_checks (replicate 194 7) 9 4096) ≡ Done)
+pub fine_table_order : (first_refusal (tone_fine_table_checks (replicate 195 255) 10 257) ≡ Err PointCount)
+    × (first_refusal (tone_fine_table_checks (replicate 194 255) 10 257) ≡ Err HeightRange)
+    × (first_refusal (tone_fine_table_checks (replicate 194 7) 10 257) ≡ Err UnknownKind)
+    × (first_refusal (tone_fine_table_checks (replicate 194 7) 9 257) ≡ Err TableLength)
+    × (first_refusal (tone_fine_table_checks (replicate 194 7) 9 4096) ≡ done)
 unfolding pairs all_allowed
 fine_table_order = (refl, refl, refl, refl, refl)
 
@@ -94,11 +81,11 @@ unfolding format_of
 formats = (refl, refl, refl, refl)
 
 -- an unknown format, then a side of 4,097; the last format passes
-pub plane_order : (first_refusal (tone_plane_checks 12 4097 1 0 0) ≡ UnsupportedFormat)
-    × (first_refusal (tone_plane_checks 11 4097 1 0 0) ≡ PictureTooLarge)
-    × (first_refusal (tone_plane_checks 11 4 1 3 0) ≡ RowStep)
-    × (first_refusal (tone_plane_checks 11 4 1 4 3) ≡ PlaneTooShort)
-    × (first_refusal (tone_plane_checks 11 4 1 4 4) ≡ Done)
+pub plane_order : (first_refusal (tone_plane_checks 12 4097 1 0 0) ≡ Err UnsupportedFormat)
+    × (first_refusal (tone_plane_checks 11 4097 1 0 0) ≡ Err PictureTooLarge)
+    × (first_refusal (tone_plane_checks 11 4 1 3 0) ≡ Err RowStep)
+    × (first_refusal (tone_plane_checks 11 4 1 4 3) ≡ Err PlaneTooShort)
+    × (first_refusal (tone_plane_checks 11 4 1 4 4) ≡ done)
 unfolding format_of needed
 plane_order = (refl, refl, refl, refl, refl)
 
@@ -128,12 +115,12 @@ picture_answered stored format w planes step room =
 
 -- the record's 7 before all others; an unknown format, or one that the set call does not take,
 -- before a width of 4,097; the output last
-pub picture_order : (picture_answered longer 12 4097 0 0 0 ≡ TrailingBytes)
-    × (picture_answered empty 12 4097 0 0 0 ≡ UnsupportedFormat)
-    × (picture_answered empty 1 4097 0 0 0 ≡ UnsupportedFormat)
-    × (picture_answered empty 6 4097 2 0 0 ≡ PictureTooLarge)
-    × (picture_answered empty 6 4 2 3 0 ≡ MissingPlane) × (picture_answered empty 6 4 3 3 0 ≡ RowStep)
-    × (picture_answered empty 6 4 3 4 0 ≡ OutputTooSmall) × (picture_answered empty 6 4 3 4 1 ≡ Done)
+pub picture_order : (picture_answered longer 12 4097 0 0 0 ≡ Err TrailingBytes)
+    × (picture_answered empty 12 4097 0 0 0 ≡ Err UnsupportedFormat)
+    × (picture_answered empty 1 4097 0 0 0 ≡ Err UnsupportedFormat)
+    × (picture_answered empty 6 4097 2 0 0 ≡ Err PictureTooLarge)
+    × (picture_answered empty 6 4 2 3 0 ≡ Err MissingPlane) × (picture_answered empty 6 4 3 3 0 ≡ Err RowStep)
+    × (picture_answered empty 6 4 3 4 0 ≡ Err OutputTooSmall) × (picture_answered empty 6 4 3 4 1 ≡ done)
 unfolding format_of needed
 picture_order = (refl, refl, refl, refl, refl, refl, refl, refl)
 
@@ -158,24 +145,24 @@ room_answered roomY roomU roomV =
       };
     }))
 
-pub picture_rooms : (room_answered 4 2 3 ≡ Done) × (room_answered 3 4 4 ≡ OutputTooSmall)
-    × (room_answered 4 1 4 ≡ OutputTooSmall) × (room_answered 4 4 2 ≡ OutputTooSmall)
+pub picture_rooms : (room_answered 4 2 3 ≡ done) × (room_answered 3 4 4 ≡ Err OutputTooSmall)
+    × (room_answered 4 1 4 ≡ Err OutputTooSmall) × (room_answered 4 4 2 ≡ Err OutputTooSmall)
 unfolding format_of needed
 picture_rooms = (refl, refl, refl, refl)
 
 -- ---- records
-pub record_table_order : (first_refusal (tone_record_table_checks longer 255) ≡ TrailingBytes)
-    × (first_refusal (tone_record_table_checks empty 255) ≡ OutputTooSmall)
-    × (first_refusal (tone_record_table_checks empty 256) ≡ Done)
+pub record_table_order : (first_refusal (tone_record_table_checks longer 255) ≡ Err TrailingBytes)
+    × (first_refusal (tone_record_table_checks empty 255) ≡ Err OutputTooSmall)
+    × (first_refusal (tone_record_table_checks empty 256) ≡ done)
 record_table_order = (refl, refl, refl)
 
 -- the copy of a record that names kind 3 leaves it out, 1 byte for 2; where a record has neither
 -- bit 7 nor a kind, it names kind 2, 2 bytes for 1
-pub record_copy_order : (first_refusal (tone_record_copy_checks longer 0) ≡ TrailingBytes)
-    × (first_refusal (tone_record_copy_checks empty 1) ≡ OutputTooSmall)
-    × (first_refusal (tone_record_copy_checks empty 2) ≡ Done)
-    × (first_refusal (tone_record_copy_checks (0x10 ∷ 3 ∷ []) 1) ≡ Done)
-    × (first_refusal (tone_record_copy_checks (0x00 ∷ []) 1) ≡ OutputTooSmall)
-    × (first_refusal (tone_record_copy_checks (0x00 ∷ []) 2) ≡ Done)
+pub record_copy_order : (first_refusal (tone_record_copy_checks longer 0) ≡ Err TrailingBytes)
+    × (first_refusal (tone_record_copy_checks empty 1) ≡ Err OutputTooSmall)
+    × (first_refusal (tone_record_copy_checks empty 2) ≡ done)
+    × (first_refusal (tone_record_copy_checks (0x10 ∷ 3 ∷ []) 1) ≡ done)
+    × (first_refusal (tone_record_copy_checks (0x00 ∷ []) 1) ≡ Err OutputTooSmall)
+    × (first_refusal (tone_record_copy_checks (0x00 ∷ []) 2) ≡ done)
 unfolding read_record read_fields read_kind read_number read_carried encode bits_under kind_of
 record_copy_order = (refl, refl, refl, refl, refl, refl)

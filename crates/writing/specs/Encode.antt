@@ -27,9 +27,7 @@ use Rattle.std.specs.Prelude.{
 }
 use Rattle.std.proofs.Math.Option.{Option, none, some}
 use Rattle.std.proofs.Math.ListN as ListN
-use Rattle.answers.specs.declared.Answer.{Answer}
-use Rattle.answers.specs.declared.Answer.TheVariants.{Done}
-use Rattle.answers.specs.Numbers.{is_done}
+use Rattle.answers.specs.Numbers.{is_done, Answer, done}
 use Rattle.answers.specs.Checks.{Check, first_refusal, room_check}
 use Rattle.points.specs.declared.Point.{Point}
 use Rattle.points.specs.declared.Heights.TheVariants.{Whole}
@@ -124,7 +122,7 @@ abbrev pub outcome : Answer → List ℕ → List ℕ → Write
 outcome a bytes buffer =
     cond (is_done a)
     (record {
-      answer = Done;
+      answer = done;
       length = ListN.length bytes;
       buffer = bytes ++ drop (ListN.length bytes) buffer;
     })

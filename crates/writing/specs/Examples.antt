@@ -1,13 +1,8 @@
 -- Records by example: P10 of document 01 from the writer's side, what is left out,
 -- and what a kind carries.
-use Rattle.std.specs.Prelude.{◌≡◌, refl, [], ◌∷◌, pos, negsuc}
+use Rattle.std.specs.Prelude.{◌≡◌, refl, [], ◌∷◌, pos, negsuc, Err}
 use Rattle.std.proofs.Math.Option.{some}
-use Rattle.answers.specs.declared.Answer.TheVariants.{
-  Done,
-  PointCount,
-  OutputTooSmall,
-  HeightRange,
-}
+use Rattle.answers.specs.declared.Refusal.TheVariants.{PointCount, OutputTooSmall, HeightRange}
 use Rattle.answers.specs.Checks.{first_refusal}
 use Rattle.points.specs.Points.{pt, straight_curve, rises_from, all_allowed}
 use Rattle.tables.specs.declared.CurveInterpolation.TheVariants.{
@@ -22,6 +17,7 @@ use Rattle.sets.specs.declared.Colour.TheVariants.{Green}
 use Rattle.sets.specs.Sets.{empty_view, master_only, with_colour, with_kind}
 use Rattle.sets.specs.Examples.{line, many, falling, fine, four}
 use Rattle.writing.specs.Encode.{pair_bytes, bits_under, encode, write_checks}
+use Rattle.answers.specs.Numbers.{done}
 
 pub P10-written : encode (with_kind Linear (master_only straight_curve))
     ≡ 0x91 ∷ 2 ∷ 0 ∷ 0 ∷ 0xff ∷ 0xff ∷ 0 ∷ []
@@ -62,21 +58,21 @@ unfolding encode bits_under
 slopes_written = refl
 
 -- the order of the refusals: 3, 4 and 20 of the lists, then 13
-pub refused_3 : first_refusal (write_checks (four line many fine line) 0) ≡ PointCount
+pub refused_3 : first_refusal (write_checks (four line many fine line) 0) ≡ Err PointCount
 unfolding rises_from all_allowed
 refused_3 = refl
 
 -- "when today's record is written, one that isn't a multiple of 256", "before the next list and all
 -- later checks"
-pub refused_20 : first_refusal (write_checks (four line fine many falling) 0) ≡ HeightRange
+pub refused_20 : first_refusal (write_checks (four line fine many falling) 0) ≡ Err HeightRange
 unfolding rises_from all_allowed
 refused_20 = refl
 
-pub refused_13 : first_refusal (write_checks (four line line line line) 21) ≡ OutputTooSmall
+pub refused_13 : first_refusal (write_checks (four line line line line) 21) ≡ Err OutputTooSmall
 unfolding rises_from all_allowed encode bits_under pair_bytes
 refused_13 = refl
 
-pub accepted : first_refusal (write_checks (four line line line line) 22) ≡ Done
+pub accepted : first_refusal (write_checks (four line line line line) 22) ≡ done
 unfolding rises_from all_allowed encode bits_under pair_bytes
 accepted = refl
 

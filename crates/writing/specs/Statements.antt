@@ -1,33 +1,23 @@
--- What the contracts of the writer's functions say of its structs. Definitions only.
-use Rattle.std.specs.Prelude.{ℕ, ◌+◌, ◌≤◌, ◌≡◌, List, ◌++◌, take}
+-- What the contracts of the writer's functions say of its bytes. Definitions only.
+use Rattle.std.specs.Prelude.{ℕ, ◌+◌, ◌≤◌, ◌≡◌, List, ◌++◌, Result, Ok, IfOk}
+use Rattle.std.specs.Result.{result_and}
 use Rattle.std.proofs.Math.ListN as ListN
-use Rattle.answers.specs.declared.Answer.TheVariants.{Done}
+use Rattle.arrayvec.specs.ArrayVec.{ArrayVec}
+use Rattle.answers.specs.declared.Refusal.{Refusal}
 use Rattle.sets.specs.declared.Curves.{Curves}
 use Rattle.tables.specs.Kinds.{LegalKind}
 use Rattle.sets.specs.SameLaws.{Full}
 use Rattle.records.specs.Format.{longest}
-use Rattle.writing.specs.declared.Draft.{Draft}
-use Rattle.writing.specs.declared.Written.{Written}
-use Rattle.writing.specs.Encode.{write_record}
+use Rattle.writing.specs.Encode.{Write, write_record}
 
--- the bytes made so far
-abbrev pub bytes_made : Draft → List ℕ
-bytes_made d = take d.length d.bytes
+-- there is room for these behind the bytes made so far
+pub record Room (bs : List ℕ) (draft : ArrayVec ℕ) : Type 0 where
+  pub room : ListN.length draft.items + ListN.length bs ≤ longest
 
--- there is room for these
-pub record Room (bs : List ℕ) (d : Draft) : Type 0 where
-  pub room : d.length + ListN.length bs ≤ longest
-
--- r is d with these behind
-pub record Appended (bs : List ℕ) (d r : Draft) : Type 0 where
-  pub bytes : bytes_made r ≡ bytes_made d ++ bs
-  pub length : r.length ≡ d.length + ListN.length bs
-
--- r is these bytes
-pub record Holds (bs : List ℕ) (r : Draft) : Type 0 where
-  pub bytes : bytes_made r ≡ bs
-  pub length : r.length ≡ ListN.length bs
-  pub fits : r.length ≤ longest
+-- these are behind the bytes that were made before
+pub record Appended (bs : List ℕ) (before after : ArrayVec ℕ) : Type 0 where
+  pub bytes : after.items ≡ before.items ++ bs
+  pub length : ListN.length after.items ≡ ListN.length before.items + ListN.length bs
 
 -- what the types say of a set that code holds: arrays of 64 points, a byte of
 -- tension, slopes of 16 bits
@@ -35,11 +25,14 @@ pub record Held (set : Curves) : Type 0 where
   pub full : Full set
   pub kind : LegalKind set.interpolation
 
+-- the length, or the refusal
+abbrev pub length_or_refusal : Write → Result ℕ Refusal
+length_or_refusal w = result_and w.answer (Ok w.length)
+
 -- what the writer answers for a set and a buffer that held `before` and holds `after`.
 -- Theorems on runs use `held`.
-pub record WriteRecordCall (set : Curves) (before : List ℕ) (r : Written) (after : List ℕ) :
-    Type 0 where
-  pub answer : r.answer ≡ (write_record set before).answer
-  pub length : r.length ≡ (write_record set before).length
+pub record WriteRecordCall (set : Curves) (before : List ℕ) (r : Result ℕ Refusal)
+    (after : List ℕ) : Type 0 where
+  pub answer : r ≡ length_or_refusal (write_record set before)
   pub buffer : after ≡ (write_record set before).buffer
-  pub held : r.answer ≡ Done → Held set
+  pub held : IfOk r (λ length. Held set)

@@ -3,29 +3,27 @@
 // byte of the buffer changes.
 #![tactic(auto)]
 
-ghost use Rattle.std.specs.Prelude.{◌≡◌, [], ◌∷◌, ◌++◌, cond, ◌≤◌, length, drop};
-ghost use Rattle.answers.specs.declared.Answer.TheVariants.{Done};
+ghost use Rattle.std.specs.Prelude.{◌≡◌, cond, ◌≤◌};
 ghost use Rattle.points.specs.declared.Heights.TheVariants.{Whole};
-ghost use Rattle.points.specs.Points.{list_of};
+ghost use Rattle.points.specs.Points.{limit, list_of};
 ghost use Rattle.sets.specs.Sets.{view_of, channel_of, curve_answer, channel_answer, set_answer};
 ghost use Rattle.tables.specs.Kinds.{LegalKind};
-ghost use Rattle.points.specs.Points.{limit};
 ghost use Rattle.writing.specs.Encode.{
   pair_bytes,
   field_bytes,
   master_field,
   names_kind,
   kind_bytes,
-  unsigned16,
   slope_bytes,
   carried_bytes,
   map_of,
   encode,
 };
-ghost use Rattle.writing.specs.Statements.{bytes_made, Room, Appended, Holds, WriteRecordCall};
-ghost use Rattle.records.specs.Format.{longest};
+ghost use Rattle.writing.specs.Statements.{Room, Appended, WriteRecordCall};
+ghost use Rattle.answers.specs.Numbers.{done};
 
-use answers::{Answer, room_for};
+use answers::{Refusal, room_for};
+use arrayvec::ArrayVec;
 use points::{Curve, Heights};
 use records::kinds::unnamed_kind;
 use sets::{Channel, Curves};
@@ -35,118 +33,64 @@ use tables::{CurveInterpolation, carried_by, carries_slopes, carries_tension, ki
 // points, the kind, two slopes.
 pub const LONGEST_RECORD: usize = 1 + 4 * (1 + 2 * Curve::LIMIT) + 1 + 4;
 
-// A record in the making: the first length bytes.
-#[derive(Clone, Copy)]
-struct Draft {
-    bytes: [u8; LONGEST_RECORD],
-    length: usize,
-}
+// A record in the making.
+type Draft = ArrayVec<u8, LONGEST_RECORD>;
 
-// The length of the record written, beside the answer.
-#[derive(Clone, Copy)]
-pub struct Written {
-    pub answer: Answer,
-    pub length: usize,
-}
-
-impl Draft {
-    fn new() -> Draft
-        ensures { result.length ≡ 0 }
-    {
-        Draft {
-            bytes: [0; LONGEST_RECORD],
-            length: 0,
-        }
-    }
-
-    fn push(mut self, b: u8) -> Draft
-        requires { Room (b ∷ []) self }
-        ensures { Appended (b ∷ []) self result }
-    {
-        let at = self.length;
-        self.bytes[at] = b;
-        self.length = at + 1;
-        self
-    }
-
-    // An x and a y for each point. The y is a level: heights are multiples of 256 here.
-    fn pairs(self, curve: Curve) -> Draft
-        requires { (curve.count ≤ limit) × Room (pair_bytes (list_of curve)) self }
-        ensures { Appended (pair_bytes (list_of curve)) self result }
-    {
-        let n = curve.count;
-        let mut bytes = self.bytes;
-        let mut at = self.length;
-        let mut i: usize = 0;
-        while i < n {
-            bytes[at] = curve.xs[i];
-            bytes[at + 1] = (curve.ys[i] / 256) as u8;
-            at += 2;
-            i += 1;
-        }
-        Draft { bytes, length: at }
-    }
-
-    // A list, where it is present: its count, then its points.
-    fn field(self, channel: Channel) -> Draft
-        requires { (channel_answer Whole channel ≡ Done)
-            × Room (field_bytes (channel_of channel)) self }
-        ensures { Appended (field_bytes (channel_of channel)) self result }
-    {
-        if channel.present {
-            let curve = channel.curve;
-            let n = curve.count;
-            self.push(n as u8).pairs(curve)
-        } else {
-            self
-        }
-    }
-
-    fn kind(self, k: CurveInterpolation) -> Draft
-        requires { Room (kind_bytes k) self }
-        ensures { Appended (kind_bytes k) self result }
-    {
-        if names_kind(k) {
-            self.push(k.number())
-        } else {
-            self
-        }
-    }
-
-    // A slope, low byte first.
-    fn push_slope(self, v: i16) -> Draft
-        requires { Room (slope_bytes v) self }
-        ensures { Appended (slope_bytes v) self result }
-    {
-        let n = unsigned(v);
-        self.push((n % 256) as u8).push((n / 256) as u8)
-    }
-
-    // What the kind carries. That its slopes are of 16 bits is for the theorems on runs.
-    fn carried(self, k: CurveInterpolation) -> Draft
-        requires { Room (carried_bytes k) self }
-        ensures { Appended (carried_bytes k) self result × LegalKind k }
-    {
-        let number = k.number();
-        let carried = carried_by(k);
-        if carries_tension(number) {
-            return self.push(carried.tension);
-        }
-        if carries_slopes(number) {
-            return self.push_slope(carried.start).push_slope(carried.end);
-        }
-        self
-    }
-}
-
-// Two's complement.
-fn unsigned(v: i16) -> u16
-    ensures { result ≡ unsigned16 v }
+// An x and a y for each point. The y is a level: heights are multiples of 256 here.
+fn push_pairs(draft: &mut Draft, curve: &Curve)
+    requires few { curve.now.count ≤ limit }
+    requires room { Room (pair_bytes (list_of curve.now)) draft.old }
+    ensures { Appended (pair_bytes (list_of curve.now)) draft.old draft.new }
 {
-    if v < 0 {
-        65535 - ((-1 - v) as u16)
-    } else {
-        v as u16
+    for i in 0..curve.count {
+        draft.push(curve.xs[i]);
+        draft.push((curve.ys[i] / 256) as u8);
+    }
+}
+
+// A list, where it is present: its count, then its points.
+fn push_field(draft: &mut Draft, channel: Channel)
+    requires legal { channel_answer Whole channel ≡ done }
+    requires room { Room (field_bytes (channel_of channel)) draft.old }
+    ensures { Appended (field_bytes (channel_of channel)) draft.old draft.new }
+{
+    if channel.present {
+        draft.push(channel.curve.count as u8);
+        push_pairs(draft, &channel.curve);
+    }
+}
+
+fn push_kind(draft: &mut Draft, k: CurveInterpolation)
+    requires { Room (kind_bytes k) draft.old }
+    ensures { Appended (kind_bytes k) draft.old draft.new }
+{
+    if names_kind(k) {
+        draft.push(k.number());
+    }
+}
+
+// A slope, low byte first.
+fn push_slope(draft: &mut Draft, v: i16)
+    requires { Room (slope_bytes v) draft.old }
+    ensures { Appended (slope_bytes v) draft.old draft.new }
+{
+    let [low, high] = v.to_le_bytes();
+    draft.push(low);
+    draft.push(high);
+}
+
+// What the kind carries. That its slopes are of 16 bits is for the theorems on runs.
+fn push_carried(draft: &mut Draft, k: CurveInterpolation)
+    requires { Room (carried_bytes k) draft.old }
+    ensures { Appended (carried_bytes k) draft.old draft.new × LegalKind k }
+{
+    let number = k.number();
+    let carried = carried_by(k);
+    if carries_tension(number) {
+        draft.push(carried.tension);
+    } else if carries_slopes(number) {
+        push_slope(draft, carried.start);
+        push_slope(draft, carried.end);
     }
 }
 
@@ -167,9 +111,9 @@ fn mark(present: bool, weight: u8) -> u8
 
 // The master as a field: an empty one is left out.
 fn master_field(curve: Curve) -> Channel
-    requires { curve_answer Whole curve ≡ Done }
+    requires { curve_answer Whole curve ≡ done }
     ensures { (channel_of result ≡ master_field (list_of curve))
-        × (channel_answer Whole result ≡ Done) }
+        × (channel_answer Whole result ≡ done) }
 {
     Channel {
         present: curve.count != 0,
@@ -178,9 +122,9 @@ fn master_field(curve: Curve) -> Channel
 }
 
 // The bit map. Bits 5 and 6 go with the kind, bit 7 is always set.
-fn map_byte(master: Channel, set: Curves) -> u8
-    ensures { result ≡ map_of (channel_of master) (channel_of set.red) (channel_of set.green)
-        (channel_of set.blue) set.interpolation }
+fn map_byte(master: &Channel, set: &Curves) -> u8
+    ensures { result ≡ map_of (channel_of master.now) (channel_of set.now.red)
+        (channel_of set.now.green) (channel_of set.now.blue) set.now.interpolation }
 {
     let k = set.interpolation;
     mark(master.present, 1)
@@ -193,53 +137,32 @@ fn map_byte(master: Channel, set: Curves) -> u8
 }
 
 // The record of a set whose lists are legal.
-fn record_of(set: Curves) -> Draft
-    requires { set_answer Whole set ≡ Done }
-    ensures { Holds (encode (view_of set)) result × LegalKind set.interpolation }
+fn record_of(set: &Curves) -> Draft
+    requires { set_answer Whole set.now ≡ done }
+    ensures { (result.items ≡ encode (view_of set.now)) × LegalKind set.now.interpolation }
 {
     let master = master_field(set.master);
     let k = set.interpolation;
-    Draft::new()
-        .push(map_byte(master, set))
-        .field(master)
-        .field(set.red)
-        .field(set.green)
-        .field(set.blue)
-        .kind(k)
-        .carried(k)
+    let mut draft = ArrayVec::new();
+    draft.push(map_byte(&master, set));
+    push_field(&mut draft, master);
+    push_field(&mut draft, set.red);
+    push_field(&mut draft, set.green);
+    push_field(&mut draft, set.blue);
+    push_kind(&mut draft, k);
+    push_carried(&mut draft, k);
+    draft
 }
 
-// The bytes of a draft to the front of a buffer.
-fn copy_out(draft: Draft, buffer: &mut [u8])
-    requires { (draft.length ≤ longest) × (draft.length ≤ length buffer.old) }
-    ensures { buffer.new ≡ bytes_made draft ++ drop draft.length buffer.old }
-{
-    let length = draft.length;
-    let mut i: usize = 0;
-    while i < length {
-        buffer[i] = draft.bytes[i];
-        i += 1;
-    }
-}
-
-// Writes the record of a set. A refusal leaves the buffer as it was, and no byte
-// past the length is changed.
-pub fn write_record(set: Curves, buffer: &mut [u8]) -> Written
+// Writes the record of a set, and answers its length. A refusal leaves the buffer as it was, and no
+// byte past the length is changed.
+pub fn write_record(set: Curves, buffer: &mut [u8]) -> Result<usize, Refusal>
     ensures { WriteRecordCall set buffer.old result buffer.new }
 {
-    let checked = set.check(Heights::Whole);
-    if !checked.is_done() {
-        return Written {
-            answer: checked,
-            length: 0,
-        };
-    }
-    let draft = record_of(set);
-    let length = draft.length;
-    let answer = room_for(length, buffer.len());
-    if !answer.is_done() {
-        return Written { answer, length: 0 };
-    }
-    copy_out(draft, buffer);
-    Written { answer, length }
+    set.check(Heights::Whole)?;
+    let draft = record_of(&set);
+    let length = draft.len();
+    room_for(length, buffer.len())?;
+    buffer[..length].copy_from_slice(draft.as_slice());
+    Ok(length)
 }

@@ -5,11 +5,11 @@ use Rattle.lookup.specs.Lookup.{index_from}
 use Rattle.lookup.proofs.indices.Goals as goal
 
 pub loop-j-init : goal.loop-j-init
-loop-j-init c = (search rules, stored_none)
+loop-j-init c = stored_none
 
 pub loop-j-preserved : goal.loop-j-preserved
 unfolding index_from
-loop-j-preserved c = (search rules, stored_next c.loop-j.invariant.1 c.index.ensures)
+loop-j-preserved c = stored_next c.loop-j.invariant c.index.ensures
 
 pub returns : goal.returns
-returns c = stored_end c.loop-j.invariant.1 (omega arith)
+returns c = stored_end c.loop-j.invariant (omega arith)

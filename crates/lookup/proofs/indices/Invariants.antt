@@ -1,11 +1,7 @@
 -- `lookup::indices` meets its contract: the loop stores one index after another.
-use Rattle.std.proofs.Common.{◌≤◌, ◌-◌}
 use Rattle.lists.specs.Stored.{Stored}
 use Rattle.lookup.specs.Lookup.{index_from}
 use Rattle.lookup.proofs.indices.Given as goal
 
 abbrev pub invariant-loop-j : goal.invariant-loop-j
-invariant-loop-j l = (l.j ≤ l.n) × Stored (index_from l.values l.at) 0 l.j l.initial.indices l.indices
-
-abbrev pub decreases-loop-j : goal.decreases-loop-j
-decreases-loop-j l = l.n - l.j
+invariant-loop-j l = Stored (index_from l.values l.at) 0 l.j l.initial.indices l.indices

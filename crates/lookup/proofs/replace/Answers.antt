@@ -7,22 +7,22 @@ use Rattle.lookup.specs.Lookup.{index_from, looked}
 use Rattle.lookup.proofs.replace.Goals as goal
 
 pub loop-j-init : goal.loop-j-init
-loop-j-init c = (search rules, stored_end stored_none (omega arith))
+loop-j-init c = stored_end stored_none (omega arith)
 
-pub blend-y-requires : goal.blend-y-requires
+pub blend-requires : goal.blend-requires
 unfolding index_from
-blend-y-requires c =
+blend-requires c =
     let found = c.requires.stored in (
       search rules,
-      rw (stored_here c.loop-j.invariant.1 nan)
+      rw (stored_here c.loop-j.invariant nan)
           (stored_inside found c.loop-j.j 0 (omega arith) (omega arith) (omega arith)),
     )
 
 pub loop-j-preserved : goal.loop-j-preserved
 unfolding looked
 loop-j-preserved c =
-    let r = c.loop-j.invariant.1 in
-    (search rules, stored_end (stored_next r (rw (← stored_here r nan) c.blend-y.ensures)) (omega arith))
+    let r = c.loop-j.invariant in
+    stored_end (stored_next r (rw (← stored_here r nan) c.blend.ensures)) (omega arith)
 
 pub returns : goal.returns
-returns c = stored_end c.loop-j.invariant.1 (omega arith)
+returns c = stored_end c.loop-j.invariant (omega arith)

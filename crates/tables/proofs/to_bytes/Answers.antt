@@ -5,11 +5,11 @@ use Rattle.tables.specs.Tables.{byte_at}
 use Rattle.tables.proofs.to_bytes.Goals as goal
 
 pub loop-v-init : goal.loop-v-init
-loop-v-init c = (search rules, stored_none)
+loop-v-init c = stored_none
 
 pub loop-v-preserved : goal.loop-v-preserved
 unfolding byte_at
-loop-v-preserved c = (search rules, stored_next c.loop-v.invariant.1 c.to_byte.ensures)
+loop-v-preserved c = stored_next c.loop-v.invariant c.to_byte.ensures
 
 pub returns : goal.returns
-returns c = stored_all c.loop-v.invariant.1 refl (search rules)
+returns c = stored_all c.loop-v.invariant refl (search rules)

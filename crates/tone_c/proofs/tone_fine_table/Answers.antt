@@ -1,7 +1,6 @@
 -- `tone_fine_table`: refused, with the table as it was; else the samples are written.
 use Rattle.std.proofs.Common.{ap, not, ◌≡◌, sym, ◌∙◌, [], ◌∷◌, rules, length, to_z-of_z}
-use Rattle.answers.specs.declared.Answer.TheVariants.{Done}
-use Rattle.answers.specs.Numbers.{number_of}
+use Rattle.answers.specs.Numbers.{number_of, done}
 use Rattle.answers.proofs.NumberLaws.{asked_refused, asked_done}
 use Rattle.answers.specs.Checks.{first_refusal}
 use Rattle.answers.proofs.CheckLaws.{first_then, done_append}
@@ -31,8 +30,8 @@ check-of_list-requires c =
 accepted : (c : Else-not-is_done)
     → let A = c.args in
     c.first_of-answer.result ≡ first_refusal (tone_fine_table_checks A.points.now A.kind (length A.table.now))
-    → (first_refusal (given_checks A.points.now A.kind) ≡ Done)
-    × (first_refusal (length_check (length A.table.now) ∷ []) ≡ Done)
+    → (first_refusal (given_checks A.points.now A.kind) ≡ done)
+    × (first_refusal (length_check (length A.table.now) ∷ []) ≡ done)
 accepted c is =
     let A = c.args in
     done_append (given_checks A.points.now A.kind) (length_check (length A.table.now) ∷ [])

@@ -2,9 +2,7 @@
 -- the rest is the set call, whose set the record's reader has checked.
 use Rattle.std.proofs.Common.{ap, not, ℕ, ◌≡◌, refl, sym, ◌∙◌, false, List, [], ◌∷◌, ◌++◌, ne_eqb}
 use Rattle.std.proofs.lemmas.Bool.{eqb-false}
-use Rattle.answers.specs.declared.Answer.{Answer}
-use Rattle.answers.specs.declared.Answer.TheVariants.{Done}
-use Rattle.answers.specs.Numbers.{number_of, is_done}
+use Rattle.answers.specs.Numbers.{number_of, is_done, Answer, done}
 use Rattle.answers.proofs.NumberLaws.{asked_refused, asked_done, number_unique}
 use Rattle.answers.specs.Checks.{Check, first_refusal}
 use Rattle.answers.proofs.CheckLaws.{first_then, first_stops, first_goes_on}
@@ -27,7 +25,7 @@ abbrev front : List ℕ → ℕ → List Check
 front stored format = record_checks stored ++ (format_check format ∷ [])
 
 -- the set call answers for the picture, on a set that has passed
-of-picture : (r : Run) → set_answer Fine r.job.set ≡ Done → answer r ≡ first_refusal (checks_of_picture r)
+of-picture : (r : Run) → set_answer Fine r.job.set ≡ done → answer r ≡ first_refusal (checks_of_picture r)
 unfolding answer set_answer
 of-picture r passed = sym (first_goes_on (set_checks (curve_checks Fine) r.job.set) _ passed refl)
 
@@ -44,7 +42,7 @@ module _ (asked : PictureAsked) {r : ℕ} where
 
   -- neither is refused: the set call answers, on the set that the reader handed back
   called : {handed : RecordRead} {t : Toned} {after : Outputs}
-      → first_refusal (front asked.stored asked.format) ≡ Done
+      → first_refusal (front asked.stored asked.format) ≡ done
       → ReadRecordCall asked.stored handed → SetCall (run_of asked handed.set) t after
       → r ≡ number_of t.answer → TonePictureCall asked r after
   called {handed} {t} passed read call e =
@@ -61,7 +59,7 @@ module _ (asked : PictureAsked) {r : ℕ} where
           toned = t;
           read = read;
           call = call;
-          done = number_unique t.answer Done (sym e ∙ zero);
+          done = number_unique t.answer done (sym e ∙ zero);
         };
       }
 

@@ -1,7 +1,6 @@
 -- `tone_table`: refused, with the output as it was; else the byte table is written.
 use Rattle.std.proofs.Common.{ap, not, ◌≡◌, sym, ◌∙◌, [], ◌∷◌, rules, length, to_z-of_z}
-use Rattle.answers.specs.declared.Answer.TheVariants.{Done}
-use Rattle.answers.specs.Numbers.{number_of}
+use Rattle.answers.specs.Numbers.{number_of, done}
 use Rattle.answers.proofs.NumberLaws.{asked_refused, asked_done}
 use Rattle.answers.specs.Checks.{first_refusal, room_check}
 use Rattle.answers.proofs.CheckLaws.{first_then, done_append, has_room}
@@ -29,8 +28,8 @@ check-of_list-requires c =
 accepted : (c : Else-not-is_done)
     → let A = c.args in
     c.first_of-answer.result ≡ first_refusal (tone_table_checks A.points.now A.kind (length A.table.now))
-    → (first_refusal (given_checks A.points.now A.kind) ≡ Done)
-    × (first_refusal (room_check 256 (length A.table.now) ∷ []) ≡ Done)
+    → (first_refusal (given_checks A.points.now A.kind) ≡ done)
+    × (first_refusal (room_check 256 (length A.table.now) ∷ []) ≡ done)
 accepted c is =
     let A = c.args in
     done_append (given_checks A.points.now A.kind) (room_check 256 (length A.table.now) ∷ [])

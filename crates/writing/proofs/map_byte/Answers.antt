@@ -19,7 +19,8 @@ overflow_add-result-6 c = omega (arith, few (goal.at.overflow_add-result-6 c).Af
 
 pub returns : goal.returns
 returns c =
-    let a = c.args in
+    let master = c.args.master.now in
+    let set = c.args.set.now in
     rw (
       c.mark-5.ensures.0,
       c.mark-4.ensures.0,
@@ -29,9 +30,9 @@ returns c =
       c.names_kind.ensures,
       c.kind_bits.ensures,
       c.number.ensures,
-      ← there_channel a.master,
-      ← there_channel a.set.red,
-      ← there_channel a.set.green,
-      ← there_channel a.set.blue,
+      ← there_channel master,
+      ← there_channel set.red,
+      ← there_channel set.green,
+      ← there_channel set.blue,
     )
-    (map_sum a.master.present a.set.red.present a.set.green.present a.set.blue.present _ _)
+    (map_sum master.present set.red.present set.green.present set.blue.present _ _)

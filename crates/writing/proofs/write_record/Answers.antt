@@ -1,56 +1,45 @@
 -- `write_record`: by the two refusals, then the copy.
-use Rattle.std.proofs.Common.{ap, not, ◌≡◌, sym, ◌∙◌, ◌≤◌, length, rules}
-use Rattle.answers.specs.declared.Answer.TheVariants.{Done}
-use Rattle.answers.proofs.NumberLaws.{asked_refused, asked_done}
+use Rattle.std.proofs.Common.{◌≡◌, sym, ap, ◌∙◌, length, rules}
+use Rattle.answers.proofs.NumberLaws.{exit_refused}
 use Rattle.answers.proofs.CheckLaws.{has_room}
 use Rattle.points.specs.declared.Heights.TheVariants.{Whole}
-use Rattle.sets.specs.Sets.{set_answer}
+use Rattle.sets.specs.Sets.{view_of, set_answer}
 use Rattle.sets.specs.SameLaws.{Full}
+use Rattle.writing.specs.Encode.{encode}
 use Rattle.writing.proofs.Laws.{lists_refused, room_refused, wrote_done}
-use Rattle.writing.proofs.write_record.Goals.{Else-not-is_done, Else-not-is_done-2}
+use Rattle.answers.specs.Numbers.{done}
+use Rattle.writing.proofs.write_record.Goals.{After-len-length}
 use Rattle.writing.proofs.write_record.Goals as goal
 
-pub returns-then-not-is_done : goal.returns-then-not-is_done
-returns-then-not-is_done c =
-    lists_refused c.check-checked.ensures
-    (asked_refused c.check-checked.result c.is_done.ensures (ap not c.if-not-is_done.true))
+pub returns-in_err-check : goal.returns-in_err-check
+returns-in_err-check c =
+    let out = c.from_residual in
+    rw (exit_refused out.result out.ensures.1) (lists_refused (sym c.check.ensures ∙ c.in_err-check.was))
 
--- the lists have passed
-passed : (c : Else-not-is_done) → set_answer Whole c.args.set ≡ Done
-passed c =
-    sym c.check-checked.ensures
-    ∙ asked_done c.check-checked.result c.is_done.ensures (ap not c.if-not-is_done.false)
+-- the lists have passed, and the record has its length
+module _ (c : After-len-length) where
+  passed : set_answer Whole c.args.set ≡ done
+  passed = sym c.check.ensures ∙ c.in_ok-check.was
 
-pub returns-then-not-is_done-2 : goal.returns-then-not-is_done-2
-returns-then-not-is_done-2 c =
-    room_refused (passed (goal.at.returns-then-not-is_done-2 c).Else-not-is_done)
-    c.record_of-draft.ensures.0 c.room_for-answer.ensures
-    (asked_refused c.room_for-answer.result c.is_done-2.ensures (ap not c.if-not-is_done-2.true))
+  long : c.len-length.result ≡ length (encode (view_of c.args.set))
+  long = c.len-length.ensures.value ∙ ap length c.record_of-draft.ensures.0
 
--- there is room
-module _ (c : Else-not-is_done-2) where
-  accepted : c.room_for-answer.result ≡ Done
-  accepted = asked_done c.room_for-answer.result c.is_done-2.ensures (ap not c.if-not-is_done-2.false)
-
-  fits : c.record_of-draft.result.length ≤ length c.args.buffer.now
-  fits = has_room _ _ (sym c.room_for-answer.ensures ∙ accepted)
-
-pub copy_out-requires : goal.copy_out-requires
-copy_out-requires c = (c.record_of-draft.ensures.0.fits, fits (goal.at.copy_out-requires c).Else-not-is_done-2)
+pub returns-in_err-room_for : goal.returns-in_err-room_for
+returns-in_err-room_for c =
+    let m = (goal.at.returns-in_err-room_for c).After-len-length in
+    let out = c.from_residual-in_err-room_for in
+    rw (exit_refused out.result out.ensures.1)
+    (room_refused (passed m) (long m) (sym c.room_for.ensures ∙ c.in_err-room_for.was))
 
 pub returns : goal.returns
 returns c =
-    let a = c.args in
-    let full : Full a.set = record {
+    let m = (goal.at.returns c).After-len-length in
+    let full : Full c.args.set = record {
       master = search rules;
       red = search rules;
       green = search rules;
       blue = search rules;
     } in
-    let m = goal.at.returns c in
-    wrote_done (passed m.Else-not-is_done) c.record_of-draft.ensures.0 (accepted m.Else-not-is_done-2)
-    (fits m.Else-not-is_done-2) c.copy_out.ensures
+    wrote_done (passed m) (long m) (has_room _ _ (sym c.room_for.ensures ∙ c.in_ok-room_for.was))
+    (rw (c.copy_from_slice.ensures.after, c.as_slice.ensures.value, c.record_of-draft.ensures.0))
     (record { full = full; kind = c.record_of-draft.ensures.1 })
-
-pub record_of-draft-requires : goal.record_of-draft-requires
-record_of-draft-requires c = passed (goal.at.record_of-draft-requires c).Else-not-is_done

@@ -1,0 +1,2 @@
+-- texts character by character, and how long they are
+pub mod Laws
