@@ -152,6 +152,7 @@ impl Curves {
     }
 
     // The present lists in their order: master, red, green, blue.
+    #[tactic(auto, using(crate::proofs::AnswerLaws::set_answer_lem))]
     pub fn check(self, heights: Heights) -> Answer
         ensures { result ≡ set_answer heights self }
     {
