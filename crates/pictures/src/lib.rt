@@ -14,7 +14,7 @@ ghost use Rattle.pictures.specs.Runs.{tables_of, tight_rows, SetCall};
 use answers::{Answer, Refusal};
 use formats::{Lengths, PixelFormat, checks};
 use points::{Curve, Heights};
-use rows::{copy_bytes, tone_rows, tone_rows_into};
+use rows::{Grid, Tables, copy_bytes, tone_rows, tone_rows_into};
 use sets::{Curves, chosen_table};
 use tables::{CurveInterpolation, entries_of};
 
@@ -53,11 +53,10 @@ pub fn apply_tone_lut(
     let w = width as usize;
     let h = height as usize;
     checks::lut_answer(format, w, h, step, plane.len())?;
+    let grid = Grid { w, h, step };
     tone_rows(
         plane,
-        step,
-        w,
-        h,
+        grid,
         format.bytes_a_pixel(),
         format.alpha(),
         &table,
@@ -105,13 +104,13 @@ fn tone_first(
     let blue_table = own_table(blue, set.blue.curve, kind);
     tone_rows_into(
         plane,
-        step,
-        w,
-        h,
+        Grid { w, h, step },
         format.bytes_a_pixel(),
-        chosen_table(red, &red_table, &master_table),
-        chosen_table(green, &green_table, &master_table),
-        chosen_table(blue, &blue_table, &master_table),
+        Tables {
+            red: chosen_table(red, &red_table, &master_table),
+            green: chosen_table(green, &green_table, &master_table),
+            blue: chosen_table(blue, &blue_table, &master_table),
+        },
         out,
     );
 }

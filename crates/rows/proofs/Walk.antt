@@ -9,20 +9,23 @@ use native.Mathlib.Nat.{mod-lt}
 use native.Mathlib.Omega.{arith}
 use lib.ListN.{length, get_or, drop}
 use lib.Seq.{drop-length}
-use Rattle.lists.specs.Each.{each, each_same}
+use Rattle.std.proofs.Common.{add-mul}
+use Rattle.std.proofs.Math.Nat.{mul-add-mod_self_right}
+use Rattle.lists.specs.Each.{each, each_same, is_each}
 use Rattle.lists.specs.Replaced.{
   Replaced,
+  replacing,
   replaced_then,
   replaced_as,
   replaced_kept,
   replaced_end,
   replaced_each,
 }
-use Rattle.lists.specs.Stored.{Stored, stored_then}
+use Rattle.lists.specs.Stored.{Stored, stored_then, stored_end, stored_inside}
 use Rattle.lists.specs.Part.{part, back, length_part, get_d_part, stored_part_each, replaced_part}
-use Rattle.rows.specs.Bytes.{same, three, through, toned, row_byte, plain_byte, pixel_byte}
-use Rattle.rows.specs.Rows.{in_row, plane_byte, InPlace, Tight}
-use Rattle.rows.specs.Places.{mul_next}
+use Rattle.rows.specs.Bytes.{same, three, through, toned, row_byte, pixel_byte}
+use Rattle.rows.specs.Rows.{in_row, plane_byte, InPlace, Pixels}
+use Rattle.rows.specs.Places.{mul_next, mul_part}
 use Rattle.rows.specs.Laws.{
   toned_through,
   toned_kept,
@@ -37,53 +40,29 @@ pub pixel_channel : (i j : ℕ) (tables : ℕ → List ℕ) (b : ℕ) → pixel_
 unfolding pixel_byte
 pixel_channel i j tables b = let channel : i + j - i ≡ j = omega arith in rw channel
 
-pub pixel_byte_lem : {at : ℕ} {l m : List ℕ} (i j : ℕ) (tables : ℕ → List ℕ) → at ≡ i + j
-    → Replaced 0 (plain_byte (tables j)) at (at + 1) l m
-    → Replaced 0 (pixel_byte i tables) at (at + 1) l m
-unfolding plain_byte
-pixel_byte_lem {at} i j tables e r =
-    replaced_as r (λ w low high b. let place : w ≡ i + j = omega arith in rw place (sym (pixel_channel i j tables b)))
-
--- the first q channels of pixel x, which starts at i, went through their tables; the channel after
--- them, if there is one, is kept
-pub pixel_next : {q i : ℕ} {f : ℕ → ℕ → ℕ} {l m k : List ℕ} (p kept : ℕ) (tables : ℕ → List ℕ) (x : ℕ) → i ≡ x * p
-    → Replaced 0 (row_byte p kept tables) 0 i l m → Replaced 0 f i (i + q) m k
-    → q ≤ p → q ≤ kept → ((j : ℕ) → q ≤ j → j < p → j ≡ kept)
-    → ((j : ℕ) → j < q → (b : ℕ) → f (i + j) b ≡ through (tables j) b)
-    → Replaced 0 (row_byte p kept tables) 0 (i + p) l k
-pixel_next {q} {i} {f} p kept tables x at r s few before last is =
+-- pixel x, which starts at i, after others from a on: its channels went through their tables, but
+-- for the last if it is kept
+pub pixel_next : {p kept a i : ℕ} {l m k : List ℕ} (tables : ℕ → List ℕ) (x : ℕ) → i ≡ x * p
+    → Pixels p kept → Replaced 0 (row_byte p kept tables) a i l m
+    → Replaced 0 (pixel_byte i tables) i (i + kept) m k
+    → Replaced 0 (row_byte p kept tables) a ((x + 1) * p) l k
+pixel_next {p} {kept} {i = i} tables x at few r s =
     let channel : (j b : ℕ) → j < p → row_byte p kept tables (i + j) b ≡ toned kept tables j b =
     λ j b lt. rw at (row_channel p kept tables x j b lt) in
     let place : (w : ℕ) → i ≤ w → w ≡ i + (w - i) = λ w low. omega arith in
     let colours = replaced_as {g = row_byte p kept tables} s (λ w low high b. rw (
       place w low,
-      is (w - i) (omega arith) b,
+      pixel_channel i (w - i) tables b,
       channel (w - i) b (omega arith),
       toned_through kept (w - i) tables b (λ e. omega arith),
     )) in
+    let whole : Replaced 0 (row_byte p kept tables) _ (i + p) _ _ =
     replaced_kept (replaced_then r colours) (omega arith) (λ w low high b. rw (
       place w (omega arith),
       channel (w - i) b (omega arith),
-      toned_kept kept (w - i) tables b (last (w - i) (omega arith) (omega arith)),
-    ))
-
--- where `tone_pixel` did it: the pixel's three colours, and alpha if it has a fourth channel
-pub colours_next : {i : ℕ} {l m k : List ℕ} (p : ℕ) (tables : ℕ → List ℕ) (x : ℕ) → 3 ≤ p → p ≤ 4 → i ≡ x * p
-    → Replaced 0 (row_byte p 3 tables) 0 i l m → Replaced 0 (pixel_byte i tables) i (i + 3) m k
-    → Replaced 0 (row_byte p 3 tables) 0 (i + p) l k
-colours_next {i} p tables x most few at r s =
-    pixel_next p 3 tables x at r s most (omega arith) (λ j low high. omega arith) (λ j lt. pixel_channel i j tables)
-
--- where no channel is kept and each has the table, every byte goes through it
-pub plain_row : (p kept : ℕ) (tables : ℕ → List ℕ) (table l : List ℕ) → 1 ≤ p → p ≤ kept
-    → ((c : ℕ) → tables (c % p) ≡ table)
-    → each (plain_byte table) l ≡ each (row_byte p kept tables) l
-unfolding row_byte plain_byte
-plain_row p kept tables table l some none e =
-    each_same 0 (plain_byte table) (row_byte p kept tables) l
-    (λ c lt.
-    let channel = mod-lt c some in
-    rw (← e c, toned_through kept (c % p) tables (get_or l c 0) (λ q. omega arith)))
+      toned_kept kept (w - i) tables b (omega arith),
+    )) in
+    replaced_end whole (omega (arith, mul_next x p))
 
 -- one table for all three colours
 three_same : (table : List ℕ) (channel : ℕ) → three table table table channel ≡ table
@@ -97,6 +76,20 @@ unfolding row_byte toned
 one_table p kept table l =
     each_same 0 (row_byte p kept (three table table table)) (row_byte p kept (same table)) l
     (λ c lt. rw (three_same table (c % p)))
+
+-- where no channel is kept, every byte goes through the table: each is a pixel by itself
+pub all_toned : (p kept : ℕ) (table l : List ℕ) → 1 ≤ p → p ≤ kept
+    → each (row_byte 1 1 (same table)) l ≡ each (row_byte p kept (same table)) l
+unfolding row_byte
+all_toned p kept table l some none =
+    each_same 0 (row_byte 1 1 (same table)) (row_byte p kept (same table)) l
+    (λ c lt.
+    let alone : c % 1 < 1 = mod-lt c (omega arith) in
+    let channel : c % p < p = mod-lt c some in
+    rw (
+      toned_through 1 (c % 1) (same table) (get_or l c 0) (λ q. omega arith),
+      toned_through kept (c % p) (same table) (get_or l c 0) (λ q. omega arith),
+    ))
 
 -- a copy as long as its original, of which each byte was then replaced
 pub copied_each : {copy m : List ℕ} (f : ℕ → ℕ → ℕ) (src dst : List ℕ) → length dst ≡ length src
@@ -112,9 +105,6 @@ last_of_two o lt e = ⊎_elim (λ q. absurd (omega arith)) (⊎_elim (λ q. q.1)
 
 pub last_of_four : {p kept : ℕ} → InPlace p kept → kept < p → (p ≡ 2 → ⊥) → (p ≡ 4) × (kept ≡ 3)
 last_of_four o lt n = ⊎_elim (λ q. absurd (omega arith)) (⊎_elim (λ q. absurd (n q.0)) (λ q. q)) o
-
-pub four : {p : ℕ} → Tight p → (p ≡ 1 → ⊥) → (p ≡ 3 → ⊥) → p ≡ 4
-four o one three = ⊎_elim (λ e. absurd (one e)) (⊎_elim (λ e. absurd (three e)) (λ e. e)) o
 
 -- a row of a plane after others
 module _ (row h step : ℕ) (g : ℕ → ℕ → ℕ) where
@@ -148,3 +138,31 @@ part_next {m = m} f g src from to size source target r is rule =
     stored_then r
     (stored_part_each to (to + size) m (part from (from + size) src) 0 f g (omega arith) target (omega arith) is
     (λ c lt. ap (g c) (get_d_part from (from + size) src c 0 (omega arith)) ∙ rule c (omega arith)))
+
+-- count pixels of a row behind the x before them
+pub block_next : {l m n : List ℕ} {w : ℕ} (p : ℕ) (g : ℕ → ℕ → ℕ) (src : List ℕ) (x count : ℕ)
+    → ((c b : ℕ) → g (x * p + c) b ≡ g c b) → x + count ≤ w → length src ≡ w * p → length m ≡ w * p
+    → Stored (replacing 0 g src) 0 (x * p) l m
+    → n ≡ each g (part (x * p) (x * p + count * p) src)
+    → Stored (replacing 0 g src) 0 ((x + count) * p) l (back (x * p) (x * p + count * p) m n)
+unfolding replacing
+block_next {w = w} p g src x count same inside source target r is =
+    let room = mul_part x count w p inside in
+    stored_end
+    (part_next (replacing 0 g src) g src (x * p) (x * p) (count * p) (omega arith) (omega arith) r is
+    (λ c lt. sym (same c _)))
+    (sym (add-mul x count p))
+
+-- the bytes of a row from pixel x on
+pub row_from : (p kept : ℕ) (tables : ℕ → List ℕ) (x c b : ℕ)
+    → row_byte p kept tables (x * p + c) b ≡ row_byte p kept tables c b
+unfolding row_byte
+row_from p kept tables x c b = rw (mul-add-mod_self_right x p c)
+
+-- every byte of a row is stored
+pub row_done : {l m : List ℕ} {b : ℕ} (g : ℕ → ℕ → ℕ) (src : List ℕ) → Stored (replacing 0 g src) 0 b l m
+    → length l ≡ length src → length src ≤ b → m ≡ each g src
+unfolding replacing
+row_done g src r e h =
+    is_each 0 g src (omega arith)
+    (λ k lt. stored_inside r k 0 (omega arith) (omega arith) (omega arith))

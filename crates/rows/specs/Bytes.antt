@@ -27,10 +27,6 @@ toned kept tables channel x = cond (eqb channel kept) x (through (tables channel
 unfoldable pub row_byte : ℕ → ℕ → (ℕ → List ℕ) → ℕ → ℕ → ℕ
 row_byte p kept tables c x = toned kept tables (c % p) x
 
--- the same where no channel is kept and all have one table
-unfoldable pub plain_byte : List ℕ → ℕ → ℕ → ℕ
-plain_byte table c x = through table x
-
--- the same for the colours of the pixel that starts at place i
+-- the same for the toned channels of the pixel that starts at place i
 unfoldable pub pixel_byte : ℕ → (ℕ → List ℕ) → ℕ → ℕ → ℕ
 pixel_byte i tables c x = through (tables (c - i)) x

@@ -53,6 +53,10 @@ InPlace p kept = ((1 ≤ p) × (p ≤ kept)) ⊎ (((p ≡ 2) × (kept ≡ 1)) �
 abbrev pub Tight : ℕ → Type 0
 Tight p = (p ≡ 1) ⊎ ((p ≡ 3) ⊎ (p ≡ 4))
 
+-- pixels of p bytes of which the first ones are toned, and at most one byte after them is kept
+abbrev pub Pixels : ℕ → ℕ → Type 0
+Pixels p toned = (1 ≤ p) × ((toned ≤ p) × (p ≤ toned + 1))
+
 -- the channel that these keep: the last of 4, else none
 unfoldable pub tight_alpha : ℕ → ℕ
 tight_alpha p = cond (eqb p 4) 3 p

@@ -1,16 +1,43 @@
 // Rows of bytes through tables: within a plane, and out of a plane into tight rows. Nothing here
 // knows a format: a row is w pixels of p bytes, of which one channel may be kept. Only proved code
 // calls this: what it requires, its callers have checked.
-// Loops that are to be fast name the place by one counter and what is left by another. LLVM then
-// steps a pointer alone, and a store that needs no index register takes two thirds of the time.
 #![tactic(auto)]
 
-ghost use Rattle.std.specs.Prelude.{◌≡◌, ◌+◌, ◌-◌, ◌*◌, ◌%◌, ◌≤◌, ◌<◌, min, ◌++◌, length, drop};
+ghost use Rattle.std.specs.Prelude.{◌≡◌, ◌+◌, ◌-◌, ◌*◌, ◌%◌, ◌≤◌, ◌++◌, length, drop};
 ghost use Rattle.lists.specs.Each.{each};
 ghost use Rattle.lists.specs.Tabulate.{filled};
 ghost use Rattle.lists.specs.Replaced.{Replaced};
-ghost use Rattle.rows.specs.Bytes.{same, three, through, row_byte, plain_byte, pixel_byte};
-ghost use Rattle.rows.specs.Rows.{plane_byte, tight_byte, Rows, InPlace, Tight, tight_alpha};
+ghost use Rattle.rows.specs.Bytes.{same, through, row_byte, pixel_byte};
+ghost use Rattle.rows.specs.Lent.{by_channel, HasRows};
+ghost use Rattle.rows.specs.Rows.{plane_byte, tight_byte, InPlace, Tight, Pixels, tight_alpha};
+
+// The tables of the colours, lent.
+#[derive(Clone, Copy)]
+pub struct Tables<'a> {
+    pub red: &'a [u8; 256],
+    pub green: &'a [u8; 256],
+    pub blue: &'a [u8; 256],
+}
+
+impl<'a> Tables<'a> {
+    fn of(self, channel: usize) -> &'a [u8; 256]
+        ensures { result.now ≡ by_channel self.entry channel }
+    {
+        match channel {
+            0 => self.red,
+            1 => self.green,
+            _ => self.blue,
+        }
+    }
+}
+
+// How the rows of a plane lie: h rows of w pixels, each the row step after the one before.
+#[derive(Clone, Copy)]
+pub struct Grid {
+    pub w: usize,
+    pub h: usize,
+    pub step: usize,
+}
 
 // A byte through a table.
 fn look(table: &[u8; 256], x: u8) -> u8
@@ -19,131 +46,52 @@ fn look(table: &[u8; 256], x: u8) -> u8
     table[x as usize]
 }
 
-// Tones the byte at i.
-fn tone_one(s: &mut [u8], i: usize, table: &[u8; 256])
-    requires { i < length s.old }
-    ensures { Replaced 0 (plain_byte table.now) i (i + 1) s.old s.new }
+// Tones the first K bytes of the pixel that starts at i, each by its channel's table.
+fn tone_pixel<const K: usize>(s: &mut [u8], i: usize, tables: Tables)
+    requires { i + K ≤ length s.old }
+    ensures { Replaced 0 (pixel_byte i (by_channel tables.entry)) i (i + K) s.old s.new }
 {
-    s[i] = look(table, s[i]);
+    for c in 0..K {
+        s[i + c] = look(tables.of(c), s[i + c]);
+    }
 }
 
-// Tones the two bytes from i on.
-fn tone_two(s: &mut [u8], i: usize, table: &[u8; 256])
-    requires { i + 2 ≤ length s.old }
-    ensures { Replaced 0 (plain_byte table.now) i (i + 2) s.old s.new }
+// Tones the eight pixels from x on.
+fn tone_eight<const P: usize, const K: usize>(s: &mut [u8], x: usize, tables: Tables)
+    requires { Pixels P K × ((x + 8) * P ≤ length s.old) }
+    ensures { Replaced 0 (row_byte P K (by_channel tables.entry)) (x * P) ((x + 8) * P)
+        s.old s.new }
 {
-    tone_one(s, i, table);
-    tone_one(s, i + 1, table);
+    for k in 0..8 {
+        tone_pixel::<K>(s, (x + k) * P, tables);
+    }
 }
 
-// Tones the four bytes from i on.
-fn tone_four(s: &mut [u8], i: usize, table: &[u8; 256])
-    requires { i + 4 ≤ length s.old }
-    ensures { Replaced 0 (plain_byte table.now) i (i + 4) s.old s.new }
+// Tones as many whole eights of pixels as there are.
+// Stays: a `while` with a count of what is left. LLVM then steps a pointer alone, and a store needs
+// no index register. `for` over the eights takes 125 us for the 86 of this (Gray8, 128 rows of
+// 1,920); `chunks_exact_mut` is as fast, but its contract does not say what the slice ends as.
+fn tone_eights<const P: usize, const K: usize>(s: &mut [u8], w: usize, tables: Tables)
+    requires { Pixels P K × (length s.old ≡ w * P) }
+    ensures { Replaced 0 (row_byte P K (by_channel tables.entry)) 0 ((w - w % 8) * P) s.old s.new }
 {
-    tone_two(s, i, table);
-    tone_two(s, i + 2, table);
-}
-
-// Tones the eight bytes from i on.
-fn tone_eight(s: &mut [u8], i: usize, table: &[u8; 256])
-    requires { i + 8 ≤ length s.old }
-    ensures { Replaced 0 (plain_byte table.now) i (i + 8) s.old s.new }
-{
-    tone_four(s, i, table);
-    tone_four(s, i + 4, table);
-}
-
-// Tones as many whole eights as there are.
-fn tone_eights(s: &mut [u8], table: &[u8; 256])
-    ensures { Replaced 0 (plain_byte table.now) 0
-        (length s.old - length s.old % 8) s.old s.new }
-{
-    let mut i = 0;
-    let mut left = s.len();
+    let mut x = 0;
+    let mut left = w;
     while 8 <= left {
-        tone_eight(s, i, table);
-        i += 8;
+        tone_eight::<P, K>(s, x, tables);
+        x += 8;
         left -= 8;
     }
 }
 
-// Tones every byte.
-fn tone_bytes(s: &mut [u8], table: &[u8; 256])
-    ensures { s.new ≡ each (plain_byte table.now) s.old }
+// Tones w pixels of P bytes, of which the first K are toned and one after them may be kept.
+fn tone_pixels<const P: usize, const K: usize>(s: &mut [u8], w: usize, tables: Tables)
+    requires { Pixels P K × (length s.old ≡ w * P) }
+    ensures { s.new ≡ each (row_byte P K (by_channel tables.entry)) s.old }
 {
-    tone_eights(s, table);
-    let n = s.len();
-    let mut i = n - n % 8;
-    while i < n {
-        tone_one(s, i, table);
-        i += 1;
-    }
-}
-
-// Tones the first of every two bytes; the second, alpha, stays.
-fn tone_grey_alpha(s: &mut [u8], w: usize, table: &[u8; 256])
-    requires { length s.old ≡ w * 2 }
-    ensures { s.new ≡ each (row_byte 2 1 (same table.now)) s.old }
-{
-    let mut x = 0;
-    while x < w {
-        tone_one(s, x * 2, table);
-        x += 1;
-    }
-}
-
-// Tones the three colours of the pixel that starts at i.
-fn tone_pixel(s: &mut [u8], i: usize, red: &[u8; 256], green: &[u8; 256], blue: &[u8; 256])
-    requires { i + 3 ≤ length s.old }
-    ensures { Replaced 0 (pixel_byte i (three red.now green.now blue.now))
-        i (i + 3) s.old s.new }
-{
-    tone_one(s, i, red);
-    tone_one(s, i + 1, green);
-    tone_one(s, i + 2, blue);
-}
-
-// Tones pixels of three colours.
-fn tone_colours(s: &mut [u8], w: usize, red: &[u8; 256], green: &[u8; 256], blue: &[u8; 256])
-    requires { length s.old ≡ w * 3 }
-    ensures { s.new
-        ≡ each (row_byte 3 3 (three red.now green.now blue.now))
-        s.old }
-{
-    let mut x = 0;
-    while x < w {
-        tone_pixel(s, x * 3, red, green, blue);
-        x += 1;
-    }
-}
-
-// Tones as many pairs of pixels as there are, of three colours and alpha.
-fn tone_pairs(s: &mut [u8], w: usize, red: &[u8; 256], green: &[u8; 256], blue: &[u8; 256])
-    requires { length s.old ≡ w * 4 }
-    ensures { Replaced 0 (row_byte 4 3 (three red.now green.now blue.now))
-        0 ((w - w % 2) * 4) s.old s.new }
-{
-    let mut i = 0;
-    let mut left = w;
-    while 2 <= left {
-        tone_pixel(s, i, red, green, blue);
-        tone_pixel(s, i + 4, red, green, blue);
-        i += 8;
-        left -= 2;
-    }
-}
-
-// Tones pixels of three colours and alpha, which stays.
-fn tone_colours_alpha(s: &mut [u8], w: usize, red: &[u8; 256], green: &[u8; 256], blue: &[u8; 256])
-    requires { length s.old ≡ w * 4 }
-    ensures { s.new
-        ≡ each (row_byte 4 3 (three red.now green.now blue.now))
-        s.old }
-{
-    tone_pairs(s, w, red, green, blue);
-    if w % 2 == 1 {
-        tone_pixel(s, (w - 1) * 4, red, green, blue);
+    tone_eights::<P, K>(s, w, tables);
+    for x in w - w % 8..w {
+        tone_pixel::<K>(s, x * P, tables);
     }
 }
 
@@ -152,42 +100,36 @@ fn tone_row(s: &mut [u8], w: usize, p: usize, kept: usize, table: &[u8; 256])
     requires { InPlace p kept × (length s.old ≡ w * p) }
     ensures { s.new ≡ each (row_byte p kept (same table.now)) s.old }
 {
+    let tables = Tables {
+        red: table,
+        green: table,
+        blue: table,
+    };
     if p <= kept {
-        tone_bytes(s, table);
-        return;
-    }
-    if p == 2 {
-        tone_grey_alpha(s, w, table);
+        let n = s.len();
+        tone_pixels::<1, 1>(s, n, tables);
+    } else if p == 2 {
+        tone_pixels::<2, 1>(s, w, tables);
     } else {
-        tone_colours_alpha(s, w, table, table, table);
+        tone_pixels::<4, 3>(s, w, tables);
     }
 }
 
 // Tones each row of a plane in place by one table. Padding and the kept channel stay.
-pub fn tone_rows(
-    plane: &mut [u8],
-    step: usize,
-    w: usize,
-    h: usize,
-    p: usize,
-    kept: usize,
-    table: &[u8; 256],
-)
-    requires { InPlace p kept × Rows w h (w * p) step (length plane.old) }
+pub fn tone_rows(plane: &mut [u8], grid: Grid, p: usize, kept: usize, table: &[u8; 256])
+    requires { InPlace p kept × HasRows grid p (length plane.old) }
     ensures { plane.new
-        ≡ each (plane_byte (w * p) h step (row_byte p kept (same table.now)))
+        ≡ each (plane_byte (grid.w * p) grid.h grid.step (row_byte p kept (same table.now)))
         plane.old }
 {
-    if w == 0 {
+    if grid.w == 0 {
         return;
     }
-    let row = w * p;
-    let mut y = 0;
-    while y < h {
-        let at = y * step;
+    let row = grid.w * p;
+    for y in 0..grid.h {
+        let at = y * grid.step;
         let end = at + row;
-        tone_row(&mut plane[at..end], w, p, kept, table);
-        y += 1;
+        tone_row(&mut plane[at..end], grid.w, p, kept, table);
     }
 }
 
@@ -197,116 +139,90 @@ pub fn copy_bytes(src: &[u8], dst: &mut [u8])
     ensures { dst.new ≡ src.now ++ drop (length src.now) dst.old }
 {
     let n = src.len();
-    let mut i = 0;
-    while i < n {
+    dst[..n].copy_from_slice(src);
+}
+
+// Copies w pixels, and tones the copy.
+// Stays: a loop for the copy. `copy_from_slice` calls memcpy, which costs more in blocks of this
+// size: 2,820 us for the 2,670 of this (Rgb24, 1920 x 1080).
+fn tone_block_into<const P: usize, const K: usize>(
+    src: &[u8],
+    w: usize,
+    tables: Tables,
+    dst: &mut [u8],
+)
+    requires { Pixels P K × (length src.now ≡ w * P) × (length dst.old ≡ w * P) }
+    ensures { dst.new ≡ each (row_byte P K (by_channel tables.entry)) src.now }
+{
+    for i in 0..src.len() {
         dst[i] = src[i];
-        i += 1;
+    }
+    tone_pixels::<P, K>(dst, w, tables);
+}
+
+// Tones the row src into the row dst, in blocks of so few pixels that a copied block is still at
+// hand when it is toned.
+fn tone_row_into<const P: usize, const K: usize>(
+    src: &[u8],
+    w: usize,
+    tables: Tables,
+    dst: &mut [u8],
+)
+    requires { Pixels P K × (length src.now ≡ w * P) × (length dst.old ≡ w * P) }
+    ensures { dst.new ≡ each (row_byte P K (by_channel tables.entry)) src.now }
+{
+    for x in (0..w).step_by(128) {
+        let n = (w - x).min(128);
+        let at = x * P;
+        let end = at + n * P;
+        tone_block_into::<P, K>(&src[at..end], n, tables, &mut dst[at..end]);
     }
 }
 
-// Copies w pixels, and tones the copy by colour, or by the red table where a pixel is one byte.
-fn tone_block_into(
-    src: &[u8],
-    w: usize,
-    p: usize,
-    red: &[u8; 256],
-    green: &[u8; 256],
-    blue: &[u8; 256],
+// The same of each row of a plane, into tight rows at the front of dst.
+fn tone_plane_into<const P: usize, const K: usize>(
+    plane: &[u8],
+    grid: Grid,
+    tables: Tables,
     dst: &mut [u8],
 )
-    requires { Tight p × (length src.now ≡ w * p) × (length dst.old ≡ w * p) }
+    requires { Pixels P K × HasRows grid P (length plane.now)
+        × (grid.h * (grid.w * P) ≤ length dst.old) }
     ensures { dst.new
-        ≡ each (row_byte p (tight_alpha p)
-        (three red.now green.now blue.now))
-        src.now }
+        ≡ filled (grid.h * (grid.w * P))
+        (tight_byte (grid.w * P) grid.step (row_byte P K (by_channel tables.entry)) plane.now)
+        dst.old }
 {
-    copy_bytes(src, dst);
-    if p == 1 {
-        tone_bytes(dst, red);
+    if grid.w == 0 {
         return;
     }
-    if p == 3 {
-        tone_colours(dst, w, red, green, blue);
-    } else {
-        tone_colours_alpha(dst, w, red, green, blue);
-    }
-}
-
-// How many of the n pixels left make the next block: few enough that a copied block is still
-// at hand when it is toned.
-fn block_size(n: usize) -> usize
-    ensures { result ≡ min n 128 }
-{
-    if n < 128 { n } else { 128 }
-}
-
-// Tones the row src into the row dst, block by block.
-fn tone_row_into(
-    src: &[u8],
-    w: usize,
-    p: usize,
-    red: &[u8; 256],
-    green: &[u8; 256],
-    blue: &[u8; 256],
-    dst: &mut [u8],
-)
-    requires { Tight p × (length src.now ≡ w * p) × (length dst.old ≡ w * p) }
-    ensures { dst.new
-        ≡ each (row_byte p (tight_alpha p)
-        (three red.now green.now blue.now))
-        src.now }
-{
-    let mut x = 0;
-    while x < w {
-        let n = block_size(w - x);
-        let at = x * p;
-        let end = at + n * p;
-        tone_block_into(&src[at..end], n, p, red, green, blue, &mut dst[at..end]);
-        x += n;
+    let row = grid.w * P;
+    for y in 0..grid.h {
+        let from = y * grid.step;
+        let to = y * row;
+        tone_row_into::<P, K>(
+            &plane[from..from + row],
+            grid.w,
+            tables,
+            &mut dst[to..to + row],
+        );
     }
 }
 
 // Tones each row of a plane into tight rows at the front of dst, by colour, or by the red table
 // where a pixel is one byte.
-pub fn tone_rows_into(
-    plane: &[u8],
-    step: usize,
-    w: usize,
-    h: usize,
-    p: usize,
-    red: &[u8; 256],
-    green: &[u8; 256],
-    blue: &[u8; 256],
-    dst: &mut [u8],
-)
-    requires { Tight p × Rows w h (w * p) step (length plane.now) × (h * (w * p) ≤ length dst.old) }
+pub fn tone_rows_into(plane: &[u8], grid: Grid, p: usize, tables: Tables, dst: &mut [u8])
+    requires { Tight p × HasRows grid p (length plane.now)
+        × (grid.h * (grid.w * p) ≤ length dst.old) }
     ensures { dst.new
-        ≡ filled (h * (w * p))
-        (tight_byte (w * p) step
-        (row_byte p (tight_alpha p)
-        (three red.now green.now blue.now))
-        plane.now)
+        ≡ filled (grid.h * (grid.w * p))
+        (tight_byte (grid.w * p) grid.step
+        (row_byte p (tight_alpha p) (by_channel tables.entry)) plane.now)
         dst.old }
 {
-    if w == 0 {
-        return;
-    }
-    let row = w * p;
-    let mut y = 0;
-    while y < h {
-        let from = y * step;
-        let from_end = from + row;
-        let to = y * row;
-        let to_end = to + row;
-        tone_row_into(
-            &plane[from..from_end],
-            w,
-            p,
-            red,
-            green,
-            blue,
-            &mut dst[to..to_end],
-        );
-        y += 1;
+    match p {
+        1 => tone_plane_into::<1, 1>(plane, grid, tables, dst),
+        3 => tone_plane_into::<3, 3>(plane, grid, tables, dst),
+        _ => tone_plane_into::<4, 3>(plane, grid, tables, dst),
     }
 }

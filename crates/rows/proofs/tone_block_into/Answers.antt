@@ -1,36 +1,18 @@
 -- `rows::tone_block_into` meets its contract: the copy is the original, and then it is toned.
-use Rattle.std.proofs.Common.{arith, ◌∙◌}
-use native.Mathlib.Nat.{mod-one}
-use Rattle.rows.specs.Rows.{tight_alpha}
-use Rattle.rows.proofs.Walk.{plain_row, copied_each, four}
+use Rattle.std.proofs.Common.{arith, refl}
+use Rattle.lists.specs.Stored.{stored_none, stored_next}
+use Rattle.lists.specs.Copied.{element_of, stored_copy}
+use Rattle.rows.proofs.Walk.{copied_each}
 use Rattle.rows.proofs.tone_block_into.Goals as goal
 
-pub returns-then-p-eq1 : goal.returns-then-p-eq1
-unfolding tight_alpha
-returns-then-p-eq1 c =
-    rw c.if-p-eq1.true
-    (copied_each _ _ _ (omega arith) c.copy_bytes.ensures c.tone_bytes.ensures
-    ∙ plain_row 1 1 _ _ _ (omega arith) (omega arith) (λ x. rw (mod-one x)))
+pub loop-i-init : goal.loop-i-init
+loop-i-init g c = stored_none
 
-pub tone_colours-requires : goal.tone_colours-requires
-tone_colours-requires c =
-    let size = rw c.if-p-eq3.true at c.requires.2 in
-    omega arith
+pub loop-i-preserved : goal.loop-i-preserved
+unfolding element_of
+loop-i-preserved g c = stored_next c.loop-i.invariant refl
 
-pub tone_colours_alpha-requires : goal.tone_colours_alpha-requires
-tone_colours_alpha-requires c =
-    let size = rw (four c.requires.0 c.if-p-eq1.false c.if-p-eq3.false) at c.requires.2 in
-    omega arith
-
-pub returns-then-p-eq3 : goal.returns-then-p-eq3
-unfolding tight_alpha
-returns-then-p-eq3 c =
-    rw c.if-p-eq3.true
-    (copied_each _ _ _ (omega arith) c.copy_bytes.ensures
-    c.tone_colours.ensures)
-
-pub returns-else-p-eq3 : goal.returns-else-p-eq3
-unfolding tight_alpha
-returns-else-p-eq3 c =
-    rw (four c.requires.0 c.if-p-eq1.false c.if-p-eq3.false)
-    (copied_each _ _ _ (omega arith) c.copy_bytes.ensures c.tone_colours_alpha.ensures)
+pub returns : goal.returns
+returns g c =
+    copied_each _ c.args.src.now c.args.dst.now (omega arith)
+    (stored_copy 0 _ c.loop-i.invariant (omega arith) (omega arith)) c.tone_pixels.ensures

@@ -1,17 +1,15 @@
--- `rows::tone_pixel` meets its contract: one colour after another.
-use Rattle.std.proofs.Common.{arith, refl}
-use Rattle.lists.specs.Replaced.{replaced_then, replaced_end}
-use Rattle.rows.specs.Bytes.{three}
-use Rattle.rows.proofs.Walk.{pixel_byte_lem}
+-- `rows::tone_pixel` meets its contract: one channel after another.
+use Rattle.std.proofs.Common.{arith, ◌∙◌, sym}
+use Rattle.lists.specs.Replaced.{replaced_none, replaced_next, replaced_end}
+use Rattle.rows.proofs.Walk.{pixel_channel}
 use Rattle.rows.proofs.tone_pixel.Goals as goal
 
-pub returns : goal.returns
-returns c =
-    let given = c.args in
-    let tables = three given.red.now given.green.now given.blue.now in
-    let two =
-    replaced_then (pixel_byte_lem _ 0 tables (omega arith) c.tone_one.ensures)
-    (pixel_byte_lem _ 1 tables refl c.tone_one-2.ensures) in
+pub loop-c-init : goal.loop-c-init
+loop-c-init g c = replaced_end replaced_none (omega arith)
+
+pub loop-c-preserved : goal.loop-c-preserved
+loop-c-preserved g c =
+    let looked = rw c.of.ensures at c.look.ensures in
     replaced_end
-    (replaced_then (replaced_end two (omega arith)) (pixel_byte_lem _ 2 tables refl c.tone_one-3.ensures))
+    (replaced_next c.loop-c.invariant (looked ∙ sym (pixel_channel c.args.i c.loop-c.c _ _)))
     (omega arith)

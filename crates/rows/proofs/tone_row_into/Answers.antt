@@ -1,36 +1,40 @@
 -- `rows::tone_row_into` meets its contract: block after block.
-use Rattle.std.proofs.Common.{arith, sym, ◌+◌, ◌*◌, ◌≤◌, add-mul}
-use Rattle.std.proofs.Math.Nat.{mul-add-mod_self_right}
-use Rattle.lists.specs.Each.{is_each}
-use Rattle.lists.specs.Replaced.{replacing}
-use Rattle.lists.specs.Stored.{stored_none, stored_end, stored_inside}
-use Rattle.rows.specs.Bytes.{row_byte}
-use Rattle.rows.specs.Places.{mul_part, mul_last}
-use Rattle.rows.proofs.Walk.{part_next}
+use Rattle.std.proofs.Common.{◌≡◌, ℕ, arith, ap, sym, ◌*◌, min, zero-mul, mul-le-mul_right}
+use Rattle.lists.specs.Stored.{stored_none, stored_end}
+use Rattle.rows.specs.Places.{mul_part}
+use Rattle.rows.proofs.Walk.{block_next, row_from, row_done}
 use Rattle.rows.proofs.tone_row_into.Goals as goal
 
 pub loop-x-init : goal.loop-x-init
-loop-x-init c = (omega arith, stored_end stored_none (omega arith))
+loop-x-init g c =
+    let none : min 0 c.args.w ≡ 0 = omega arith in
+    stored_end stored_none (rw none (sym (zero-mul _)))
 
--- the block lies in its row, so its bounds fit too
+pub slice_bounds-tone_block_into-end : goal.slice_bounds-tone_block_into-end
+slice_bounds-tone_block_into-end g c =
+    omega (arith, mul_part c.loop-x.x c.min-n.result c.args.w g.row.P (omega arith))
+
 pub loop-x-preserved : goal.loop-x-preserved
-unfolding replacing row_byte
-loop-x-preserved c =
-    let given = c.args in
-    let x = c.loop-x.x in
-    let n = c.block_size-n.result in
-    let inside : x * given.p + n * given.p ≤ given.w * given.p = mul_part x n given.w given.p (omega arith) in (
-      omega arith,
-      stored_end
-          (part_next _ _ _ _ _ _ (omega arith) (omega arith) c.loop-x.invariant.1 c.tone_block_into.ensures
-          (λ c lt. rw (mul-add-mod_self_right _ _ c)))
-          (sym (add-mul _ _ _)),
-    )
+loop-x-preserved g c =
+    let pixels = λ (n : ℕ). n * g.row.P in
+    stored_end
+    (block_next {w = c.args.w} g.row.P _ _ c.loop-x.x c.min-n.result (row_from _ _ _ _)
+    (omega arith) (omega arith) (omega arith)
+    (stored_end c.loop-x.invariant (ap pixels (omega arith))) c.tone_block_into.ensures)
+    (ap pixels (omega arith))
 
 pub returns : goal.returns
-unfolding replacing
-returns c =
-    let given = c.args in
-    let all = mul_last c.loop-x.x given.w given.p (omega arith) (omega arith) in
-    is_each 0 _ _ (omega arith)
-    (λ k lt. stored_inside c.loop-x.invariant.1 k 0 (omega arith) (omega arith) (omega arith))
+returns g c =
+    row_done _ _ c.loop-x.invariant (omega arith)
+    (omega (arith, mul-le-mul_right {m = c.args.w} {n = min c.loop-x.x c.args.w} g.row.P (omega arith)))
+
+pub returns-2 : goal.returns-2
+returns-2 g c =
+    let pixels = λ (n : ℕ). n * g.row.P in
+    row_done _ _
+    (stored_end
+    (block_next {w = c.args.w} g.row.P _ _ c.loop-x.x c.min-n.result (row_from _ _ _ _)
+    (omega arith) (omega arith) (omega arith)
+    (stored_end c.loop-x.invariant (ap pixels (omega arith))) c.tone_block_into.ensures)
+    (ap pixels {y = c.args.w} (omega arith)))
+    (omega arith) (omega arith)

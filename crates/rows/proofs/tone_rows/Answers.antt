@@ -1,5 +1,5 @@
 -- `rows::tone_rows` meets its contract: row after row, each with the padding behind it.
-use Rattle.std.proofs.Common.{arith, ◌*◌, zero-mul}
+use Rattle.std.proofs.Common.{arith, refl, ◌*◌, zero-mul}
 use Rattle.lists.specs.Replaced.{replaced_none, replaced_end}
 use Rattle.rows.specs.Bytes.{same, row_byte}
 use Rattle.rows.specs.Places.{mul_last, mul_bound}
@@ -7,41 +7,44 @@ use Rattle.rows.specs.Laws.{rows_inside, below_rows, no_columns_lem}
 use Rattle.rows.proofs.Walk.{plane_next, plane_done, some_bytes}
 use Rattle.rows.proofs.tone_rows.Goals as goal
 
-pub returns-then-w-eq0 : goal.returns-then-w-eq0
-returns-then-w-eq0 c =
-    plane_done _ _ _ _ replaced_none (λ k low. no_columns_lem _ _ _ k (rw c.if-w-eq0.true (zero-mul _)))
+pub returns-then-grid-eq0 : goal.returns-then-grid-eq0
+returns-then-grid-eq0 c =
+    plane_done _ _ _ _ replaced_none
+    (λ k low. no_columns_lem _ _ _ k (rw c.if-grid-eq0.true (zero-mul _)))
 
 pub loop-y-init : goal.loop-y-init
-loop-y-init c = (omega arith, omega arith, replaced_end replaced_none (omega arith))
+loop-y-init c = (refl, replaced_end replaced_none (omega arith))
 
 -- the row lies in the plane, so its bounds fit too
-pub overflow_mul-at : goal.overflow_mul-at
-overflow_mul-at c = omega (arith, rows_inside c.loop-y.y c.requires.1 c.if-w-eq0.false c.loop-y-test.true)
-
-pub overflow_add-end : goal.overflow_add-end
-overflow_add-end c = omega (arith, rows_inside c.loop-y.y c.requires.1 c.if-w-eq0.false c.loop-y-test.true)
-
 pub slice_bounds-tone_row-end : goal.slice_bounds-tone_row-end
 slice_bounds-tone_row-end c =
-    omega (arith, rows_inside c.loop-y.y c.requires.1 c.if-w-eq0.false c.loop-y-test.true)
+    omega (arith, rows_inside c.loop-y.y c.requires.1 c.if-grid-eq0.false c.loop-y-test.true)
+
+pub overflow_mul-at : goal.overflow_mul-at
+overflow_mul-at c =
+    omega (arith, rows_inside c.loop-y.y c.requires.1 c.if-grid-eq0.false c.loop-y-test.true)
+
+pub overflow_add-end : goal.overflow_add-end
+overflow_add-end c =
+    omega (arith, rows_inside c.loop-y.y c.requires.1 c.if-grid-eq0.false c.loop-y-test.true)
 
 pub loop-y-preserved : goal.loop-y-preserved
 loop-y-preserved c =
     let given = c.args in
     let rule = row_byte given.p given.kept (same given.table.now) in
-    let inside = rows_inside c.loop-y.y c.requires.1 c.if-w-eq0.false c.loop-y-test.true in
     let below = c.loop-y-test.true in
-    let before = c.loop-y.invariant.2 in (
+    let inside = rows_inside c.loop-y.y c.requires.1 c.if-grid-eq0.false below in
+    let before = c.loop-y.invariant.1 in (
       omega arith,
-      omega arith,
-      plane_next (given.w * given.p) given.h given.step rule c.loop-y.y c.requires.1.stepped below
-          (omega (arith, inside)) before c.tone_row.ensures,
+      plane_next (given.grid.w * given.p) given.grid.h given.grid.step rule c.loop-y.y
+          c.requires.1.stepped below (omega (arith, inside)) before c.tone_row.ensures,
     )
 
 pub returns : goal.returns
 returns c =
     let given = c.args in
-    let some = mul_bound 1 1 given.w given.p (omega arith) (some_bytes c.requires.0) in
+    let some = mul_bound 1 1 given.grid.w given.p (omega arith) (some_bytes c.requires.0) in
     plane_done _ _ _ _
-    (replaced_end c.loop-y.invariant.2 (mul_last c.loop-y.y given.h _ (omega arith) (omega arith)))
+    (replaced_end c.loop-y.invariant.1
+    (mul_last c.loop-y.y given.grid.h _ (omega arith) (omega arith)))
     (λ k low. below_rows _ _ _ k (omega arith) low)
