@@ -1,5 +1,5 @@
 -- `tables::knot_values`: each kind its rule.
-use Rattle.std.proofs.Common.{◌≡◌, refl, sym, ap, ◌∙◌, List, ℕ, ◌≤◌, arith, Float, length, replicate, rules}
+use Rattle.std.proofs.Common.{◌≡◌, refl, sym, ap, ◌∙◌, List, ℕ, ◌≤◌, arith, Float, replicate, rules}
 use lib.ListN.{get_or-replicate}
 use Rattle.lists.specs.Tabulate.{filled}
 use Rattle.lists.specs.Stored.{Stored, stored_none, stored_kept, stored_front}

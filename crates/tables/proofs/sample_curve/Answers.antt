@@ -1,13 +1,9 @@
 -- `tables::sample_curve`: the knots of a list are from 2 to 66, so `fill` has its rows.
-use Rattle.std.proofs.Common.{◌≡◌, refl, List, ℕ, ◌≤◌, arith, length, take, length-take, Float}
+use Rattle.std.proofs.Common.{◌≡◌, List, ℕ, Float}
 use Rattle.lists.specs.Tabulate.{tabulate}
 use Rattle.points.specs.declared.Point.{Point}
 use Rattle.points.specs.declared.knot_rows.Knots.{Knots}
-use Rattle.points.specs.Points.{joined, kept}
 use Rattle.points.specs.Knots.{given_knots, KnotsOf}
-use Rattle.points.specs.Joined.{joined_length}
-use Rattle.points.specs.Kept.{kept_length}
-use Rattle.points.specs.Shape.{knots_two, knots_length}
 use Rattle.tables.specs.declared.CurveInterpolation.{CurveInterpolation}
 use Rattle.sampling.specs.declared.Form.{Form}
 use Rattle.tables.specs.Kinds.{form_of, knot_value_row}
@@ -23,9 +19,6 @@ table : (l : List Point) {k : Knots} → KnotsOf (given_knots l) k → (kind : C
     → new ≡ fine_table kind l S
 unfolding sample_of unclamped_at
 table l rows kind S f m e = rw (f, m, rows.xs, rows.ys, rows.count) at e
-
-pub fill-requires : goal.fill-requires
-fill-requires c = record { knots = (omega arith, omega arith); counts = c.requires.counts }
 
 pub returns : goal.returns
 returns c =
