@@ -1,7 +1,7 @@
 -- Reading what the writer wrote gives the same set back, for every set that the writer takes, and
 -- so with whole heights, and every buffer with room.
-use Rattle.std.specs.Prelude.{ℕ, ◌≡◌, refl, List, [], ◌∷◌, ◌++◌, length, take, drop}
-use Rattle.std.proofs.Common.{arith, sym, ◌∙◌}
+use Rattle.std.specs.Prelude.{ℕ, ◌≡◌, refl, List, [], ◌∷◌, ◌++◌, length, take, drop, Result, Ok}
+use Rattle.std.proofs.Common.{arith}
 use Rattle.std.proofs.Math.Option.{Option, none, some}
 use Rattle.std.proofs.Math.Seq.{take-append_seam}
 use Rattle.points.specs.declared.Point.{Point}
@@ -14,15 +14,15 @@ use Rattle.records.specs.Parse.{good}
 use Rattle.records.specs.PointLists.{read_field}
 use Rattle.records.specs.Format.{read_fields, read_record}
 use Rattle.writing.specs.Encode.{field_bytes, master_field, kind_bytes, carried_bytes, there, encode, write_record}
-use Rattle.writing.specs.Cases.{write_done, done_case}
+use Rattle.writing.specs.Cases.{write_done, done_case, run_done, run_length, run_held}
 use Rattle.writing.specs.Map.{map_back}
 use Rattle.sets.specs.Same.{Same}
 use Rattle.sets.specs.SameLaws.{view_same}
 use Rattle.records.specs.declared.RecordRead.{RecordRead}
 use Rattle.records.specs.Views.{ReadRecordCall}
-use Rattle.writing.specs.declared.Written.{Written}
 use Rattle.writing.specs.Statements.{WriteRecordCall}
 use Rattle.record_facts.specs.RoundTrip.{list_or, list_back, colour_back, kind_back, regroup}
+use Rattle.answers.specs.declared.Refusal.{Refusal}
 use Rattle.answers.specs.Numbers.{done}
 
 -- ---- a field
@@ -78,17 +78,18 @@ written_back s buffer legal done =
     (round_trip (view_of s) (legal_view Whole s d.0) legal)
 
 -- ---- a run of each
-module _ {set : Curves} {before after : List ℕ} {w : Written} {r : RecordRead} where
-  -- "reading what the writer wrote gives the same set back": of a run that answers done, the bytes
-  -- up to its length are read as the same set
-  pub written_then_read : WriteRecordCall set before w after → w.answer ≡ done
-      → ReadRecordCall (take w.length after) r
+module _ {set : Curves} {before after : List ℕ} {w : Result ℕ Refusal} {n : ℕ} {r : RecordRead} where
+  -- "reading what the writer wrote gives the same set back": of a run that answers a length, the bytes
+  -- up to it are read as the same set
+  pub written_then_read : WriteRecordCall set before w after → w ≡ Ok n
+      → ReadRecordCall (take n after) r
       → (r.answer ≡ done) × Same r.set set
   written_then_read wrote done handed =
-      let written = sym wrote.answer ∙ done in
-      let back = written_back set before (wrote.held done).kind written in
-      let h = rw (wrote.length, wrote.buffer, back) at handed in (
+      let written = run_done wrote done in
+      let held = run_held wrote done in
+      let back = written_back set before held.kind written in
+      let h = rw (run_length wrote done, wrote.buffer, back) at handed in (
         h.answer,
-        view_same Whole r.set set h.full (wrote.held done).full h.legal
+        view_same Whole r.set set h.full held.full h.legal
             (done_case set before written).0 h.set,
       )

@@ -9,8 +9,9 @@ use Rattle.std.proofs.Math.ListN.{get_or-eq_default, get_or-append}
 use Rattle.std.specs.Int.Signed.{mag}
 use Rattle.std.proofs.lemmas.Bool.{not-false}
 use Rattle.lists.specs.Test.{by_test}
+use Rattle.answers.specs.declared.Refusal.{Refusal}
 use Rattle.answers.specs.declared.Refusal.TheVariants.{RecordTruncated, UnknownKind}
-use Rattle.answers.specs.Numbers.{is_done, Answer, done}
+use Rattle.answers.specs.Numbers.{is_done, done}
 use Rattle.answers.proofs.NumberLaws.{done_is}
 use Rattle.points.specs.declared.Point.{Point}
 use Rattle.points.specs.Points.{limit, rises, rises_from}
@@ -92,13 +93,13 @@ bytes_rest a s b = bytes_behind (a ∷ []) s b
 -- at the front of s it finds a value v with the bytes c, of which P holds, or it refuses
 data Spelled {A : Type 0} (P : A → List ℕ → Type 0) (s : List ℕ) : Parse A → Type 0 where
   found : (v : A) (c t : List ℕ) → P v c → s ≡ c ++ t → Spelled P s (good v t)
-  none_found : (a : Answer) → is_done a ≡ false → Spelled P s (refused a)
+  none_found : (r : Refusal) → Spelled P s (refused r)
 
 -- what is found behind the bytes c
 behind : {A : Type 0} {P Q : A → List ℕ → Type 0} {s t : List ℕ} {p : Parse A} (c : List ℕ)
     → s ≡ c ++ t → ((v : A) (d : List ℕ) → P v d → Q v (c ++ d)) → Spelled P t p → Spelled Q s p
 behind c e f (found v d u h w) = found v (c ++ d) u (f v d h) (rw (e, w) (simp append_assoc))
-behind c e f (none_found a h) = none_found a h
+behind c e f (none_found r) = none_found r
 
 -- of two readings, whichever it is
 pub either : {A : Type 0} (F : Parse A → Type 0) (b : Bool) (p q : Parse A) → (b ≡ true → F p)
@@ -138,7 +139,7 @@ ListOf least l c = StoredList l × (least ≤ length l) × (c ≡ field_bytes (s
 
 list_spelled : (least : ℕ) (s : List ℕ) → Spelled (ListOf least) s (read_list least s)
 unfolding read_list read_points
-list_spelled least [] = none_found RecordTruncated refl
+list_spelled least [] = none_found RecordTruncated
 list_spelled least (n ∷ s) =
     let l = pairs One n s in
     let long = pairs_length n s in
@@ -211,7 +212,7 @@ module _ (k : ℕ) (known : ltb last_kind k ≡ false) where
 
   tension_spelled : carries_tension k ≡ true → (s : List ℕ) → Spelled Carries s (read_tension k s)
   unfolding read_tension
-  tension_spelled t [] = none_found RecordTruncated refl
+  tension_spelled t [] = none_found RecordTruncated
   tension_spelled t (q ∷ s) =
       let c = a_tension q in
       let bytes : carried_bytes (kind_with k c) ≡ q ∷ [] = rw (number c, t, carried_back k c, t) in
@@ -227,10 +228,10 @@ module _ (k : ℕ) (known : ltb last_kind k ≡ false) where
   slopes_spelled : carries_tension k ≡ false → carries_slopes k ≡ true → (s : List ℕ)
       → Spelled Carries s (read_slopes k s)
   unfolding read_slopes
-  slopes_spelled t u [] = none_found RecordTruncated refl
-  slopes_spelled t u (a ∷ []) = none_found RecordTruncated refl
-  slopes_spelled t u (a ∷ b ∷ []) = none_found RecordTruncated refl
-  slopes_spelled t u (a ∷ b ∷ c ∷ []) = none_found RecordTruncated refl
+  slopes_spelled t u [] = none_found RecordTruncated
+  slopes_spelled t u (a ∷ []) = none_found RecordTruncated
+  slopes_spelled t u (a ∷ b ∷ []) = none_found RecordTruncated
+  slopes_spelled t u (a ∷ b ∷ c ∷ []) = none_found RecordTruncated
   slopes_spelled t u (a ∷ b ∷ c ∷ d ∷ s) =
       let v = two_slopes (stored_slope a b) (stored_slope c d) in
       let bytes : carried_bytes (kind_with k v) ≡ slope_bytes v.start ++ slope_bytes v.end =
@@ -306,9 +307,9 @@ kind_spelled false m s =
     let unnamed = unnamed_kind (bit 128 m) in
     let known = le-ltb last_kind (kind_number unnamed) (number_known unnamed) in
     agreed_spelled false m (kind_number unnamed) known (λ e. refl) s
-kind_spelled true m [] = none_found RecordTruncated refl
+kind_spelled true m [] = none_found RecordTruncated
 kind_spelled true m (k ∷ s) =
-    by_test (ltb last_kind k) (λ above. rw above (none_found UnknownKind refl))
+    by_test (ltb last_kind k) (λ above. rw above (none_found UnknownKind))
     (λ known. rw known (agreed_spelled true m k known (λ e. absurd (true≢false e)) s))
 
 -- ---- the set
@@ -328,7 +329,7 @@ as_spelled : {A B : Type 0} {P : A → List ℕ → Type 0} {Q : B → List ℕ 
     {p : Parse A} (g : A → B) → ((x : A) (c : List ℕ) → P x c → Q (g x) c) → Spelled P s p
     → Spelled Q s (p ▷ λ x t. good (g x) t)
 as_spelled g k (found x c t h e) = found (g x) c t (k x c h) e
-as_spelled g k (none_found a h) = none_found a h
+as_spelled g k (none_found r) = none_found r
 
 -- and put into the set: what P says of the other members holds still
 module _ {A : Type 0} {P Q : View → List ℕ → Type 0} {R : A → List ℕ → Type 0}
@@ -345,7 +346,7 @@ module _ {A : Type 0} {P Q : View → List ℕ → Type 0} {R : A → List ℕ �
         let k = keeps x v c d h g in
         record { front = c; back = d; first = k.0; second = k.1; whole = refl })
         (r t))
-    then_spelled (none_found a h) r = none_found a h
+    then_spelled (none_found r) read = none_found r
 
 -- the fields in their order, as the map m marks them
 pub record Lists (m : ℕ) (v : View) (c : List ℕ) : Type 0 where
@@ -432,7 +433,7 @@ end_found : {P : View → List ℕ → Type 0} {s : List ℕ} {p : Parse View} �
     → (read_result (p ▷ end_step)).answer ≡ done → P (read_result (p ▷ end_step)).set s
 end_found (found v c [] h w) e = rw (w ∙ append-nil c) h
 end_found (found v c (b ∷ t) h w) e = absurd (true≢false (ap is_done (sym e)))
-end_found (none_found a h) e = absurd (true≢false (ap is_done (sym e) ∙ h))
+end_found (none_found r) e = absurd (true≢false (ap is_done (sym e)))
 
 pub accepted : (m : ℕ) (s : List ℕ) → (read_record (m ∷ s)).answer ≡ done
     → Fields m (read_record (m ∷ s)).set s

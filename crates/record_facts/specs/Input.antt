@@ -2,8 +2,7 @@
 -- that of the whole input.
 use Rattle.std.specs.Prelude.{ℕ, ◌≡◌, List, length, take}
 use Rattle.std.proofs.Common.{ap, ◌∙◌, lit<}
-use Rattle.text.specs.declared.Text.{Text}
-use Rattle.text.specs.Text.{printed, text_of, input_bytes, InputText}
+use Rattle.text.specs.Text.{printed, Text, text_of, input_bytes, InputText}
 use Rattle.record_facts.specs.Longest.{front_tells}
 
 pub input_tells : (s : List ℕ) → printed (take input_bytes s) ≡ printed s

@@ -4,8 +4,9 @@ use Rattle.std.specs.Prelude.{◌≡◌, refl, Bool, true, false, List, [], ◌�
 use Rattle.std.proofs.Common.{ap, arith, length-take, take_all, get_or-take, le-ltb, ltb-true, ltb-false}
 use Rattle.std.proofs.Math.Seq.{take-nil}
 use Rattle.lists.specs.Test.{by_test}
+use Rattle.answers.specs.declared.Refusal.{Refusal}
 use Rattle.answers.specs.declared.Refusal.TheVariants.{RecordTruncated, PointCount, TrailingBytes}
-use Rattle.answers.specs.Checks.{Check, ◌when◌, refuses}
+use Rattle.answers.specs.Checks.{Check, ◌when◌}
 use Rattle.points.specs.declared.Point.{Point}
 use Rattle.points.specs.Points.{limit}
 use Rattle.tables.specs.declared.CurveInterpolation.{CurveInterpolation}
@@ -38,13 +39,12 @@ use Rattle.records.specs.Format.{
   read_result,
   read_record,
 }
-use Rattle.answers.specs.Numbers.{Answer}
 
 -- what is read of an input, and of its front: the same refusal, or the same value with a front left
 -- of at least n bytes, if there are so many
 data Fronts {A : Type 0} (n : ℕ) : Parse A → Parse A → Type 0 where
   read : (v : A) (s : List ℕ) (m : ℕ) → n ≤ m → Fronts n (good v s) (good v (take m s))
-  none_read : (a : Answer) → Fronts n (refused a) (refused a)
+  none_read : (r : Refusal) → Fronts n (refused r) (refused r)
 
 -- a reading takes at most so many bytes
 abbrev Takes : {A : Type 0} → ℕ → (List ℕ → Parse A) → Type 0
@@ -54,13 +54,13 @@ then_fronts : {A B : Type 0} {n k : ℕ} {p q : Parse A} {f : A → List ℕ →
     → ((v : A) (s : List ℕ) (m : ℕ) → n ≤ m → Fronts k (f v s) (f v (take m s)))
     → Fronts k (p ▷ f) (q ▷ f)
 then_fronts (read v s m h) rest = rest v s m h
-then_fronts (none_read a) rest = none_read a
+then_fronts (none_read r) rest = none_read r
 
 checked_fronts : {A : Type 0} {n : ℕ} {p q : Parse A} (cs : List Check) → Fronts n p q
     → Fronts n (checked cs p) (checked cs q)
 checked_fronts [] h = h
 checked_fronts (c ∷ cs) h =
-    by_test (refuses c) (λ t. rw t (none_read c.answer)) (λ t. rw t (checked_fronts cs h))
+    by_test (c.fails) (λ t. rw t (none_read c.refusal)) (λ t. rw t (checked_fronts cs h))
 
 drop_take : (k m : ℕ) (s : List ℕ) → drop k (take m s) ≡ take (m - k) (drop k s)
 drop_take zero m s = let e : m - 0 ≡ m = omega arith in rw e
@@ -185,7 +185,7 @@ fields_fronts unnamed map s m h =
 
 same_result : {n : ℕ} {p q : Parse View} → Fronts n p q → read_result q ≡ read_result p
 same_result (read v s m h) = refl
-same_result (none_read a) = refl
+same_result (none_read r) = refl
 
 -- an input longer than any record is read as its front
 pub front_tells : (s : List ℕ) (m : ℕ) → longest < m → read_record (take m s) ≡ read_record s

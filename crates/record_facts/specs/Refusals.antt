@@ -1,9 +1,9 @@
 -- What the refusals of a list of checks have in common, the first of them has too: so which numbers
 -- a call never answers is read off its checks.
-use Rattle.std.specs.Prelude.{ℕ, ◌≡◌, refl, Bool, true, false, cond, List, [], ◌∷◌, ◌++◌, eqb}
+use Rattle.std.specs.Prelude.{ℕ, ◌≡◌, refl, Bool, true, false, cond, List, [], ◌∷◌, ◌++◌, eqb, Err}
 use Rattle.lists.specs.Test.{by_test}
 use Rattle.answers.specs.Numbers.{number_of, Answer, done}
-use Rattle.answers.specs.Checks.{Check, refuses, first_refusal}
+use Rattle.answers.specs.Checks.{Check, first_refusal}
 use Rattle.points.specs.declared.Curve.{Curve}
 use Rattle.sets.specs.declared.Curves.{Curves}
 use Rattle.sets.specs.Sets.{channel_checks, set_checks}
@@ -16,11 +16,11 @@ Never n a = eqb (number_of a) n ≡ false
 infixr 20 ◌and◌ ◌also◌
 pub data Refusals (P : Answer → Type 0) : List Check → Type 0 where
   no_more : Refusals P []
-  ◌and◌ : {c : Check} {cs : List Check} → (refuses c ≡ true → P c.answer) → Refusals P cs
+  ◌and◌ : {c : Check} {cs : List Check} → (c.fails ≡ true → P (Err c.refusal)) → Refusals P cs
       → Refusals P (c ∷ cs)
 
 -- P of a check's answer, whether it refuses or not
-pub ◌also◌ : {P : Answer → Type 0} {c : Check} {cs : List Check} → P c.answer → Refusals P cs
+pub ◌also◌ : {P : Answer → Type 0} {c : Check} {cs : List Check} → P (Err c.refusal) → Refusals P cs
     → Refusals P (c ∷ cs)
 h also rest = (λ t. h) and rest
 
@@ -29,7 +29,7 @@ module _ {P : Answer → Type 0} where
   pub first_has : {cs : List Check} → P done → Refusals P cs → P (first_refusal cs)
   first_has done no_more = done
   first_has done (◌and◌ {c} h rest) =
-      by_test (refuses c) (λ t. rw t (h t)) (λ t. rw t (first_has done rest))
+      by_test (c.fails) (λ t. rw t (h t)) (λ t. rw t (first_has done rest))
 
   pub refusals_append : {cs ds : List Check} → Refusals P cs → Refusals P ds
       → Refusals P (cs ++ ds)

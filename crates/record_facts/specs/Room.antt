@@ -1,10 +1,10 @@
 -- 522 bytes always suffice: into so long a buffer the writer answers what the check of the set's
 -- lists does. That this is never 13 is in proofs/RoomLaws.
-use Rattle.std.specs.Prelude.{ℕ, ◌≤◌, ◌≡◌, refl, List, [], ◌∷◌, length}
-use Rattle.std.proofs.Common.{arith, ◌∙◌}
+use Rattle.std.specs.Prelude.{ℕ, ◌≤◌, ◌≡◌, refl, false, List, [], ◌∷◌, length, Ok, Err}
+use Rattle.std.proofs.Common.{arith, ◌∙◌, true≢false}
 use borrow.Author.Tests.{le-ltb}
 use Rattle.lists.specs.Test.{by_test}
-use Rattle.answers.specs.Numbers.{is_done}
+use Rattle.answers.specs.Numbers.{Answer, is_done, first_of}
 use Rattle.answers.proofs.NumberLaws.{done_is}
 use Rattle.answers.specs.Checks.{Check, room_check, first_append}
 use Rattle.points.specs.declared.Curve.{Curve}
@@ -41,6 +41,11 @@ set_never s =
     (set_refusals (curve_checks Whole) s (list_never s.master) (colour_never s.red)
     (colour_never s.green) (colour_never s.blue))
 
+-- a refusal stays the first
+first_kept : (a b : Answer) → is_done a ≡ false → first_of a b ≡ a
+first_kept (Ok tt) b e = absurd (true≢false e)
+first_kept (Err r) b e = refl
+
 -- ---- 522 bytes always suffice
 module _ (s : Curves) (buffer : List ℕ) (enough : longest ≤ length buffer) where
   room : List Check
@@ -56,4 +61,4 @@ module _ (s : Curves) (buffer : List ℕ) (enough : longest ≤ length buffer) w
       let passed = done_is (set_answer Whole s) t in
       let short = encode_length (view_of s) (legal_view Whole s passed) in
       rw (passed, le-ltb (length buffer) (length (encode (view_of s))) (omega arith)))
-      (λ t. rw t)
+      (λ t. first_kept _ _ t)

@@ -1,5 +1,5 @@
 -- Texts character by character, and how long they are.
-use Rattle.std.specs.Prelude.{◌≡◌, refl, ℕ, ◌+◌, ◌*◌, ◌/◌, ◌%◌, ◌<◌, ◌≤◌, List, [], ◌∷◌, ◌++◌, length, get_or, take, min, ltb, cond}
+use Rattle.std.specs.Prelude.{◌≡◌, ℕ, ◌+◌, ◌*◌, ◌/◌, ◌%◌, ◌<◌, ◌≤◌, List, [], ◌∷◌, ◌++◌, length, get_or, take, min, ltb}
 use Rattle.std.proofs.Common.{sym, ap, ◌∙◌, arith, lit<, lit≤, length-append, take_all, ltb-true, ltb-false}
 use Rattle.std.proofs.lemmas.List.{get_or_append_left, get_or_push}
 use Rattle.lists.specs.Test.{by_test}
@@ -9,7 +9,7 @@ use Rattle.answers.specs.declared.Refusal.TheVariants.{RecordTruncated, PointCou
 use Rattle.answers.specs.Numbers.{refusal_number, number_of, is_done}
 use Rattle.tables.specs.Tables.{byte_table}
 use Rattle.records.specs.Format.{read_record}
-use Rattle.text.specs.Text.{character, character_at, number_text, refusal_text, table_text, printed}
+use Rattle.text.specs.Text.{character, character_at, refusal_text, printed}
 
 -- one element more
 pub tabulate_next : (n : ℕ) (f : ℕ → ℕ) (l m : List ℕ) (x : ℕ) → l ≡ tabulate n f → m ≡ l ++ x ∷ []

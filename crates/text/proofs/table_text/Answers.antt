@@ -1,5 +1,5 @@
 -- `table_text`: a turn puts the three characters of entry i.
-use Rattle.std.proofs.Common.{◌≡◌, refl, ap, ◌∙◌, sym, ◌+◌, ◌*◌, ◌<◌, length, arith}
+use Rattle.std.proofs.Common.{◌≡◌, ap, ◌∙◌, sym, ◌+◌, ◌*◌, length, arith}
 use Rattle.lists.specs.Tabulate.{tabulate, length_tabulate}
 use Rattle.text.specs.Text.{character_at}
 use Rattle.text.proofs.Laws.{place, tabulate_next}
