@@ -1,17 +1,23 @@
--- The ends of the set call: refused and done.
+-- What the set call answers by its two checks, and its ends: refused and done.
 use mathlib.Core.Path.{◌≡◌}
-use mathlib.Core.Bool.{Bool, true, false, cond}
+use mathlib.Core.Bool.{Bool, cond}
 use mathlib.Core.List.{List}
 use Prim.Native.Nat.{ℕ}
 use Rattle.std.specs.Prelude.{Ok, Err}
-use Rattle.std.proofs.Common.{sym}
+use Rattle.std.proofs.Common.{sym, ◌∙◌}
 use Rattle.answers.specs.declared.Refusal.{Refusal}
-use Rattle.answers.specs.Numbers.{done}
+use Rattle.answers.specs.Numbers.{Answer, done}
+use Rattle.answers.proofs.CheckLaws.{first_stops, first_goes_on}
+use Rattle.points.specs.declared.Heights.TheVariants.{Fine}
+use Rattle.sets.specs.Sets.{curve_checks, set_checks, set_answer}
+use Rattle.formats.specs.Checks.{picture_answer}
 use Rattle.pictures.specs.Runs.{
   Run,
   InTypes,
+  held,
   row_bytes,
   has_chroma,
+  checks_of_picture,
   answer,
   copied,
   toned_rows,
@@ -19,6 +25,20 @@ use Rattle.pictures.specs.Runs.{
   chroma,
   SetCall,
 }
+
+-- a is answered for the set, and b for the picture
+module _ (r : Run) {a : Answer} (set : a ≡ set_answer Fine r.job.set) where
+  pub set_refused : {e : Refusal} → a ≡ Err e → Err e ≡ answer r
+  unfolding answer set_answer
+  set_refused e =
+      first_stops (set_checks (curve_checks Fine) r.job.set) (checks_of_picture r) (sym set ∙ e)
+
+  pub set_passed : {b : Answer} → a ≡ done
+      → b ≡ picture_answer r.job.format r.job.width r.job.height r.job.planes r.lent.plane.step (held r.lent)
+      → b ≡ answer r
+  unfolding answer set_answer picture_answer
+  set_passed e picture =
+      first_goes_on (set_checks (curve_checks Fine) r.job.set) (checks_of_picture r) (sym set ∙ e) picture
 
 module _ (r : Run) (in_types : InTypes r) where
   pub refused : {e : Refusal} → Err e ≡ answer r → SetCall r (Err e) r.lent.outputs

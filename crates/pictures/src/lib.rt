@@ -5,7 +5,7 @@ ghost use Rattle.std.specs.Prelude.{◌≡◌, true, ◌*◌, ◌≤◌, length}
 ghost use Rattle.points.specs.Points.{list_of};
 ghost use Rattle.tables.specs.Tables.{byte_table};
 ghost use Rattle.sets.specs.Sets.{view_of};
-ghost use Rattle.rows.specs.Rows.{Rows};
+ghost use Rattle.rows.specs.Lent.{HasRows};
 ghost use Rattle.formats.specs.Formats.{bytes_a_pixel};
 ghost use Rattle.formats.specs.Checks.{Supported};
 ghost use Rattle.pictures.specs.OneTable.{OneTableCall};
@@ -53,10 +53,9 @@ pub fn apply_tone_lut(
     let w = width as usize;
     let h = height as usize;
     checks::lut_answer(format, w, h, step, plane.len())?;
-    let grid = Grid { w, h, step };
     tone_rows(
         plane,
-        grid,
+        Grid { w, h, step },
         format.bytes_a_pixel(),
         format.alpha(),
         &table,
@@ -65,6 +64,7 @@ pub fn apply_tone_lut(
 }
 
 // The table of a list, where it is present. Else nothing is built, and nothing reads the zeros.
+// Stays: an Option would be opened at once, as `chosen_table` of `sets` takes the mark beside it.
 fn own_table(present: bool, curve: Curve, kind: CurveInterpolation) -> [u8; 256]
     ensures { present ≡ true → result ≡ byte_table kind (list_of curve) }
 {
@@ -77,20 +77,12 @@ fn own_table(present: bool, curve: Curve, kind: CurveInterpolation) -> [u8; 256]
 
 // Tones the first plane of an accepted run: by colour, each by its own table or else the
 // master's; or all by the master.
-fn tone_first(
-    set: Curves,
-    format: PixelFormat,
-    plane: &[u8],
-    step: usize,
-    w: usize,
-    h: usize,
-    out: &mut [u8],
-)
+fn tone_first(set: Curves, format: PixelFormat, plane: &[u8], grid: Grid, out: &mut [u8])
     requires supported { Supported format }
-    requires rows { Rows w h (w * bytes_a_pixel format) step (length plane.now) }
-    requires room { h * (w * bytes_a_pixel format) ≤ length out.old }
+    requires rows { HasRows grid (bytes_a_pixel format) (length plane.now) }
+    requires room { grid.h * (grid.w * bytes_a_pixel format) ≤ length out.old }
     ensures { out.new
-        ≡ tight_rows format w h step (tables_of format (view_of set)) plane.now
+        ≡ tight_rows format grid.w grid.h grid.step (tables_of format (view_of set)) plane.now
         out.old }
 {
     let kind = set.interpolation;
@@ -104,7 +96,7 @@ fn tone_first(
     let blue_table = own_table(blue, set.blue.curve, kind);
     tone_rows_into(
         plane,
-        Grid { w, h, step },
+        grid,
         format.bytes_a_pixel(),
         Tables {
             red: chosen_table(red, &red_table, &master_table),
@@ -117,6 +109,8 @@ fn tone_first(
 
 // Tones a picture by a set of curves into tight rows; chroma is copied. On a
 // refusal no output changes.
+// Stays: slices and numbers, as document 01's "the core first on slice and number" wants;
+// `tone_picture` of `planes` takes each plane whole.
 pub fn apply_pixels<'a, 'x, 'y, 'z>(
     job: Job,
     plane: &'a [u8],
@@ -161,7 +155,7 @@ pub fn apply_pixels<'a, 'x, 'y, 'z>(
     };
     set.check(Heights::Fine)?;
     checks::picture_answer(format, w, h, job.planes, step, held)?;
-    tone_first(set, format, plane, step, w, h, out);
+    tone_first(set, format, plane, Grid { w, h, step }, out);
     let row = w * format.bytes_a_pixel();
     if format.planes_read() == 3 {
         copy_bytes(cb, out_cb);

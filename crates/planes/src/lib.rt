@@ -48,6 +48,7 @@ impl<'a> Plane<'a> {
 
 // The set call on planes: tones a picture by a set of curves into tight rows; chroma is copied. On
 // a refusal no output changes.
+// Stays: three outputs, which a struct would hold only from a call to the next line.
 pub fn tone_picture<'a, 'x, 'y, 'z>(
     job: Job,
     plane: Plane<'a>,

@@ -18,6 +18,7 @@ use Rattle.sets.specs.Legal.{LegalList, legal_view}
 use Rattle.sets.specs.SameLaws.{view_same}
 use Rattle.formats.specs.Formats.{format_of}
 use Rattle.pictures.specs.Runs.{Outputs, toned_by}
+use Rattle.pictures.specs.RunLaws.{call_answer}
 use Rattle.tone_c.specs.Boundary.{set_of, PictureAsked, run_of, TonePictureCall}
 use Rattle.promises.specs.Words as Run
 use Rattle.promises.specs.Words.{Place, IsSpline, WholeHeights, Nearest, HasLine}
@@ -73,7 +74,7 @@ pub record RunsAs (c : AcceptedCall) (r : Run.Call) : Type 0 where
 pub tone_picture_run : (c : AcceptedCall) → RunsAs c (run c)
 tone_picture_run c =
     let r = c.contract.run refl in
-    record { accepted = sym r.call.answer ∙ r.done; set = r.read.set }
+    record { accepted = sym (call_answer r.call) ∙ r.done; set = r.read.set }
 
 -- a byte of the plane before a call, and of the first output after it; where a byte is toned, and
 -- by which list

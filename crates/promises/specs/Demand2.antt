@@ -3,12 +3,13 @@
 -- here: each call that answers 0 gives what its definition says, the definitions are those of the
 -- published curves, and records survive writing then reading. What a call gives with another
 -- number is the first demand's.
-use Rattle.std.specs.Prelude.{ℕ, ◌+◌, ◌≤◌, ◌<◌, ◌≡◌, true, List, [], ◌∷◌, ◌++◌, ℤ, length, take, drop, T, Float, Err}
+use Rattle.std.specs.Prelude.{ℕ, ◌+◌, ◌≤◌, ◌<◌, ◌≡◌, true, List, [], ◌∷◌, ◌++◌, ℤ, length, take, drop, T, Float, Result, Ok, Err}
 use Rattle.std.proofs.Common.{arith}
 use Rattle.std.specs.Float.Ieee.Scale.{finite}
 use Rattle.lists.specs.Tabulate.{tabulate}
+use Rattle.answers.specs.declared.Refusal.{Refusal}
 use Rattle.answers.specs.declared.Refusal.TheVariants.{OutputTooSmall}
-use Rattle.answers.specs.Numbers.{number_of, Answer, done}
+use Rattle.answers.specs.Numbers.{number_of, answer_of, Answer, done}
 use Rattle.answers.specs.Checks.{first_refusal, room_check}
 use Rattle.single.specs.Rules.{byte_of}
 use Rattle.points.specs.declared.Point.{Point}
@@ -48,7 +49,6 @@ use Rattle.sets.specs.Same.{Same}
 use Rattle.records.specs.declared.RecordRead.{RecordRead}
 use Rattle.records.specs.Format.{read_record}
 use Rattle.records.specs.Views.{ReadRecordCall}
-use Rattle.writing.specs.declared.Written.{Written}
 use Rattle.writing.specs.Encode.{one_if, encode}
 use Rattle.writing.specs.Statements.{WriteRecordCall}
 use Rattle.record_facts.specs.Found.{AllBytes}
@@ -179,16 +179,17 @@ pub read_record_lem : (s : List ℕ) {r : RecordRead} → ReadRecordCall s r
 read_record_lem s call = call.set
 
 -- `write_record`: the set's record at the front of the buffer, the rest of it unchanged
-pub write_record_lem : {set : Curves} {old new : List ℕ} {r : Written} → WriteRecordCall set old r new
-    → number_of r.answer ≡ 0
-    → (r.length ≡ length (encode (view_of set)))
+pub write_record_lem : {set : Curves} {old new : List ℕ} {r : Result ℕ Refusal}
+    → WriteRecordCall set old r new → number_of (answer_of r) ≡ 0
+    → (r ≡ Ok (length (encode (view_of set))))
     × (new ≡ encode (view_of set) ++ drop (length (encode (view_of set))) old)
 write_record_lem = Fact.write_record_writes
 
 -- what was written, up to its length, is read without a refusal as the same set
-pub written_then_read : {set : Curves} {old new : List ℕ} {w : Written} {r : RecordRead}
-    → WriteRecordCall set old w new → w.answer ≡ done
-    → ReadRecordCall (take w.length new) r → (r.answer ≡ done) × Same r.set set
+pub written_then_read : {set : Curves} {old new : List ℕ} {w : Result ℕ Refusal} {n : ℕ}
+    {r : RecordRead}
+    → WriteRecordCall set old w new → w ≡ Ok n
+    → ReadRecordCall (take n new) r → (r.answer ≡ done) × Same r.set set
 written_then_read = RoundTripLaws.written_then_read
 
 -- on the definitions: the record of every set that passes its check, with a tension of a byte or
@@ -203,28 +204,28 @@ pub not_longer : (s : List ℕ) → (read_record s).answer ≡ done
     → length (encode (read_record s).set) ≤ length s + one_if (leaves_two_out s)
 not_longer = NotLonger.not_longer
 
-pub accepted_not_refused : (s : List ℕ) {old new : List ℕ} {r : RecordRead} {w : Written}
+pub accepted_not_refused : (s : List ℕ) {old new : List ℕ} {r : RecordRead} {w : Result ℕ Refusal}
     → ReadRecordCall s r → WriteRecordCall r.set old w new
-    → w.answer ≡ first_refusal (room_check (length (encode (read_record s).set)) (length old) ∷ [])
+    → answer_of w ≡ first_refusal (room_check (length (encode (read_record s).set)) (length old) ∷ [])
 accepted_not_refused = Writing.accepted_not_refused
 
 -- .. and never in a buffer that is so much longer than that record
-pub accepted_fits : (s : List ℕ) {old new : List ℕ} {r : RecordRead} {w : Written}
+pub accepted_fits : (s : List ℕ) {old new : List ℕ} {r : RecordRead} {w : Result ℕ Refusal}
     → ReadRecordCall s r → r.answer ≡ done
     → WriteRecordCall r.set old w new
-    → length s + one_if (leaves_two_out s) ≤ length old → w.answer ≡ done
+    → length s + one_if (leaves_two_out s) ≤ length old
+    → w ≡ Ok (length (encode (read_record s).set))
 accepted_fits = Writing.accepted_fits
 
 -- .. nor any set whose lists pass the check in 522 bytes: they always suffice
-pub always_fits : {set : Curves} {old new : List ℕ} {w : Written} → WriteRecordCall set old w new
-    → 522 ≤ length old
-    → (w.answer ≡ set_answer Whole set) × (w.answer ≡ Err OutputTooSmall → ⊥)
+pub always_fits : {set : Curves} {old new : List ℕ} {w : Result ℕ Refusal}
+    → WriteRecordCall set old w new → 522 ≤ length old
+    → (answer_of w ≡ set_answer Whole set) × (w ≡ Err OutputTooSmall → ⊥)
 always_fits = RoomLaws.always_fits
 
 -- records are canonical: the same sets are written as the same bytes ..
-pub same_bytes : {a b : Curves} {old newA new_b : List ℕ} {w x : Written} → Same a b
-    → WriteRecordCall a old w newA → WriteRecordCall b old x new_b
-    → (w.answer ≡ x.answer) × (w.length ≡ x.length) × (newA ≡ new_b)
+pub same_bytes : {a b : Curves} {old newA new_b : List ℕ} {w x : Result ℕ Refusal} → Same a b
+    → WriteRecordCall a old w newA → WriteRecordCall b old x new_b → (w ≡ x) × (newA ≡ new_b)
 same_bytes = Writing.same_runs
 
 -- .. an accepted record has the writer's, but for bit 7 and the naming of its kind ..
@@ -233,8 +234,8 @@ pub accepted_in_full : (s : List ℕ) → AllBytes s → (read_record s).answer 
 accepted_in_full = Canonical.accepted_in_full
 
 -- .. and comes back byte for byte if it has bit 7 and does not name kind 3
-pub returned : (s : List ℕ) {old new : List ℕ} {r : RecordRead} {w : Written} → AllBytes s
-    → ReadRecordCall s r → r.answer ≡ done
-    → has_writer_form s ≡ true → WriteRecordCall r.set old w new → w.answer ≡ done
-    → (w.length ≡ length s) × (take w.length new ≡ s)
+pub returned : (s : List ℕ) {old new : List ℕ} {r : RecordRead} {w : Result ℕ Refusal} {n : ℕ}
+    → AllBytes s → ReadRecordCall s r → r.answer ≡ done
+    → has_writer_form s ≡ true → WriteRecordCall r.set old w new → w ≡ Ok n
+    → (n ≡ length s) × (take n new ≡ s)
 returned = WriterFormLaws.returned

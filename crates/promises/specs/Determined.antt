@@ -1,7 +1,7 @@
 -- What the words of a result say, byte by byte, is all that the result is: two results of which
 -- they hold are one. And what they say of what is handed back, of Cr as of Cb, is said here once
 -- more without them. So a field that is dropped, or asks for more, is refused here.
-use Rattle.std.specs.Prelude.{ℕ, ◌*◌, ◌/◌, ◌%◌, ◌<◌, ◌≡◌, true, List, ltb, length, get_or, take}
+use Rattle.std.specs.Prelude.{ℕ, ◌*◌, ◌/◌, ◌%◌, ◌<◌, ◌≡◌, true, List, ltb, length, get_or, take, Ok}
 use Rattle.std.proofs.Common.{div-add-mod', arith, sym, ap, ◌∙◌, get_or-take, ext_get_or, ltb-true}
 use Rattle.std.proofs.Math.Decide.{ℕ_discrete, dec_lt}
 use Rattle.std.proofs.lemmas.Bool.{false≢true}
@@ -11,6 +11,7 @@ use Rattle.tables.specs.Tables.{entry_of}
 use Rattle.rows.specs.Rows.{in_row}
 use Rattle.formats.specs.declared.PixelFormat.{PixelFormat}
 use Rattle.formats.specs.Formats.{bytes_a_pixel, alpha_of}
+use Rattle.pictures.specs.declared.Steps.{Steps}
 use Rattle.pictures.specs.Runs.{Run, size, row_bytes, has_chroma}
 use Rattle.promises.specs.Words.{
   Call,
@@ -29,7 +30,6 @@ use Rattle.promises.specs.Words.{
 }
 use Rattle.promises.specs.Results.{byte_index, ExactPlane}
 use Rattle.promises.specs.PlaceFacts.{split_index, place_at}
-use Rattle.answers.specs.Numbers.{done}
 
 -- ---- a chroma output
 -- by the plane in front and what is behind it, where it keeps its length
@@ -143,13 +143,13 @@ one_plane f w h step table old a b c d =
 
 -- ---- what is handed back, and where the bytes lie
 pub handed_back : (a : Call) → ExactPicture a
-    → (a.answered.answer ≡ done) × (a.answered.step ≡ row_bytes a.given)
-handed_back a e = (e.done, e.step)
+    → (steps : Steps) × (a.answered ≡ Ok steps) × (steps.step ≡ row_bytes a.given)
+handed_back a e = (e.steps, e.done, e.step)
 
 pub steps_handed_back : (a : Call) → PassedThrough a → has_chroma a.given ≡ true
-    → (a.answered.cb_step ≡ a.given.lent.cb.step)
-    × (a.answered.cr_step ≡ a.given.lent.cr.step)
-steps_handed_back a p yuv = (p.cb_step yuv, p.cr_step yuv)
+    → (steps : Steps) × (a.answered ≡ Ok steps) × (steps.cb_step ≡ a.given.lent.cb.step)
+    × (steps.cr_step ≡ a.given.lent.cr.step)
+steps_handed_back a p yuv = (p.steps, p.done, p.cb_step yuv, p.cr_step yuv)
 
 pub every_place_held : (a : Call) → ExactPicture a → (p : Place) → Within a.given p
     → (in_plane a.given p < length a.given.lent.plane.bytes)

@@ -1,11 +1,12 @@
 -- The whole picture of a run that is not refused, in the words of the demands: it is as defined,
 -- and alpha and chroma come out as they went in, where each place of the output has what RunFacts
 -- says. The pages put the two together.
-use Rattle.std.specs.Prelude.{◌<◌, ◌≡◌, length}
+use Rattle.std.specs.Prelude.{◌<◌, ◌≡◌, refl, length}
 use Rattle.std.proofs.Math.Decide.{ℕ_discrete}
-use Rattle.std.proofs.Common.{◌∙◌}
 use Rattle.tables.specs.Tables.{entry_of}
 use Rattle.formats.specs.Formats.{alpha_of}
+use Rattle.pictures.specs.Runs.{steps_of}
+use Rattle.pictures.specs.RunLaws.{call_steps}
 use Rattle.promises.specs.Words.{
   Call,
   Accepted,
@@ -23,7 +24,6 @@ use Rattle.promises.specs.Words.{
 }
 use Rattle.promises.specs.RunFacts.{
   passed_checks,
-  not_refused,
   past_stays,
   plane_holds,
   out_long,
@@ -41,8 +41,9 @@ module _ (c : Call) (ok : Accepted c) where
       let lent = c.given.lent in
       let passed = passed_checks c ok in
       record {
-        done = is.answer ∙ ok;
-        step = rw (not_refused c ok) at is.step;
+        steps = steps_of c.given;
+        done = call_steps is ok;
+        step = refl;
         out_is = is.first;
         cb_is = is.cb;
         cr_is = is.cr;
@@ -68,6 +69,8 @@ module _ (c : Call) (ok : Accepted c) where
     ];
     cb = (whole_chroma c ok).cb;
     cr = (whole_chroma c ok).cr;
-    cb_step = λ yuv. rw (not_refused c ok, yuv) at c.contract.cb_step;
-    cr_step = λ yuv. rw (not_refused c ok, yuv) at c.contract.cr_step;
+    steps = steps_of c.given;
+    done = call_steps c.contract ok;
+    cb_step = λ yuv. rw yuv;
+    cr_step = λ yuv. rw yuv;
   }

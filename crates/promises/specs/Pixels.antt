@@ -1,6 +1,6 @@
 -- Runs for the controls, with what the contract says that they answer and write: of any picture,
 -- and of one column by a master alone, made of a list, a kind and bytes.
-use Rattle.std.specs.Prelude.{ℕ, zero, suc, ◌+◌, ◌*◌, ◌<◌, ◌≡◌, refl, true, false, cond, List, [], ◌∷◌, length, get_or}
+use Rattle.std.specs.Prelude.{ℕ, zero, suc, ◌+◌, ◌*◌, ◌<◌, ◌≡◌, refl, true, false, List, [], ◌∷◌, length, get_or}
 use Rattle.std.proofs.Common.{arith, ◌∙◌, lit<}
 use Rattle.std.proofs.Math.Seq.{take-length}
 use Rattle.points.specs.Joined.{curve_of, joined_back}
@@ -21,12 +21,9 @@ use Rattle.pictures.specs.Runs.{
   PlaneOf,
   Run,
   InTypes,
-  row_bytes,
-  answer,
-  accepted,
   first,
   chroma,
-  step_of,
+  handed,
 }
 use Rattle.promises.specs.Words.{Call, Accepted, Share, Place, TonedAt, input, output}
 use Rattle.promises.specs.RunFacts.{tight_entry}
@@ -123,22 +120,14 @@ types_of g bytes = record {
 abbrev pub ran_on : (r : Run) → InTypes r → Call
 ran_on r in_types = record {
   given = r;
-  answered = record {
-    answer = answer r;
-    step = cond (accepted r) (row_bytes r) 0;
-    cb_step = step_of r r.lent.cb;
-    cr_step = step_of r r.lent.cr;
-  };
+  answered = handed r;
   after = record {
     first = first r;
     cb = chroma r r.lent.cb r.lent.outputs.cb;
     cr = chroma r r.lent.cr r.lent.outputs.cr;
   };
   contract = record {
-    answer = refl;
-    step = refl;
-    cb_step = refl;
-    cr_step = refl;
+    handed = refl;
     first = refl;
     cb = refl;
     cr = refl;

@@ -2,8 +2,9 @@
 -- calls on sets and records, from their contracts alone. Kinds are said by their numbers, those of
 -- document 01; m is a record's map, its first byte, and s the bytes after it.
 -- P10 and P11 are in Marked of the crate `examples`.
-use Rattle.std.specs.Prelude.{ℕ, ◌+◌, ◌<◌, ◌≡◌, true, false, cond, not, List, ◌∷◌, eqb, get_or}
+use Rattle.std.specs.Prelude.{ℕ, ◌+◌, ◌<◌, ◌≡◌, true, false, cond, not, List, ◌∷◌, eqb, get_or, Result, Ok}
 use Rattle.std.proofs.Common.{sym, ap, ◌∙◌}
+use Rattle.answers.specs.declared.Refusal.{Refusal}
 use Rattle.answers.specs.Numbers.{is_done, done}
 use Rattle.answers.proofs.NumberLaws.{never_one}
 use Rattle.answers.specs.Checks.{Check, first_refusal}
@@ -17,7 +18,6 @@ use Rattle.records.specs.Map.{bit}
 use Rattle.records.specs.Format.{Read, read_fields, read_result, read_record}
 use Rattle.records.specs.CheckLaws.{read_empty}
 use Rattle.records.specs.Views.{ReadRecordCall}
-use Rattle.writing.specs.declared.Written.{Written}
 use Rattle.writing.specs.Statements.{WriteRecordCall}
 use Rattle.record_facts.specs.NewDefault as NewDefault
 use Rattle.record_facts.specs.Runs as Writing
@@ -82,8 +82,8 @@ bit_7_alone m s small before after =
 
 -- ---- "The writer sets bit 7 always and leaves the kind out when it is 3"
 -- and only then, bit 4 telling whether it is there
-pub writer_map : {set : Curves} {old new : List ℕ} {w : Written} → WriteRecordCall set old w new
-    → w.answer ≡ done
+pub writer_map : {set : Curves} {old new : List ℕ} {w : Result ℕ Refusal} {n : ℕ}
+    → WriteRecordCall set old w new → w ≡ Ok n
     → (bit 128 (get_or new 0 0) ≡ true)
     × (bit 16 (get_or new 0 0) ≡ not (eqb (kind_number set.interpolation) 3))
 writer_map = Writing.written_map

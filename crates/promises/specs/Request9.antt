@@ -2,11 +2,12 @@
 -- definitions that the contracts cite. "Whole heights are measured beside the Rust as ever": for
 -- these Demand3 has the mission's own words. "With others, demand 3's order still holds under its
 -- premises": `order` of Demand3 asks nothing of heights.
-use Rattle.std.specs.Prelude.{ℕ, ◌<◌, ◌≡◌, length}
+use Rattle.std.specs.Prelude.{ℕ, ◌<◌, ◌≡◌, length, Result, Ok, Err}
 use Rattle.std.proofs.Common.{arith, ap}
 use mathlib.Core.List.{List, [], ◌∷◌, Memᴰ}
+use Rattle.answers.specs.declared.Refusal.{Refusal}
 use Rattle.answers.specs.declared.Refusal.TheVariants.{HeightRange}
-use Rattle.answers.specs.Numbers.{number_of, done}
+use Rattle.answers.specs.Numbers.{number_of, answer_of, done}
 use Rattle.answers.proofs.NumberLaws.{number_unique}
 use Rattle.answers.specs.Checks.{first_refusal, room_check}
 use Rattle.floats.specs.Value.{Is}
@@ -21,7 +22,6 @@ use Rattle.sets.specs.declared.Curves.{Curves}
 use Rattle.sets.specs.Sets.{view_of, set_answer}
 use Rattle.records.specs.declared.RecordRead.{RecordRead}
 use Rattle.records.specs.Views.{ReadRecordCall}
-use Rattle.writing.specs.declared.Written.{Written}
 use Rattle.writing.specs.Encode.{encode}
 use Rattle.writing.specs.Statements.{WriteRecordCall}
 use Rattle.record_facts.specs.Levels.{HoldsLevels}
@@ -82,20 +82,20 @@ module _ (s : List ℕ) {r : RecordRead} (call : ReadRecordCall s r) where
   read_passes = Runs.read_passes s call
 
   pub reader_never_20 : number_of r.answer ≡ 20 → ⊥
-  reader_never_20 e = Runs.reader_never_20 s call (number_unique r.answer HeightRange e)
+  reader_never_20 e = Runs.reader_never_20 s call (number_unique r.answer (Err HeightRange) e)
 
 -- and what its writer takes
-module _ {set : Curves} {old new : List ℕ} {w : Written}
+module _ {set : Curves} {old new : List ℕ} {w : Result ℕ Refusal}
     (call : WriteRecordCall set old w new) where
-  pub written_heights : w.answer ≡ done → HoldsLevels (view_of set)
+  pub written_heights : {n : ℕ} → w ≡ Ok n → HoldsLevels (view_of set)
   written_heights = Runs.written_heights call
 
   -- ---- "20 .., when today's record is written, one that isn't a multiple of 256"
   -- of a set that may be toned: with such a height 20, whatever the room, and else 13 or nothing
   pub fine_refused : set_answer Fine set ≡ done → (HoldsLevels (view_of set) → ⊥)
-      → number_of w.answer ≡ 20
-  fine_refused fine not_whole = ap number_of (Runs.not_whole_refused call fine not_whole)
+      → number_of (answer_of w) ≡ 20
+  fine_refused fine not_whole = ap (λ r. number_of (answer_of r)) (Runs.not_whole_refused call fine not_whole)
 
   pub whole_accepted : set_answer Fine set ≡ done → HoldsLevels (view_of set)
-      → w.answer ≡ first_refusal (room_check (length (encode (view_of set))) (length old) ∷ [])
+      → answer_of w ≡ first_refusal (room_check (length (encode (view_of set))) (length old) ∷ [])
   whole_accepted fine whole = Runs.whole_not_refused call fine whole

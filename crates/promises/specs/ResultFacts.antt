@@ -1,10 +1,11 @@
 -- What a call that answers 0 gives.
-use Rattle.std.specs.Prelude.{ℕ, ◌*◌, ◌<◌, ◌≡◌, false, List, ◌++◌, eqb, length, get_or, drop, Float}
+use Rattle.std.specs.Prelude.{ℕ, ◌*◌, ◌<◌, ◌≡◌, false, List, ◌++◌, eqb, length, get_or, drop, Float, Result, Ok}
 use Rattle.std.proofs.Common.{arith, sym, ap, ◌∙◌}
 use Rattle.lists.specs.Each.{length_each}
 use Rattle.lists.specs.Tabulate.{tabulate}
 use Rattle.lists.specs.Test.{by_test}
-use Rattle.answers.specs.Numbers.{number_of, Answer, done}
+use Rattle.answers.specs.declared.Refusal.{Refusal}
+use Rattle.answers.specs.Numbers.{number_of, answer_of, Answer, done}
 use Rattle.answers.proofs.NumberLaws.{number_unique}
 use Rattle.points.specs.declared.Curve.{Curve}
 use Rattle.points.specs.declared.Sorted.{Sorted}
@@ -15,9 +16,8 @@ use Rattle.tables.specs.Tables.{fine_table, byte_table, BuildTableCall, BuildLut
 use Rattle.lookup.specs.Lookup.{looked, looked_up, LookupCall}
 use Rattle.sets.specs.declared.Curves.{Curves}
 use Rattle.sets.specs.Sets.{view_of}
-use Rattle.writing.specs.declared.Written.{Written}
 use Rattle.writing.specs.Encode.{encode}
-use Rattle.writing.specs.Cases.{write_done, done_case}
+use Rattle.writing.specs.Cases.{write_done, done_case, run_answer, run_writes}
 use Rattle.writing.specs.Statements.{WriteRecordCall}
 use Rattle.rows.specs.Bytes.{same, row_byte}
 use Rattle.rows.specs.Rows.{Rows, in_row, plane_byte}
@@ -31,16 +31,16 @@ use Rattle.promises.specs.Results.{byte_index, ExactPlane}
 module _ {given : Curve} where
   pub new_sorts : {r : Sorted} → NewCall given r → number_of r.answer ≡ 0
       → list_of r.curve ≡ kept (list_of given)
-  new_sorts call zero = rw zero at call.list
+  new_sorts {r} call zero = rw (number_unique r.answer done zero) at call.list
 
   pub build_lut_builds : {kind : CurveInterpolation} {r : Lut} → BuildLutCall given kind r
       → number_of r.answer ≡ 0 → r.table ≡ byte_table kind (list_of given)
-  build_lut_builds call zero = rw zero at call.table
+  build_lut_builds {r = r} call zero = rw (number_unique r.answer done zero) at call.table
 
   pub build_table_builds : {kind : CurveInterpolation} {old new : List Float} {r : Answer}
       → BuildTableCall given kind old r new → number_of r ≡ 0
       → new ≡ fine_table kind (list_of given) (length old)
-  build_table_builds call zero = rw zero at call.table
+  build_table_builds {r = r} call zero = rw (number_unique r done zero) at call.table
 
 pub lookup_replaces : {table old new : List Float} {r : Answer} → LookupCall table old r new
     → number_of r ≡ 0 → new ≡ tabulate (length old) (looked table old)
@@ -57,7 +57,7 @@ module _ {f : PixelFormat} {w h step : ℕ} {table old new : List ℕ} {r : Answ
   rows = (lut_done f w h step (length old) (sym call.answer ∙ number_unique r done zero)).rows
 
   pub plane_is : new ≡ toned_within f w h step table old
-  plane_is = rw zero at call.plane
+  plane_is = rw (number_unique r done zero) at call.plane
 
   pub byte_toned : (y x j : ℕ) → y < h → x < w → j < bytes_a_pixel f → (j ≡ alpha_of f → ⊥)
       → get_or new (byte_index f step y x j) 0
@@ -102,11 +102,10 @@ apply_tone_lut_tones call zero =
     }
 
 -- ---- records
-pub write_record_writes : {set : Curves} {old new : List ℕ} {r : Written}
-    → WriteRecordCall set old r new → number_of r.answer ≡ 0
-    → (r.length ≡ length (encode (view_of set)))
+pub write_record_writes : {set : Curves} {old new : List ℕ} {r : Result ℕ Refusal}
+    → WriteRecordCall set old r new → number_of (answer_of r) ≡ 0
+    → (r ≡ Ok (length (encode (view_of set))))
     × (new ≡ encode (view_of set) ++ drop (length (encode (view_of set))) old)
 write_record_writes {set} {old} {r = r} call zero =
-    let d = done_case set old (sym call.answer ∙ number_unique r.answer done zero) in
-    let is = write_done set old d.0 d.1 in
-    (rw is at call.length, rw is at call.buffer)
+    let d = done_case set old (sym (run_answer call) ∙ number_unique (answer_of r) done zero) in
+    (run_writes call d.0 d.1, rw (write_done set old d.0 d.1) at call.buffer)

@@ -1,6 +1,6 @@
 -- The words of the third demand, with document 01's terms, and of document 02's U9, which restates
 -- it for finer heights. Definitions only.
-use Rattle.std.specs.Prelude.{ℕ, ◌+◌, ◌*◌, ◌≤◌, ◌<◌, ◌≡◌, ◌⊎◌, true, false, cond, List, [], length, get_or, take}
+use Rattle.std.specs.Prelude.{ℕ, ◌+◌, ◌*◌, ◌≤◌, ◌<◌, ◌≡◌, ◌⊎◌, true, false, cond, List, [], length, get_or, take, Result, Ok}
 use Rattle.points.specs.declared.Point.{Point}
 use Rattle.points.specs.Knots.{OnLine}
 use Rattle.points.specs.Order.{All, WholeHeight, NeverFalls}
@@ -12,7 +12,7 @@ use Rattle.sets.specs.Sets.{view_of}
 use Rattle.sets.specs.Lists.{EveryList}
 use Rattle.sets.specs.Same.{Same}
 use Rattle.rows.specs.Rows.{in_row}
-use Rattle.pictures.specs.declared.Toned.{Toned}
+use Rattle.pictures.specs.declared.Steps.{Steps}
 use Rattle.formats.specs.Formats.{bytes_a_pixel, alpha_of}
 use Rattle.pictures.specs.Runs.{
   Outputs,
@@ -26,6 +26,7 @@ use Rattle.pictures.specs.Runs.{
   chroma,
   SetCall,
 }
+use Rattle.answers.specs.declared.Refusal.{Refusal}
 use Rattle.answers.specs.Numbers.{done}
 
 -- ---- runs
@@ -33,7 +34,7 @@ use Rattle.answers.specs.Numbers.{done}
 -- of which its contract holds
 pub record Call : Type 0 where
   pub given : Run
-  pub answered : Toned
+  pub answered : Result Steps Refusal
   pub after : Outputs
   pub contract : SetCall given answered after
 
@@ -150,8 +151,9 @@ pub record Copied (plane before after : List ℕ) : Type 0 where
 -- ---- what a run that is not refused gives
 -- "exactly the picture they define"
 pub record ExactPicture (c : Call) : Type 0 where
-  pub done : c.answered.answer ≡ done
-  pub step : c.answered.step ≡ row_bytes c.given
+  pub steps : Steps
+  pub done : c.answered ≡ Ok steps
+  pub step : steps.step ≡ row_bytes c.given
   -- the three outputs are those of the definition
   pub out_is : c.after.first ≡ first c.given
   pub cb_is : c.after.cb ≡ chroma c.given c.given.lent.cb c.given.lent.outputs.cb
@@ -179,14 +181,16 @@ pub record ExactPicture (c : Call) : Type 0 where
 
 -- alpha and chroma "come out as they went in", the chroma's step "handed back"
 pub record PassedThrough (c : Call) : Type 0 where
+  pub steps : Steps
+  pub done : c.answered ≡ Ok steps
   pub alpha : (p : Place) → Within c.given p → (TonedAt c.given p → ⊥)
       → output c p ≡ input c p
   pub cb : IsYuv c.given
       → take (length c.given.lent.cb.bytes) c.after.cb ≡ c.given.lent.cb.bytes
   pub cr : IsYuv c.given
       → take (length c.given.lent.cr.bytes) c.after.cr ≡ c.given.lent.cr.bytes
-  pub cb_step : IsYuv c.given → c.answered.cb_step ≡ c.given.lent.cb.step
-  pub cr_step : IsYuv c.given → c.answered.cr_step ≡ c.given.lent.cr.step
+  pub cb_step : IsYuv c.given → steps.cb_step ≡ c.given.lent.cb.step
+  pub cr_step : IsYuv c.given → steps.cr_step ≡ c.given.lent.cr.step
 
 -- ---- two runs
 -- "alike in their rows": the same byte at every place, alpha too

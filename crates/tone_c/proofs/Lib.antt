@@ -1,1 +1,3 @@
-pub mod GivenList
+-- a format's number and a record that are given
+pub mod GivenFormat
+pub mod GivenRecord

@@ -1,14 +1,15 @@
 -- The calls for a C or Rust caller, as the page of the C boundary has them: what a caller gives as
 -- bytes and numbers, for each call its refusals in the papers' order, and what is in lent memory
 -- after it. Definitions only.
-use Rattle.std.specs.Prelude.{ℕ, ◌/◌, ◌≤◌, ◌≡◌, cond, List, [], ◌∷◌, ◌++◌, ltb, eqb, ℤ, length, drop, Float}
+use Rattle.std.specs.Prelude.{ℕ, ◌/◌, ◌≡◌, cond, List, [], ◌∷◌, ◌++◌, ltb, eqb, ℤ, length, drop, Float, Result}
+use Rattle.answers.specs.declared.Refusal.{Refusal}
 use Rattle.answers.specs.declared.Refusal.TheVariants.{UnsupportedFormat}
-use Rattle.answers.specs.Numbers.{number_of, done}
+use Rattle.answers.specs.Numbers.{Answer, number_of, is_done, answer_of, done}
 use Rattle.answers.specs.Checks.{Check, ◌when◌, first_refusal, room_check}
 use Rattle.points.specs.declared.Point.{Point}
-use Rattle.points.specs.declared.Curve.{Curve}
 use Rattle.points.specs.declared.Heights.TheVariants.{Fine}
-use Rattle.points.specs.Points.{limit, list_of, count_check, height_check}
+use Rattle.points.specs.Points.{count_check, height_check}
+use Rattle.tables.specs.declared.CurveInterpolation.{CurveInterpolation}
 use Rattle.tables.specs.Kinds.{kind_of}
 use Rattle.tables.specs.Tables.{byte_table, fine_table, length_check}
 use Rattle.sets.specs.declared.Curves.{Curves}
@@ -23,7 +24,7 @@ use Rattle.records.specs.Format.{read_record}
 use Rattle.records.specs.Checks.{record_checks}
 use Rattle.records.specs.Views.{ReadRecordCall}
 use Rattle.writing.specs.Encode.{encode}
-use Rattle.pictures.specs.declared.Toned.{Toned}
+use Rattle.pictures.specs.declared.Steps.{Steps}
 use Rattle.pictures.specs.OneTable.{toned_within}
 use Rattle.pictures.specs.Runs.{Outputs, Lent, Run, held, SetCall}
 use Rattle.lookup.specs.Lookup.{lookup_checks, looked_up}
@@ -42,12 +43,6 @@ abbrev pub given_checks : List ℕ → ℕ → List Check
 given_checks points kind =
     count_check (count_of points) ∷ height_check Fine (pairs_of points) ∷ kind_check kind ∷ []
 
--- the list made of the points claims as many as there are, and has them unless it is refused for
--- that
-pub record GivenList (points : List ℕ) (r : Curve) : Type 0 where
-  pub count : r.count ≡ count_of points
-  pub list : count_of points ≤ limit → list_of r ≡ pairs_of points
-
 -- a format's number: 8 where no format has it
 abbrev pub format_check : ℕ → Check
 format_check n = UnsupportedFormat when ltb last_format n
@@ -55,6 +50,13 @@ format_check n = UnsupportedFormat when ltb last_format n
 -- the set that a record holds
 abbrev pub set_of : List ℕ → View
 set_of stored = (read_record stored).set
+
+-- 13, and the byte table of a list in place of an output's first 256 bytes, or on a refusal the
+-- output unchanged
+pub record PutTable (kind : CurveInterpolation) (list : List Point) (old : List ℕ) (a : Answer)
+    (new : List ℕ) : Type 0 where
+  pub answer : a ≡ first_refusal (room_check 256 (length old) ∷ [])
+  pub table : new ≡ cond (is_done a) (byte_table kind list ++ drop 256 old) old
 
 -- ---- tone_table
 -- 3 20 5 13: the table is 256 bytes
@@ -136,10 +138,10 @@ tone_picture_checks asked =
 -- handed back
 pub record PictureRun (asked : PictureAsked) (after : Outputs) : Type 0 where
   pub handed : RecordRead
-  pub toned : Toned
+  pub toned : Result Steps Refusal
   pub read : ReadRecordCall asked.stored handed
   pub call : SetCall (run_of asked handed.set) toned after
-  pub done : toned.answer ≡ done
+  pub done : answer_of toned ≡ done
 
 -- the number answered; on a refusal the outputs unchanged; and with 0 the run, which says what the
 -- outputs hold: `PictureLaws` has it by the record's bytes

@@ -18,6 +18,7 @@ use Rattle.pictures.specs.Runs.{
   first,
   chroma,
 }
+use Rattle.pictures.specs.RunLaws.{call_answer}
 use Rattle.tone_c.specs.Boundary.{set_of, PictureAsked, run_of, PictureRun, TonePictureCall}
 
 -- the first output of an accepted call by a set
@@ -34,7 +35,7 @@ chroma_out r asked plane old =
 
 module _ {asked : PictureAsked} {after : Outputs} (run : PictureRun asked after) where
   accepted_run : accepted (run_of asked run.handed.set) ≡ true
-  accepted_run = ap is_done (sym run.call.answer ∙ run.done)
+  accepted_run = ap is_done (sym (call_answer run.call) ∙ run.done)
 
   run_first : after.first ≡ toned_by_set asked (set_of asked.stored)
   unfolding first

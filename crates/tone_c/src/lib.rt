@@ -15,14 +15,9 @@ ghost use Rattle.tone_c.specs.Boundary.{
 ghost use Rattle.std.specs.Prelude.{◌≡◌};
 ghost use Rattle.tone_c.specs.Version.{version};
 
-use answers::{first_of, room_for};
-use formats::format_of;
-use pictures::{Job, apply_pixels, apply_tone_lut};
-use records::read_record;
-use rows::copy_bytes;
-use tables::{entries_of, kind_of, length_answer, sample_curve};
-use writing::write_record;
+use answers::number_of;
 
+mod calls;
 mod given;
 
 // The version of this boundary, for a caller to compare with its header's. It is no answer.
@@ -47,15 +42,7 @@ pub fn tone_table(
     ensures { ToneTableCall points.now kind «tension» start_slope end_slope
         table.old result table.new }
 {
-    let curve = given::curve_of(points);
-    let of_list = given::check(&curve.ys, curve.count, kind);
-    let answer = first_of(of_list, room_for(256, table.len()));
-    if !answer.is_done() {
-        return answer.number();
-    }
-    let bytes = entries_of(curve, kind_of(kind, tension, start_slope, end_slope));
-    copy_bytes(&bytes, table);
-    answer.number()
+    number_of(calls::table(points, kind, tension, start_slope, end_slope, table))
 }
 
 // Fills table, 256 or 4,096 floats, with the samples of that curve.
@@ -70,15 +57,7 @@ pub fn tone_fine_table(
     ensures { ToneFineTableCall points.now kind «tension» start_slope end_slope
         table.old result table.new }
 {
-    let curve = given::curve_of(points);
-    let of_list = given::check(&curve.ys, curve.count, kind);
-    let answer = first_of(of_list, length_answer(table.len()));
-    if !answer.is_done() {
-        return answer.number();
-    }
-    let interpolation = kind_of(kind, tension, start_slope, end_slope);
-    sample_curve(&curve.xs, &curve.ys, curve.count, interpolation, table);
-    answer.number()
+    number_of(calls::fine_table(points, kind, tension, start_slope, end_slope, table))
 }
 
 // Replaces each value, in 0..1, by the height there of a fine table of
@@ -86,8 +65,7 @@ pub fn tone_fine_table(
 pub fn tone_lookup(table: &[f32], values: &mut [f32]) -> u8
     ensures { ToneLookupCall table.now values.old result values.new }
 {
-    let replaced = lookup::lookup(table, values);
-    replaced.number()
+    number_of(lookup::lookup(table, values))
 }
 
 // Tones a plane of any of the twelve formats in place by one table. Alpha, chroma and
@@ -103,13 +81,7 @@ pub fn tone_plane(
     ensures { TonePlaneCall table.now format width height step plane.old result
         plane.new }
 {
-    let known = given::format_answer(format);
-    if !known.is_done() {
-        return known.number();
-    }
-    let pixel_format = format_of(format);
-    let toned = apply_tone_lut(plane, step, *table, pixel_format, width, height);
-    toned.number()
+    number_of(calls::plane(table, format, width, height, plane, step))
 }
 
 // Tones a picture by the set that a record holds into tight rows at the front of out_y; for YUV the
@@ -153,41 +125,16 @@ pub fn tone_picture<'a, 'x, 'y, 'z>(
       cr = out_v.new;
     }) }
 {
-    let read = read_record(record);
-    let of_record = read.answer;
-    let answer = first_of(of_record, given::format_answer(format));
-    if !answer.is_done() {
-        return answer.number();
-    }
-    let set = read.set;
-    let pixel_format = format_of(format);
-    let job = Job {
-        set,
-        format: pixel_format,
-        width,
-        height,
-        planes,
-    };
-    let toned = apply_pixels(job, y, y_step, u, 0, v, 0, out_y, out_u, out_v);
-    let answer = toned.answer;
-    answer.number()
+    number_of(calls::picture(
+        record, format, width, height, planes, y, y_step, u, v, out_y, out_u, out_v,
+    ))
 }
 
 // Writes the byte table of the master of the set that a record holds to the front of table.
 pub fn tone_record_table(record: &[u8], table: &mut [u8]) -> u8
     ensures { ToneRecordTableCall «record».now table.old result table.new }
 {
-    let read = read_record(record);
-    let of_record = read.answer;
-    let answer = first_of(of_record, room_for(256, table.len()));
-    if !answer.is_done() {
-        return answer.number();
-    }
-    let set = read.set;
-    let kind = set.interpolation;
-    let bytes = entries_of(set.master, kind);
-    copy_bytes(&bytes, table);
-    answer.number()
+    number_of(calls::record_table(record, table))
 }
 
 // Writes the set that a record holds to the front of out with the present writer,
@@ -196,17 +143,5 @@ pub fn tone_record_copy(record: &[u8], out: &mut [u8], written: &mut usize) -> u
     ensures { ToneRecordCopyCall «record».now out.old written.old result
         out.new written.new }
 {
-    let read = read_record(record);
-    let answer = read.answer;
-    if !answer.is_done() {
-        return answer.number();
-    }
-    let set = read.set;
-    let copy = write_record(set, out);
-    let answer = copy.answer;
-    if !answer.is_done() {
-        return answer.number();
-    }
-    *written = copy.length;
-    answer.number()
+    number_of(calls::record_copy(record, out, written))
 }

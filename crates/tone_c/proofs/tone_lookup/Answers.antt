@@ -5,5 +5,5 @@ use Rattle.tone_c.proofs.tone_lookup.Goals as goal
 
 pub returns : goal.returns
 returns c =
-    let call = c.lookup-replaced.ensures in
-    record { number = c.number.ensures ∙ ap number_of call.answer; values = call.values }
+    let call = c.lookup.ensures in
+    record { number = c.number_of.ensures ∙ ap number_of call.answer; values = call.values }
