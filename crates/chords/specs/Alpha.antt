@@ -1,13 +1,13 @@
 -- The tangents of CentripetalCatmullRom and ChordalCatmullRom: the three-term tangent of Barry and
 -- Goldman ("A recursive evaluation algorithm for a class of Catmull-Rom splines", 1988), as
 -- `alpha_catmull_rom_tangents` of the Rust has it. Definitions only.
-use Rattle.std.specs.Prelude.{ℕ, ◌+◌, Bool, true, false, cond, ◌||◌, List, eqb, Float}
+use Rattle.std.specs.Prelude.{◌≡◌, ℕ, ◌+◌, Bool, true, false, cond, ◌||◌, List, eqb, Float}
 use Rattle.floats.specs.Notation.{◌⊕◌, ◌⊖◌, ◌⊗◌, ◌⊘◌}
 use Rattle.single.specs.Constants.{𝟎, nano}
 use Rattle.single.specs.Rules.{guarded_quotient, tiny}
 use Rattle.single.specs.Root.{root_of}
 use Rattle.points.specs.declared.Knot.{Knot}
-use Rattle.points.specs.Knots.{knot_at, at, before, after}
+use Rattle.points.specs.Knots.{knot_at, before, after}
 
 -- the distance of a and b
 unfoldable pub chord : Knot → Knot → Float
@@ -63,10 +63,6 @@ centripetal_at = alpha_at true
 abbrev pub chordal_at : List Float → List Float → ℕ → ℕ → Float
 chordal_at = alpha_at false
 
--- ---- the rows that the code makes of the segments: chords, and the spacings
--- that belong to a row of them
-unfoldable pub chord_at : List Float → List Float → ℕ → Float
-chord_at xs ys i = chord (knot_at xs ys i) (knot_at xs ys (i + 1))
-
-unfoldable pub spacing_at : Bool → List Float → ℕ → Float
-spacing_at centripetal chords i = spacing_of centripetal (at chords i)
+-- ---- what the code asks of a closure that says the spacing of a chord
+abbrev pub Spaces : (Float → Float → Type 0) → Bool → Type 0
+Spaces post centripetal = (chord s : Float) → post chord s → s ≡ spacing_of centripetal chord

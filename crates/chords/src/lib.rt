@@ -1,57 +1,24 @@
 // The tangents of CentripetalCatmullRom and ChordalCatmullRom at the knots, by the chords between
-// them. n knots are in the rows xs and ys; what is behind them is not read. The tangents go to
-// the front of a lent row.
+// them. They go to the front of a lent row.
 #![tactic(auto)]
 
-ghost use Rattle.std.specs.Prelude.{◌≡◌, ◌-◌, ◌≤◌};
+ghost use Rattle.std.specs.Prelude.{◌≡◌};
 ghost use Rattle.lists.specs.Stored.{Stored};
 ghost use Rattle.chords.specs.Alpha as Alpha;
+ghost use Rattle.chords.specs.Alpha.{Spaces};
 
-use points::{Knot, knot_at};
+use points::{Knot, Knots};
 use single::root::sqrt;
 use single::{guarded_quotient, tiny};
 
 // The chord from a to b.
+#[tactic(auto, unfolding(crate::specs::Alpha::chord))]
 fn chord(a: Knot, b: Knot) -> f32
     ensures { result ≡ Alpha.chord a b }
 {
     let dx = b.x - a.x;
     let dy = b.y - a.y;
     sqrt(dx * dx + dy * dy)
-}
-
-// The chords of the segments between n knots, to the front of a row.
-fn chords(xs: &[f32; 66], ys: &[f32; 66], n: usize, row: &mut [f32; 66])
-    requires { (2 ≤ n) × (n ≤ 66) }
-    ensures { Stored (Alpha.chord_at xs.now ys.now) 0 (n - 1) row.old
-        row.new }
-{
-    let mut i: usize = 0;
-    while i + 1 < n {
-        row[i] = chord(knot_at(xs, ys, i), knot_at(xs, ys, i + 1));
-        i += 1;
-    }
-}
-
-// The spacing that belongs to a chord: the chord, or where centripetal its root.
-fn spacing(centripetal: bool, chord: f32) -> f32
-    ensures { result ≡ Alpha.spacing_of centripetal chord }
-{
-    if centripetal { sqrt(chord) } else { chord }
-}
-
-// The spacings that belong to chords. In a loop of their own: two roots one after the other would
-// leave the processor waiting.
-fn spacings(centripetal: bool, chords: &[f32; 66], n: usize, row: &mut [f32; 66])
-    requires { (2 ≤ n) × (n ≤ 66) }
-    ensures { Stored (Alpha.spacing_at centripetal chords.now) 0 (n - 1) row.old
-        row.new }
-{
-    let mut i: usize = 0;
-    while i + 1 < n {
-        row[i] = spacing(centripetal, chords[i]);
-        i += 1;
-    }
 }
 
 // p over d, and 0 for a tiny d.
@@ -63,6 +30,7 @@ fn over(p: f32, d: f32) -> f32
 
 // The three terms at an inner knot, by the rises and spacings to the right,
 // across and from the left.
+#[tactic(auto, unfolding(crate::specs::Alpha::three_terms))]
 fn three_terms(right: f32, across: f32, left: f32, dr: f32, ds: f32, dl: f32) -> f32
     ensures { result ≡ Alpha.three_terms right across left dr ds dl }
 {
@@ -88,26 +56,41 @@ fn inner_tangent(l: Knot, c: Knot, r: Knot, dl: f32, ds: f32, dr: f32) -> f32
     over(rise, over(r.x - l.x, ds))
 }
 
-// The tangents of ChordalCatmullRom, or where centripetal of CentripetalCatmullRom.
-pub fn alpha(centripetal: bool, xs: &[f32; 66], ys: &[f32; 66], n: usize, tangents: &mut [f32; 66])
-    requires { (2 ≤ n) × (n ≤ 66) }
-    ensures { Stored (Alpha.alpha_at centripetal xs.now ys.now n) 0 n
+// The tangents by the spacing that belongs to a chord. The spacings have a loop of their own: two
+// roots one after the other would leave the processor waiting.
+fn by_spacing<F: Fn(f32) -> f32>(knots: &Knots, spacing: F, tangents: &mut [f32; 66])
+    requires { (chord : _) → F.pre spacing chord }
+    ensures { (centripetal : _) → Spaces (F.post spacing) centripetal → Stored
+        (Alpha.alpha_at centripetal knots.now.xs knots.now.ys knots.now.count) 0 knots.now.count
         tangents.old tangents.new }
 {
-    let mut row = [0.0; 66];
-    chords(xs, ys, n, &mut row);
-    let mut ways = [0.0; 66];
-    spacings(centripetal, &row, n, &mut ways);
-    tangents[0] = end_tangent(knot_at(xs, ys, 0), knot_at(xs, ys, 1), ways[0]);
-    let mut i: usize = 1;
-    while i + 1 < n {
+    let chords = knots.per_segment(|i| chord(knots.at(i), knots.at(i + 1)));
+    let ways = knots.per_segment(|i| spacing(chords[i]));
+    let last = knots.count - 1;
+    tangents[0] = end_tangent(knots.at(0), knots.at(1), ways[0]);
+    for i in 1..last {
         let dl = ways[i - 1];
         let dr = ways[i];
-        let l = knot_at(xs, ys, i - 1);
-        let c = knot_at(xs, ys, i);
-        let r = knot_at(xs, ys, i + 1);
+        let l = knots.at(i - 1);
+        let c = knots.at(i);
+        let r = knots.at(i + 1);
         tangents[i] = inner_tangent(l, c, r, dl, dl + dr, dr);
-        i += 1;
     }
-    tangents[i] = end_tangent(knot_at(xs, ys, i - 1), knot_at(xs, ys, i), ways[i - 1]);
+    tangents[last] = end_tangent(knots.at(last - 1), knots.at(last), ways[last - 1]);
+}
+
+// The tangents of CentripetalCatmullRom.
+pub fn centripetal(knots: &Knots, tangents: &mut [f32; 66])
+    ensures { Stored (Alpha.centripetal_at knots.now.xs knots.now.ys knots.now.count) 0
+        knots.now.count tangents.old tangents.new }
+{
+    by_spacing(knots, sqrt, tangents);
+}
+
+// The tangents of ChordalCatmullRom.
+pub fn chordal(knots: &Knots, tangents: &mut [f32; 66])
+    ensures { Stored (Alpha.chordal_at knots.now.xs knots.now.ys knots.now.count) 0
+        knots.now.count tangents.old tangents.new }
+{
+    by_spacing(knots, |chord| chord, tangents);
 }

@@ -27,6 +27,7 @@ fn wrong_step(row: usize, step: usize) -> bool
 }
 
 // How many bytes a plane must have.
+#[tactic(auto, unfolding(rows::specs::Rows::needed))]
 fn needed_bytes(w: usize, h: usize, row: usize, step: usize) -> usize
     requires { (h ≤ 4096) × (row ≤ step) × (step ≤ 32768) }
     ensures { result ≡ needed w h row step }
@@ -55,6 +56,7 @@ fn plane_answer(w: usize, h: usize, row: usize, step: usize, len: usize) -> Answ
 }
 
 // 9, 11, 12.
+#[tactic(auto, unfolding(crate::specs::Checks::lut_answer))]
 pub fn lut_answer(format: PixelFormat, w: usize, h: usize, step: usize, len: usize) -> Answer
     ensures { result ≡ lut_answer format w h step len }
 {
@@ -77,6 +79,7 @@ fn output_answer(format: PixelFormat, size: usize, held: Lengths) -> Answer
 }
 
 // 8, 9, 10, 11, 12, 13.
+#[tactic(auto, unfolding(crate::specs::Checks::picture_answer))]
 pub fn picture_answer(
     format: PixelFormat,
     w: usize,

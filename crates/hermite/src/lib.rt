@@ -7,6 +7,7 @@ ghost use Rattle.hermite.specs.Hermite as Hermite;
 use points::Knot;
 
 // The cubic piece from a to b with the tangents ma and mb, at t.
+#[tactic(auto, unfolding(crate::specs::Hermite::hermite))]
 pub fn hermite(a: Knot, b: Knot, ma: f32, mb: f32, t: f32) -> f32
     ensures { result ≡ Hermite.hermite a b ma mb t }
 {

@@ -3,7 +3,7 @@
 -- segment i, mᵢ the tangent at the knot i, and of the segment i
 --   α = mᵢ / Δᵢ,   β = mᵢ₊₁ / Δᵢ,   τ = 3 / √(α² + β²).
 -- Document 01 calls α and β a and b. Definitions only.
-use Rattle.std.specs.Prelude.{ℕ, zero, suc, ◌+◌, ◌-◌, Bool, true, false, cond, List, eqb, Float}
+use Rattle.std.specs.Prelude.{◌≡◌, ℕ, zero, suc, ◌+◌, ◌-◌, Bool, true, false, cond, List, eqb, Float}
 use Rattle.std.specs.Float.Ieee.{lt}
 use Rattle.floats.specs.Notation.{◌⊕◌, ◌⊗◌, ◌⊘◌}
 use Rattle.single.specs.Constants.{𝟎, ½, 𝟑, 𝟗}
@@ -75,9 +75,9 @@ circle_at = monotone_at false
 abbrev pub box_at : List Float → List Float → ℕ → ℕ → Float
 box_at = monotone_at true
 
--- ---- the rows that the code makes of the segments, by the row of secants ds: first mᵢ₊₁, and β
-unfoldable pub right_mean : List Float → ℕ → ℕ → Float
-right_mean ds n i = cond (eqb (i + 2) n) (at ds i) (½ ⊗ (at ds i ⊕ at ds (i + 1)))
+-- ---- what the code asks of a closure that limits the tangents of a segment, by what it may say
+unfoldable pub limited : Bool → Float → Float → Float → Tangents
+limited box Δ l r = cond box (boxed Δ l r) (circled Δ l r)
 
-unfoldable pub quotient_of : List Float → List Float → ℕ → Float
-quotient_of rs ds i = at rs i ⊘ at ds i
+abbrev pub Limits : (Float → Float → Float → Float → Tangents → Type 0) → Bool → Type 0
+Limits post box = (Δ l r : Float) (t : Tangents) → post Δ l r (r ⊘ Δ) t → t ≡ limited box Δ l r

@@ -1,15 +1,15 @@
 // The tangents of MonotoneCubic and MonotoneCubicBox at the knots (Fritsch and Carlson 1980). In
 // their letters: Δ is the secant of a segment, alpha and beta are the tangents at its ends over Δ,
-// and tau is 3 / √(alpha² + beta²). n knots are in the rows xs and ys; what is behind them is
-// not read. The tangents go to the front of a lent row.
+// and tau is 3 / √(alpha² + beta²). The tangents go to the front of a lent row.
 #![tactic(auto)]
 
-ghost use Rattle.std.specs.Prelude.{◌≡◌, ◌-◌, ◌≤◌, ◌<◌};
+ghost use Rattle.std.specs.Prelude.{◌≡◌, ◌+◌, ◌<◌, ℕ};
 ghost use Rattle.floats.specs.Notation.{◌⊘◌};
 ghost use Rattle.lists.specs.Stored.{Stored};
 ghost use Rattle.monotone.specs.Monotone as Monotone;
+ghost use Rattle.monotone.specs.Monotone.{limited, Limits};
 
-use points::knot_at;
+use points::Knots;
 use segments::slope;
 use single::root::sqrt;
 use single::tiny;
@@ -21,12 +21,21 @@ pub struct Tangents {
     pub right: f32,
 }
 
+impl Tangents {
+    // Both 0.
+    const FLAT: Tangents = Tangents {
+        left: 0.0,
+        right: 0.0,
+    };
+}
+
 // Δ of the segment i.
-fn secant(xs: &[f32; 66], ys: &[f32; 66], i: usize) -> f32
-    requires { i < 65 }
-    ensures { result ≡ Monotone.secant_at xs.now ys.now i }
+#[tactic(auto, unfolding(crate::specs::Monotone::secant_at))]
+fn secant(knots: &Knots, i: usize) -> f32
+    requires { i + 1 < 66 }
+    ensures { result ≡ Monotone.secant_at knots.now.xs knots.now.ys i }
 {
-    slope(knot_at(xs, ys, i), knot_at(xs, ys, i + 1))
+    slope(knots.at(i), knots.at(i + 1))
 }
 
 // The tangent m, or 0 where its ratio to the secant is negative.
@@ -48,6 +57,7 @@ fn capped(m: f32, ratio: f32, delta: f32) -> f32
 }
 
 // The tangents l and r of a segment, each capped by itself.
+#[tactic(auto, unfolding(crate::specs::Monotone::boxed))]
 fn by_box(delta: f32, l: f32, r: f32, beta: f32) -> Tangents
     requires { beta ≡ r ⊘ delta }
     ensures { result ≡ Monotone.boxed delta l r }
@@ -61,6 +71,7 @@ fn by_box(delta: f32, l: f32, r: f32, beta: f32) -> Tangents
 
 // The same tangents, both drawn back to the circle alpha² + beta² = 9 where they lie outside it, by
 // alpha and beta as they are before the zeroing.
+#[tactic(auto, unfolding(crate::specs::Monotone::circled))]
 fn by_circle(delta: f32, l: f32, r: f32, beta: f32) -> Tangents
     requires { beta ≡ r ⊘ delta }
     ensures { result ≡ Monotone.circled delta l r }
@@ -79,86 +90,46 @@ fn by_circle(delta: f32, l: f32, r: f32, beta: f32) -> Tangents
     Tangents { left, right }
 }
 
-// The tangents l and r at the ends of a segment, as the segment leaves them.
-fn adjusted(boxed: bool, delta: f32, l: f32, r: f32, beta: f32) -> Tangents
-    requires { beta ≡ r ⊘ delta }
-    ensures { result ≡ Monotone.adjusted boxed delta l r }
-{
-    if tiny(delta) {
-        return Tangents {
-            left: 0.0,
-            right: 0.0,
-        };
-    }
-    if boxed {
-        by_box(delta, l, r, beta)
-    } else {
-        by_circle(delta, l, r, beta)
-    }
-}
-
-// The secants of the segments between n knots, to the front of a row.
-fn secants(xs: &[f32; 66], ys: &[f32; 66], n: usize, row: &mut [f32; 66])
-    requires { (2 ≤ n) × (n ≤ 66) }
-    ensures { Stored (Monotone.secant_at xs.now ys.now) 0 (n - 1) row.old
-        row.new }
-{
-    let mut i: usize = 0;
-    while i + 1 < n {
-        row[i] = secant(xs, ys, i);
-        i += 1;
-    }
-}
-
-// The first tangents at their right knots.
-fn means(ds: &[f32; 66], n: usize, row: &mut [f32; 66])
-    requires { (2 ≤ n) × (n ≤ 66) }
-    ensures { Stored (Monotone.right_mean ds.now n) 0 (n - 1) row.old
-        row.new }
-{
-    let mut i: usize = 0;
-    while i + 2 < n {
-        row[i] = 0.5 * (ds[i] + ds[i + 1]);
-        i += 1;
-    }
-    row[i] = ds[i];
-}
-
-// beta of each segment: these over the secants.
-fn quotients(rs: &[f32; 66], ds: &[f32; 66], n: usize, row: &mut [f32; 66])
-    requires { (2 ≤ n) × (n ≤ 66) }
-    ensures { Stored (Monotone.quotient_of rs.now ds.now) 0 (n - 1)
-        row.old row.new }
-{
-    let mut i: usize = 0;
-    while i + 1 < n {
-        row[i] = rs[i] / ds[i];
-        i += 1;
-    }
-}
-
-// The tangents of MonotoneCubic, or where boxed of MonotoneCubicBox, segment by segment from the
-// left. m is the tangent of knot i as the segments before it leave it. What does not wait for m is
-// found before, in rows: with m / d and r / d in one turn LLVM makes one vector of them, and each
-// turn waits for the one before it.
-pub fn monotone(boxed: bool, xs: &[f32; 66], ys: &[f32; 66], n: usize, tangents: &mut [f32; 66])
-    requires { (2 ≤ n) × (n ≤ 66) }
-    ensures { Stored (Monotone.monotone_at boxed xs.now ys.now n) 0 n
+// The tangents by what limits those at the ends of a segment, segment by segment from the left. A
+// secant near 0 sets both to 0. m is the tangent of knot i as the segments before it leave it. What
+// does not wait for m is found before, in rows: with m / d and r / d in one turn LLVM makes one
+// vector of them, and each turn waits for the one before it.
+fn walk<F: Fn(f32, f32, f32, f32) -> Tangents>(knots: &Knots, limit: F, tangents: &mut [f32; 66])
+    requires { (delta l r : _) → F.pre limit delta l r (r ⊘ delta) }
+    ensures { (box : _) → Limits (F.post limit) box → Stored
+        (Monotone.monotone_at box knots.now.xs knots.now.ys knots.now.count) 0 knots.now.count
         tangents.old tangents.new }
 {
-    let mut ds = [0.0; 66];
-    secants(xs, ys, n, &mut ds);
-    let mut rs = [0.0; 66];
-    means(&ds, n, &mut rs);
-    let mut bs = [0.0; 66];
-    quotients(&rs, &ds, n, &mut bs);
+    let last = knots.count - 1;
+    let ds = knots.per_segment(|i| secant(knots, i));
+    let mut rs = knots.per_segment(|i| 0.5 * (ds[i] + ds[i + 1]));
+    rs[last - 1] = ds[last - 1];
+    let bs = knots.per_segment(|i| rs[i] / ds[i]);
     let mut m = ds[0];
-    let mut i: usize = 0;
-    while i + 1 < n {
-        let t = adjusted(boxed, ds[i], m, rs[i], bs[i]);
+    for i in 0..last {
+        let t = if tiny(ds[i]) {
+            Tangents::FLAT
+        } else {
+            limit(ds[i], m, rs[i], bs[i])
+        };
         tangents[i] = t.left;
         m = t.right;
-        i += 1;
     }
-    tangents[i] = m;
+    tangents[last] = m;
+}
+
+// The tangents of MonotoneCubic.
+pub fn cubic(knots: &Knots, tangents: &mut [f32; 66])
+    ensures { Stored (Monotone.circle_at knots.now.xs knots.now.ys knots.now.count) 0
+        knots.now.count tangents.old tangents.new }
+{
+    walk(knots, by_circle, tangents)
+}
+
+// The tangents of MonotoneCubicBox.
+pub fn cubic_box(knots: &Knots, tangents: &mut [f32; 66])
+    ensures { Stored (Monotone.box_at knots.now.xs knots.now.ys knots.now.count) 0
+        knots.now.count tangents.old tangents.new }
+{
+    walk(knots, by_box, tangents)
 }

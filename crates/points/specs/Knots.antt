@@ -10,7 +10,7 @@ use Rattle.single.specs.Constants.{𝟎, 𝟐𝟓𝟔, micro}
 use Rattle.single.specs.Rules.{float}
 use Rattle.points.specs.declared.Point.{Point}
 use Rattle.points.specs.declared.Knot.{Knot}
-use Rattle.points.specs.declared.Knots.{Knots}
+use Rattle.points.specs.declared.knot_rows.Knots.{Knots}
 use Rattle.points.specs.Points.{pt, nth, kept}
 
 -- ---- the knots

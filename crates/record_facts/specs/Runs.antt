@@ -54,8 +54,8 @@ pub accepted_not_refused : (s : List ℕ) {before after : List ℕ} {r : RecordR
     ≡ first_refusal (room_check (length (encode (read_record s).set)) (length before) ∷ [])
 accepted_not_refused s handed wrote = rw handed.set at (passed_not_refused wrote handed.legal)
 
--- and of a record that was accepted its length is answered for every buffer that has room for that record, with
--- a byte more where it leaves kind 2 out
+-- and of a record that was accepted its length is answered, into every buffer that has room for that
+-- record, with a byte more where it leaves kind 2 out
 pub accepted_fits : (s : List ℕ) {before after : List ℕ} {r : RecordRead} {w : Result ℕ Refusal}
     → ReadRecordCall s r → r.answer ≡ done
     → WriteRecordCall r.set before w after

@@ -3,76 +3,41 @@
 // low byte first, and stdout, what this program must print: each input's number, length and text.
 #![tactic(auto)]
 
-ghost use Rattle.std.specs.Prelude.{◌≤◌, IfOk, length};
-
+use questions::{read_array, read_up_to};
 use std::io;
-use std::io::{Read, Stdin};
+use std::io::Read;
 use text::INPUT;
 
-// Fills a buffer from its front, as far as the input goes, and answers how many bytes there were.
-fn fill(input: &mut Stdin, buffer: &mut [u8]) -> io::Result<usize>
-    ensures { IfOk result (λ n. n ≤ length buffer.new) }
-{
-    let mut filled: usize = 0;
-    while filled < buffer.len() {
-        let more = input.read(&mut buffer[filled..])?;
-        if more == 0 {
-            return Ok(filled);
-        }
-        filled += more;
-    }
-    Ok(filled)
-}
+// How many bytes of an input are taken from the list at most: those that are read, and 4096 behind
+// them that are not.
+const TAKEN: u64 = INPUT as u64 + 4096;
 
-// Reads n bytes to the front of a buffer, or as many as it holds, and answers how many there were.
-fn fetch(input: &mut Stdin, buffer: &mut [u8], n: usize) -> io::Result<usize> {
-    if n <= buffer.len() {
-        return fill(input, &mut buffer[..n]);
-    }
-    fill(input, buffer)
-}
-
-// A length, low byte first.
-fn number(low: u8, high: u8) -> usize {
-    low as usize + 256 * high as usize
-}
-
-// The bytes of an input that are not read.
-fn skip(input: &mut Stdin, n: usize) -> io::Result<()> {
-    let mut behind = [0u8; 4096];
-    fetch(input, &mut behind, n)?;
-    Ok(())
-}
-
-fn print_text(rt: &impl Print, input: [u8; INPUT], n: usize) -> io::Result<()> {
+// Prints the text of an input's first bytes.
+fn print_text(rt: &impl Print, bytes: &[u8]) -> io::Result<()> {
+    let n = bytes.len().min(INPUT);
+    let mut input = [0; INPUT];
+    input[..n].copy_from_slice(&bytes[..n]);
     let text = text::text_of_input(input, n);
-    let bytes = text.bytes;
-    let length = text.length;
-    rt.write_all(&bytes[..length])
+    rt.write_all(text.as_slice())
 }
 
 // The next input of the list, if there is one.
-fn next(rt: &impl Print, stdin: &mut Stdin, i: usize) -> io::Result<bool> {
-    let mut length = [0u8; 2];
-    if fetch(stdin, &mut length, 2)? < 2 {
+fn next<R: Read>(rt: &(impl Print + AllocGlobal), list: &mut R, i: usize) -> io::Result<bool> {
+    let Some(length) = read_array(rt.alloc(), list)? else {
         return Ok(false);
-    }
-    let n = number(length[0], length[1]);
-    let mut input = [0u8; INPUT];
-    let read = fetch(stdin, &mut input, n)?;
-    if read < n {
-        skip(stdin, n - read)?;
-    }
+    };
+    let n = u16::from_le_bytes(length);
+    let bytes = read_up_to(rt.alloc(), list, TAKEN.min(u64::from(n)))?;
     println!(rt; "{i}, bytes: {n}")?;
-    print_text(rt, input, read)?;
+    print_text(rt, bytes.as_slice())?;
     Ok(true)
 }
 
 // The stored list, which has far fewer inputs than this bound.
 fn main(rt: HostRuntime) -> io::Result<()> {
-    let mut stdin = rt.stdin();
+    let mut list = rt.stdin();
     for i in 0..100000 {
-        if !next(&rt, &mut stdin, i)? {
+        if !next(&rt, &mut list, i)? {
             return Ok(());
         }
     }

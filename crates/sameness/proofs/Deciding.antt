@@ -1,13 +1,9 @@
--- Answers that go with a proposition: of numbers, of two propositions together, and of
+-- Answers that go with a proposition: of two numbers, of two propositions together, and of
 -- one that another comes to.
 use Prim.Native.Nat.{ℕ}
-use mathlib.Core.Path.{◌≡◌, refl, sym, ap, ◌∙◌}
+use mathlib.Core.Path.{◌≡◌, refl, sym, ◌∙◌}
 use mathlib.Core.Bool.{Bool, true, false, ◌&&◌, not, false≢true}
 use lib.Dec.{eqb}
-use lib.IntN.{ℤ}
-use mir.Syntax.{Width}
-use mir.Val.{SFits, of_z, to_z}
-use mir.Facts.{to_z-of_z}
 use borrow.Author.Tests.{eqb-true, eq-eqb, not-true}
 use Rattle.sameness.specs.Decides.{Decides}
 
@@ -41,9 +37,3 @@ decides_on b = record { sound = λ e. e; complete = λ e. e }
 
 pub decides_off : (b : Bool) → Decides (b ≡ false) (not b)
 decides_off b = record { sound = not-true b; complete = λ e. rw e }
-
--- signed numbers are compared by their bits
-pub decides_signed : (w : Width) (x y : ℤ) → SFits w x → SFits w y → Decides (x ≡ y) (eqb (of_z w x) (of_z w y))
-decides_signed w x y f g =
-    decides_as (λ e. sym (to_z-of_z f) ∙ ap (to_z w) e ∙ to_z-of_z g) (ap (of_z w))
-    (decides_equal (of_z w x) (of_z w y))

@@ -1,5 +1,7 @@
 // Whether two sets of curves are the same. `same` answers for any two sets,
 // whatever their lists claim.
+// Stays: functions, not PartialEq of `Curves`: the types are of other crates, and `Same` passes over
+// what is past a count and behind an absent mark.
 #![tactic(auto)]
 
 ghost use Rattle.std.specs.Prelude.{◌≡◌, ◌≤◌, take};
@@ -9,22 +11,13 @@ ghost use Rattle.sameness.specs.Decides.{Decides};
 
 use points::{Curve, Point};
 use sets::{Channel, Curves};
-use tables::{Carried, CurveInterpolation, carried_by};
-
-// Two points.
-fn same_point(p: Point, q: Point) -> bool
-    ensures { Decides (p ≡ q) result }
-{
-    (p.x == q.x) & (p.y == q.y)
-}
 
 // The first n points of two lists.
 fn same_points(a: Curve, b: Curve, n: usize) -> bool
     requires { n ≤ 64 }
     ensures { Decides (take n (places_of a) ≡ take n (places_of b)) result }
 {
-    let mut i: usize = 0;
-    while i < n {
+    for i in 0..n {
         let p = Point {
             x: a.xs[i],
             y: a.ys[i],
@@ -33,10 +26,9 @@ fn same_points(a: Curve, b: Curve, n: usize) -> bool
             x: b.xs[i],
             y: b.ys[i],
         };
-        if !same_point(p, q) {
+        if p != q {
             return false;
         }
-        i += 1;
     }
     true
 }
@@ -45,16 +37,11 @@ fn same_points(a: Curve, b: Curve, n: usize) -> bool
 fn same_curve(a: Curve, b: Curve) -> bool
     ensures { Decides (SameCurve a b) result }
 {
-    let n = a.count;
-    let m = b.count;
-    if n != m {
+    if a.count != b.count {
         return false;
     }
-    if n < Curve::LIMIT {
-        same_points(a, b, n)
-    } else {
-        same_points(a, b, Curve::LIMIT)
-    }
+    let n = a.count.min(Curve::LIMIT);
+    same_points(a, b, n)
 }
 
 // Two colours; what is behind an absent mark is ignored.
@@ -68,20 +55,6 @@ fn same_channel(a: Channel, b: Channel) -> bool
     }
 }
 
-// What two kinds carry.
-fn same_carried(p: Carried, q: Carried) -> bool
-    ensures { Decides (p ≡ q) result }
-{
-    (p.tension == q.tension) & (p.start == q.start) & (p.end == q.end)
-}
-
-// Two kinds, with what they carry.
-fn same_kind(a: CurveInterpolation, b: CurveInterpolation) -> bool
-    ensures { Decides (a ≡ b) result }
-{
-    (a.number() == b.number()) & same_carried(carried_by(a), carried_by(b))
-}
-
 // Two sets: lists, colours present, and the kind with its tension or slopes.
 pub fn same(a: Curves, b: Curves) -> bool
     ensures { Decides (Same a b) result }
@@ -92,5 +65,5 @@ pub fn same(a: Curves, b: Curves) -> bool
     let blue = same_channel(a.blue, b.blue);
     let i = a.interpolation;
     let j = b.interpolation;
-    master & red & green & blue & same_kind(i, j)
+    master & red & green & blue & (i == j)
 }

@@ -4,3 +4,5 @@ pub mod Pieces
 pub mod Walk
 -- the x of the samples rise
 pub mod Positions
+-- a sample by parts is that of the height
+pub mod ByPart

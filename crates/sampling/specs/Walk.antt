@@ -15,8 +15,9 @@ use Rattle.hermite.specs.Hermite.{hermite}
 use Rattle.spline.specs.Segments.{first_coefficient, third_coefficient, polynomial_from}
 use Rattle.sampling.specs.declared.Form.{Form}
 use Rattle.sampling.specs.declared.Piece.{Piece}
+use Rattle.sampling.specs.declared.Pieces.{Pieces}
 use Rattle.sampling.specs.declared.blocks.Cursor.{Cursor}
-use Rattle.sampling.specs.Pieces.{piece_height, height_at, sampled}
+use Rattle.sampling.specs.Pieces.{piece_at, piece_height, height_at, sampled}
 
 -- ---- where the pieces end, s being the step
 -- whether sample e is the first past x
@@ -64,10 +65,6 @@ part_from piece s v j = part piece.a piece.b (sample_at s (v + j))
 unfoldable pub parts_of : Piece → Float → ℕ → List Float
 parts_of piece s v = tabulate 4 (part_from piece s v)
 
--- what f makes of the parts t, at the places from v on
-unfoldable pub from_parts : (Float → Float) → List Float → ℕ → ℕ → Float
-from_parts f t v w = f (get_or t (w - v) nan)
-
 -- the sample at the part t
 abbrev pub straight_sample : Piece → Float → Float
 straight_sample piece t = clamped (straight piece.a piece.b t)
@@ -103,3 +100,25 @@ pub record State (form : Form) (xs ys ms : List Float) (n S : ℕ) (p : Cursor)
       → get_or samples w nan ≡ sampled (height_at form xs ys ms n) S w
   pub ahead : (w : ℕ) → p.v ≤ w → w < S
       → segment xs n (sample_at (step S) w) ≡ seek xs (sample_at (step S) w) (n - 2 - p.i) p.i
+
+-- ---- of the pieces that the code is lent
+-- the piece i, the curve, and the words above
+abbrev pub piece_of : Pieces → ℕ → Piece
+piece_of c i = piece_at c.knots.now.xs c.knots.now.ys c.values.now i
+
+abbrev pub curve_of : Form → Pieces → Float → Float
+curve_of form c = height_at form c.knots.now.xs c.knots.now.ys c.values.now c.knots.now.count
+
+abbrev pub EndsOf : Pieces → List ℕ → Float → ℕ → Type 0
+EndsOf c ends s S = Ends c.knots.now.xs c.knots.now.count ends s S
+
+abbrev pub StateOf : Form → Pieces → ℕ → Cursor → List Float → Type 0
+StateOf form c S p samples =
+    State form c.knots.now.xs c.knots.now.ys c.values.now c.knots.now.count S p samples
+
+-- the coefficients of the piece i
+abbrev pub first_of : Pieces → ℕ → Float
+first_of c = first_coefficient_at c.knots.now.xs c.knots.now.ys c.values.now
+
+abbrev pub third_of : Pieces → ℕ → Float
+third_of c = third_coefficient_at c.knots.now.xs c.knots.now.ys c.values.now

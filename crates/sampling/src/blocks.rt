@@ -1,11 +1,11 @@
 // The way through the samples in blocks of four.
-ghost use Rattle.std.specs.Prelude.{◌≡◌, false, ◌+◌, ◌≤◌, ◌<◌, max};
+ghost use Rattle.std.specs.Prelude.{◌≡◌, false, ℕ, Float, ◌+◌, ◌≤◌, ◌<◌, length};
+ghost use Rattle.lists.specs.Stored.{Stored};
 ghost use Rattle.points.specs.Knots.{at, too_thin};
 ghost use Rattle.segments.specs.Straight as Straight;
-ghost use Rattle.sampling.specs.Pieces.{piece_at};
-ghost use Rattle.sampling.specs.Walk.{next_cursor, parts_of};
+ghost use Rattle.sampling.specs.Walk.{next_cursor, parts_of, piece_of};
 
-use crate::{Piece, piece_at, position};
+use crate::{Piece, Pieces, position};
 
 // Where the drawing of the samples is: at the next sample, v, and a piece, i, that it does not
 // lie left of.
@@ -15,39 +15,29 @@ pub struct Cursor {
     pub i: usize,
 }
 
-// An end as a count.
-fn wide(e: u32) -> usize
-    ensures { result ≡ e }
-{
-    e as usize
-}
-
-// The later of two samples.
-fn later(v: usize, w: usize) -> usize
-    ensures { result ≡ max v w }
-{
-    if v < w { w } else { v }
+impl Cursor {
+    pub const START: Cursor = Cursor { v: 0, i: 0 };
 }
 
 // The cursor after a block: four samples on, or where the piece ends before that,
 // its end and the next piece.
+#[tactic(auto, unfolding(crate::specs::Walk::next_cursor))]
 pub fn next(ends: &[u32; 66], p: Cursor) -> Cursor
     requires { (p.v ≤ 4096) × (p.i < 65) }
     ensures { result ≡ next_cursor ends.now p }
 {
-    let v = p.v;
-    let i = p.i;
-    let end = wide(ends[i]);
-    if v + 4 < end {
-        return Cursor { v: v + 4, i };
+    let end = ends[p.i] as usize;
+    if p.v + 4 < end {
+        return Cursor { v: p.v + 4, i: p.i };
     }
     Cursor {
-        v: later(v, end),
-        i: i + 1,
+        v: p.v.max(end),
+        i: p.i + 1,
     }
 }
 
 // The part of a piece that lies left of x. No guard: the piece is not too thin.
+#[tactic(auto, unfolding(segments::specs::Straight::part, single::specs::Rules::guarded_quotient))]
 fn part(piece: Piece, x: f32) -> f32
     requires { too_thin piece.a.x piece.b.x ≡ false }
     ensures { result ≡ Straight.part piece.a piece.b x }
@@ -56,13 +46,12 @@ fn part(piece: Piece, x: f32) -> f32
 }
 
 // The parts of the piece at p left of the four samples there.
-pub fn parts(xs: &[f32; 66], ys: &[f32; 66], ms: &[f32; 66], step: f32, p: Cursor) -> [f32; 4]
-    requires { (too_thin (at xs.now p.i) (at xs.now (p.i + 1)) ≡ false) × (p.v ≤ 4096)
-        × (p.i < 65) }
-    ensures { result ≡ parts_of (piece_at xs.now ys.now ms.now p.i) step
-        p.v }
+pub fn parts(pieces: Pieces<'_>, step: f32, p: Cursor) -> [f32; 4]
+    requires { (too_thin (at pieces.knots.now.xs p.i) (at pieces.knots.now.xs (p.i + 1)) ≡ false)
+        × (p.v ≤ 4096) × (p.i < 65) }
+    ensures { result ≡ parts_of (piece_of pieces.entry p.i) step p.v }
 {
-    let piece = piece_at(xs, ys, ms, p.i);
+    let piece = pieces.at(p.i);
     let v = p.v;
     [
         part(piece, position(step, v)),
@@ -70,4 +59,17 @@ pub fn parts(xs: &[f32; 66], ys: &[f32; 66], ms: &[f32; 66], step: f32, p: Curso
         part(piece, position(step, v + 2)),
         part(piece, position(step, v + 3)),
     ]
+}
+
+// Four samples from v on: sample v + j is what the function gives of j.
+pub fn four<F: Fn(usize) -> f32>(sample: F, v: usize, samples: &mut [f32])
+    requires room { (v + 4 ≤ length samples.old) × (length samples.old ≤ 4096) }
+    requires callable { (j : ℕ) → j < 4 → F.pre sample j }
+    ensures { (f : ℕ → Float)
+        → ((j : ℕ) (y : Float) → j < 4 → F.post sample j y → y ≡ f (v + j))
+        → Stored f v (v + 4) samples.old samples.new }
+{
+    for j in 0..4 {
+        samples[v + j] = sample(j);
+    }
 }

@@ -3,7 +3,7 @@ ghost use Rattle.std.specs.Prelude.{◌≡◌, ◌≤◌};
 ghost use Rattle.sampling.specs.Walk as W;
 
 use crate::position;
-use points::too_thin;
+use points::{Knots, too_thin};
 
 // Whether sample e is the first past x.
 fn is_end(x: f32, step: f32, e: usize) -> bool
@@ -13,21 +13,20 @@ fn is_end(x: f32, step: f32, e: usize) -> bool
     (x < position(step, e)) & !(x < position(step, e - 1))
 }
 
-// The ends of the pieces between n knots but the last, to the front of a row: whether all are right
-// and no segment is too thin. Each end is guessed by a quotient and then looked at, so that nothing
-// need be known of quotients.
-pub fn guess(xs: &[f32; 66], n: usize, step: f32, ends: &mut [u32; 66]) -> bool
-    requires { (2 ≤ n) × (n ≤ 66) }
-    ensures { W.Guessed xs.now n step result ends.old ends.new }
+// The ends of the pieces but the last, to the front of a row: whether all are right and no segment
+// is too thin. Each end is guessed by a quotient and then looked at, so that nothing need be known
+// of quotients.
+// Stays: as an `Option` of the row, which is then copied, a table of 256 samples takes 2 to 13 %
+// longer (8 knots, cubic: 826 ns, not 764).
+pub fn guess(knots: &Knots, step: f32, ends: &mut [u32; 66]) -> bool
+    ensures { W.Guessed knots.now.xs knots.now.count step result ends.old ends.new }
 {
-    let mut right = !too_thin(xs[0], xs[1]);
-    let mut i: usize = 0;
-    while i + 2 < n {
-        let x = xs[i + 1];
+    let mut right = !too_thin(knots.xs[0], knots.xs[1]);
+    for i in 0..knots.count - 2 {
+        let x = knots.xs[i + 1];
         let e = single::index(x / step) + 1;
         ends[i] = e as u32;
-        right = right & is_end(x, step, e) & !too_thin(x, xs[i + 2]);
-        i += 1;
+        right = right & is_end(x, step, e) & !too_thin(x, knots.xs[i + 2]);
     }
     right
 }

@@ -1,24 +1,25 @@
 // The samples of a curve whose knots are in rows, in blocks of four. A block lies on one piece, and
 // where the piece ends within it, the next piece's first block goes over what is too much: so a
 // short piece takes one block, and the loop has no branch for the processor to guess wrong. Where
-// each piece ends is found beforehand. Each form has a module with a loop of its own: of one loop
-// over all forms LLVM makes code that takes twice the time.
+// each piece ends is found beforehand. Each form is a type of its own, and the code is compiled for
+// each by itself.
 #![tactic(auto)]
 
 ghost use Rattle.std.specs.Prelude.{◌≡◌, ◌+◌, ◌-◌, ◌<◌, ◌≤◌, length};
 ghost use Rattle.lists.specs.Tabulate.{tabulate};
+ghost use Rattle.single.specs.Rules.{clamped};
 ghost use Rattle.segments.specs.Segments as S;
-ghost use Rattle.sampling.specs.Pieces.{piece_at, piece_height, height_at, sampled};
-ghost use Rattle.sampling.specs.Walk.{Ends, State};
+ghost use Rattle.sampling.specs.declared.Form.{Form};
+ghost use Rattle.sampling.specs.Pieces.{piece_height, height_at, sampled};
+ghost use Rattle.sampling.specs.Walk.{piece_of, curve_of, EndsOf, StateOf};
 
 use blocks::Cursor;
-use points::{Knot, knot_at};
+use points::{Knot, Knots};
 
 mod blocks;
-mod cubics;
+mod by_part;
 mod ends;
 mod splines;
-mod straights;
 
 // How a piece is drawn.
 #[derive(Clone, Copy)]
@@ -37,20 +38,44 @@ pub struct Piece {
     pub q: f32,
 }
 
-// The piece i of the rows.
-fn piece_at(xs: &[f32; 66], ys: &[f32; 66], ms: &[f32; 66], i: usize) -> Piece
-    requires { i < 65 }
-    ensures { result ≡ piece_at xs.now ys.now ms.now i }
-{
-    Piece {
-        a: knot_at(xs, ys, i),
-        b: knot_at(xs, ys, i + 1),
-        p: ms[i],
-        q: ms[i + 1],
+// The pieces of a curve: its knots, and the numbers at them.
+#[derive(Clone, Copy)]
+struct Pieces<'a> {
+    knots: &'a Knots,
+    values: &'a [f32; 66],
+}
+
+impl Pieces<'_> {
+    // The piece i.
+    fn at(self, i: usize) -> Piece
+        requires { i < 65 }
+        ensures { result ≡ piece_of self.entry i }
+    {
+        Piece {
+            a: self.knots.at(i),
+            b: self.knots.at(i + 1),
+            p: self.values[i],
+            q: self.values[i + 1],
+        }
     }
 }
 
+// A form as a type.
+trait Drawn {
+    ghost form: { Form };
+
+    // The sample of a piece at x.
+    fn sample_at(piece: Piece, x: f32) -> f32
+        ensures { result ≡ clamped (piece_height form piece x) };
+
+    // The samples in blocks of four, as far as a block has room: the cursor that is reached.
+    fn draw(pieces: Pieces<'_>, ends: &[u32; 66], step: f32, samples: &mut [f32]) -> Cursor
+        requires { EndsOf pieces ends.now step (length samples.old) }
+        ensures { StateOf form pieces.entry (length samples.old) result samples.new };
+}
+
 // The distance of two samples, of which there are from 2 to 4,096.
+#[tactic(auto, unfolding(segments::specs::Segments::step))]
 fn step_of(samples: usize) -> f32
     requires { (2 ≤ samples) × (samples ≤ 4096) }
     ensures { result ≡ S.step samples }
@@ -59,6 +84,7 @@ fn step_of(samples: usize) -> f32
 }
 
 // The x of sample v.
+#[tactic(auto, unfolding(segments::specs::Segments::sample_at))]
 fn position(step: f32, v: usize) -> f32
     requires { v ≤ 8192 }
     ensures { result ≡ S.sample_at step v }
@@ -66,129 +92,72 @@ fn position(step: f32, v: usize) -> f32
     single::count_to_float(v) * step
 }
 
-// The height of a piece at x.
-fn height(form: Form, piece: Piece, x: f32) -> f32
-    ensures { result ≡ piece_height form piece x }
-{
-    match form {
-        Form::Straight => segments::straight(piece.a, piece.b, segments::part(piece.a, piece.b, x)),
-        Form::Cubic => hermite::hermite(
-            piece.a,
-            piece.b,
-            piece.p,
-            piece.q,
-            segments::part(piece.a, piece.b, x),
-        ),
-        Form::Spline => spline::spline_piece(piece.a, piece.b, piece.p, piece.q, x),
-    }
-}
-
 // The segment of x, sought from the segment from on.
-fn advance(xs: &[f32; 66], n: usize, from: usize, x: f32) -> usize
-    requires { (from + 1 < n) × (n ≤ 66) }
-    ensures { (result ≡ S.seek xs.now x (n - 2 - from) from) × (result + 1 < n) }
+fn advance(knots: &Knots, from: usize, x: f32) -> usize
+    requires { from + 1 < knots.now.count }
+    ensures { (result ≡ S.seek knots.now.xs x (knots.now.count - 2 - from) from)
+        × (result + 1 < knots.now.count) }
 {
-    let mut i = from;
-    while i + 2 < n {
-        if xs[i + 1] < x {
-            i += 1;
-        } else {
+    let last = knots.count - 2;
+    for i in from..last {
+        if !(knots.xs[i + 1] < x) {
             return i;
         }
     }
-    i
+    last
 }
 
 // The samples from a cursor on, one by one: those that a last block has no room for, or all.
-fn rest(
-    form: Form,
-    xs: &[f32; 66],
-    ys: &[f32; 66],
-    ms: &[f32; 66],
-    n: usize,
-    step: f32,
-    from: Cursor,
-    samples: &mut [f32],
-)
-    requires counts { (n ≤ 66) × (length samples.old ≤ 4096) × (step ≡ S.step (length samples.old)) }
-    requires state { State form xs.now ys.now ms.now n (length samples.old) from samples.old }
+fn rest<D: Drawn>(pieces: Pieces<'_>, step: f32, from: Cursor, samples: &mut [f32])
+    requires counts { (length samples.old ≤ 4096) × (step ≡ S.step (length samples.old)) }
+    requires state { StateOf D.form pieces (length samples.old) from samples.old }
     ensures { samples.new ≡ tabulate (length samples.old)
-        (sampled (height_at form xs.now ys.now ms.now n)
-        (length samples.old)) }
+        (sampled (curve_of D.form pieces.entry) (length samples.old)) }
 {
-    let first = from.i;
-    let mut v = from.v;
-    while v < samples.len() {
+    for v in from.v..samples.len() {
         let x = position(step, v);
-        let i = advance(xs, n, first, x);
-        samples[v] = single::clamp(height(form, piece_at(xs, ys, ms, i), x));
-        v += 1;
+        let i = advance(pieces.knots, from.i, x);
+        samples[v] = D::sample_at(pieces.at(i), x);
     }
 }
 
-// The samples in blocks of four, as far as a block has room: the cursor that is reached.
-fn draw(
-    form: Form,
-    xs: &[f32; 66],
-    ys: &[f32; 66],
-    ms: &[f32; 66],
-    n: usize,
-    ends: &[u32; 66],
-    step: f32,
-    samples: &mut [f32],
-) -> Cursor
-    requires { Ends xs.now n ends.now step (length samples.old) }
-    ensures { State form xs.now ys.now ms.now n
-        (length samples.old) result samples.new }
-{
-    match form {
-        Form::Straight => straights::draw(xs, ys, ms, n, ends, step, samples),
-        Form::Cubic => cubics::draw(xs, ys, ms, n, ends, step, samples),
-        Form::Spline => splines::draw(xs, ys, ms, n, ends, step, samples),
-    }
-}
-
-// The same where the ends of the pieces are found, else no sample. Whole knots and 256 or 4,096
-// samples: every end is found, as trial of each x has shown.
-fn begin(
-    form: Form,
-    xs: &[f32; 66],
-    ys: &[f32; 66],
-    ms: &[f32; 66],
-    n: usize,
-    step: f32,
-    samples: &mut [f32],
-) -> Cursor
-    requires knots { (2 ≤ n) × (n ≤ 66) }
+// The samples in blocks where the ends of the pieces are found, else no sample. Whole knots and 256
+// or 4,096 samples: every end is found, as trial of each x has shown.
+fn begin<D: Drawn>(pieces: Pieces<'_>, step: f32, samples: &mut [f32]) -> Cursor
     requires counts { (2 ≤ length samples.old) × (length samples.old ≤ 4096)
         × (step ≡ S.step (length samples.old)) }
-    ensures { State form xs.now ys.now ms.now n
-        (length samples.old) result samples.new }
+    ensures { StateOf D.form pieces.entry (length samples.old) result samples.new }
 {
     // the last piece has no end: 8192 is past every sample
     let mut ends = [8192; 66];
-    if ends::guess(xs, n, step, &mut ends) {
-        return draw(form, xs, ys, ms, n, &ends, step, samples);
+    if ends::guess(pieces.knots, step, &mut ends) {
+        return D::draw(pieces, &ends, step, samples);
     }
-    Cursor { v: 0, i: 0 }
+    Cursor::START
 }
 
-// All samples of the curve with n knots.
-pub fn fill<'a>(
-    form: Form,
-    xs: &'a [f32; 66],
-    ys: &'a [f32; 66],
-    ms: &[f32; 66],
-    n: usize,
-    samples: &mut [f32],
-)
-    requires knots { (2 ≤ n) × (n ≤ 66) }
+// All samples of the pieces.
+fn fill_by<D: Drawn>(pieces: Pieces<'_>, samples: &mut [f32])
     requires counts { (2 ≤ length samples.old) × (length samples.old ≤ 4096) }
     ensures { samples.new ≡ tabulate (length samples.old)
-        (sampled (height_at form xs.now ys.now ms.now n)
-        (length samples.old)) }
+        (sampled (curve_of D.form pieces.entry) (length samples.old)) }
 {
     let step = step_of(samples.len());
-    let from = begin(form, xs, ys, ms, n, step, samples);
-    rest(form, xs, ys, ms, n, step, from, samples);
+    let from = begin::<D>(pieces, step, samples);
+    rest::<D>(pieces, step, from, samples);
+}
+
+// All samples of the curve with these knots.
+pub fn fill(form: Form, knots: &Knots, ms: &[f32; 66], samples: &mut [f32])
+    requires counts { (2 ≤ length samples.old) × (length samples.old ≤ 4096) }
+    ensures { samples.new ≡ tabulate (length samples.old)
+        (sampled (height_at form knots.now.xs knots.now.ys ms.now knots.now.count)
+        (length samples.old)) }
+{
+    let pieces = Pieces { knots, values: ms };
+    match form {
+        Form::Straight => fill_by::<by_part::Straight>(pieces, samples),
+        Form::Cubic => fill_by::<by_part::Cubic>(pieces, samples),
+        Form::Spline => fill_by::<splines::Spline>(pieces, samples),
+    }
 }

@@ -2,45 +2,31 @@
 // its polynomial in x - x0.
 ghost use Rattle.std.specs.Prelude.{◌≡◌, ◌+◌, ◌-◌, ◌≤◌, length};
 ghost use Rattle.lists.specs.Stored.{Stored};
-ghost use Rattle.sampling.specs.declared.Form.TheVariants.{Spline};
-ghost use Rattle.sampling.specs.Walk.{
-  first_coefficient_at,
-  third_coefficient_at,
-  spline_sample,
-  Ends,
-  State,
-};
+ghost use Rattle.sampling.specs.declared.Form.TheVariants as F;
+ghost use Rattle.sampling.specs.Walk.{first_of, third_of, spline_sample};
 
-use crate::blocks::{Cursor, next};
-use crate::{piece_at, position};
-use points::{Knot, knot_at};
+use crate::blocks::{Cursor, four, next};
+use crate::{Drawn, Piece, Pieces, position};
+use points::Knot;
 
-// The coefficients of the pieces between n knots, those of x - x0 and those of its cube,
-// to the fronts of two rows.
-fn coefficients(
-    xs: &[f32; 66],
-    ys: &[f32; 66],
-    ms: &[f32; 66],
-    n: usize,
-    c1s: &mut [f32; 66],
-    c3s: &mut [f32; 66],
-)
-    requires { (2 ≤ n) × (n ≤ 66) }
-    ensures first { Stored (first_coefficient_at xs.now ys.now ms.now) 0 (n - 1)
-        c1s.old c1s.new }
-    ensures third { Stored (third_coefficient_at xs.now ys.now ms.now) 0 (n - 1)
-        c3s.old c3s.new }
+// The coefficients of the pieces, those of x - x0 and those of its cube, to the fronts of two rows.
+// Stays: as two rows by `Knots::per_segment` a table of 256 samples takes 4 % longer (2 knots: 552
+// ns, not 532).
+fn coefficients(pieces: Pieces<'_>, c1s: &mut [f32; 66], c3s: &mut [f32; 66])
+    ensures first { Stored (first_of pieces.entry) 0 (pieces.entry.knots.now.count - 1) c1s.old
+        c1s.new }
+    ensures third { Stored (third_of pieces.entry) 0 (pieces.entry.knots.now.count - 1) c3s.old
+        c3s.new }
 {
-    let mut i: usize = 0;
-    while i + 1 < n {
-        let piece = piece_at(xs, ys, ms, i);
+    for i in 0..pieces.knots.count - 1 {
+        let piece = pieces.at(i);
         c1s[i] = spline::first_coefficient(piece.a, piece.b, piece.p, piece.q);
         c3s[i] = spline::third_coefficient(piece.a, piece.b, piece.p, piece.q);
-        i += 1;
     }
 }
 
 // Sample v of the piece from the knot a on with these coefficients.
+#[tactic(auto, unfolding(crate::specs::Walk::spline_sample))]
 fn sample(a: Knot, c1: f32, c2: f32, c3: f32, step: f32, v: usize) -> f32
     requires { v ≤ 4096 }
     ensures { result ≡ spline_sample a c1 c2 c3 step v }
@@ -49,49 +35,35 @@ fn sample(a: Knot, c1: f32, c2: f32, c3: f32, step: f32, v: usize) -> f32
     single::clamp(height)
 }
 
-// Four samples.
-fn four(a: Knot, c1: f32, c2: f32, c3: f32, step: f32, v: usize, samples: &mut [f32])
-    requires { (v + 4 ≤ length samples.old) × (length samples.old ≤ 4096) }
-    ensures { Stored (spline_sample a c1 c2 c3 step) v (v + 4) samples.old samples.new }
-{
-    let mut j: usize = 0;
-    while j < 4 {
-        samples[v + j] = sample(a, c1, c2, c3, step, v + j);
-        j += 1;
-    }
-}
+// The pieces of a spline.
+pub struct Spline;
 
-// Samples in blocks of four, as far as a block has room: the cursor that is reached.
-pub fn draw(
-    xs: &[f32; 66],
-    ys: &[f32; 66],
-    ms: &[f32; 66],
-    n: usize,
-    ends: &[u32; 66],
-    step: f32,
-    samples: &mut [f32],
-) -> Cursor
-    requires { Ends xs.now n ends.now step (length samples.old) }
-    ensures { State Spline xs.now ys.now ms.now n
-        (length samples.old) result samples.new }
-{
-    let mut c1s = [0.0; 66];
-    let mut c3s = [0.0; 66];
-    coefficients(xs, ys, ms, n, &mut c1s, &mut c3s);
-    let count = samples.len();
-    let mut p = Cursor { v: 0, i: 0 };
-    while p.v + 4 <= count {
-        let i = p.i;
-        four(
-            knot_at(xs, ys, i),
-            c1s[i],
-            spline::second_coefficient(ms[i]),
-            c3s[i],
-            step,
-            p.v,
-            samples,
-        );
-        p = next(ends, p);
+impl Drawn for Spline {
+    ghost form = { F.Spline };
+
+    #[tactic(auto, unfolding(crate::specs::Pieces::piece_height))]
+    fn sample_at(piece: Piece, x: f32) -> f32 {
+        single::clamp(spline::spline_piece(piece.a, piece.b, piece.p, piece.q, x))
     }
-    p
+
+    fn draw(pieces: Pieces<'_>, ends: &[u32; 66], step: f32, samples: &mut [f32]) -> Cursor {
+        let mut c1s = [0.0; 66];
+        let mut c3s = [0.0; 66];
+        coefficients(pieces, &mut c1s, &mut c3s);
+        let count = samples.len();
+        let mut p = Cursor::START;
+        // Stays: a turn goes four samples on or to the end of a piece, and stops short of a block
+        // without room.
+        while p.v + 4 <= count {
+            let i = p.i;
+            let a = pieces.knots.at(i);
+            let c1 = c1s[i];
+            let c2 = spline::second_coefficient(pieces.values[i]);
+            let c3 = c3s[i];
+            let v = p.v;
+            four(|j| sample(a, c1, c2, c3, step, v + j), v, samples);
+            p = next(ends, p);
+        }
+        p
+    }
 }

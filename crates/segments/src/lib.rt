@@ -8,6 +8,7 @@ use points::Knot;
 use single::guarded_quotient;
 
 // The part of the segment from a to b that lies left of x.
+#[tactic(auto, unfolding(crate::specs::Straight::part))]
 pub fn part(a: Knot, b: Knot, x: f32) -> f32
     ensures { result ≡ S.part a b x }
 {
@@ -15,6 +16,7 @@ pub fn part(a: Knot, b: Knot, x: f32) -> f32
 }
 
 // The straight piece from a to b, at t.
+#[tactic(auto, unfolding(crate::specs::Straight::straight))]
 pub fn straight(a: Knot, b: Knot, t: f32) -> f32
     ensures { result ≡ S.straight a b t }
 {
@@ -22,6 +24,7 @@ pub fn straight(a: Knot, b: Knot, t: f32) -> f32
 }
 
 // The rise from l to r over the run.
+#[tactic(auto, unfolding(crate::specs::Straight::slope))]
 pub fn slope(l: Knot, r: Knot) -> f32
     ensures { result ≡ S.slope l r }
 {

@@ -50,6 +50,7 @@ pub struct Curves {
 }
 
 // The refusals of one list that may have such heights: its count, then its order, then its heights.
+#[tactic(auto, unfolding(crate::specs::Sets::curve_answer))]
 pub fn check_curve(curve: Curve, heights: Heights) -> Answer
     ensures { result ≡ curve_answer heights curve }
 {
@@ -79,6 +80,7 @@ impl Channel {
         }
     }
 
+    #[tactic(auto, unfolding(crate::specs::Sets::channel_answer, crate::specs::Sets::curve_answer))]
     pub fn check(self, heights: Heights) -> Answer
         ensures { result ≡ channel_answer heights self }
     {
@@ -150,6 +152,7 @@ impl Curves {
     }
 
     // The present lists in their order: master, red, green, blue.
+    #[tactic(auto, using(crate::proofs::AnswerLaws::set_answer_lem))]
     pub fn check(self, heights: Heights) -> Answer
         ensures { result ≡ set_answer heights self }
     {

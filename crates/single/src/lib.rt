@@ -20,6 +20,7 @@ pub fn abs(x: f32) -> f32
 }
 
 // Clamp to 0..255: −0 and NaN stay.
+#[tactic(auto, unfolding(crate::specs::Rules::clamped))]
 pub fn clamp(x: f32) -> f32
     ensures { result ≡ clamped x }
 {
@@ -33,6 +34,7 @@ pub fn clamp(x: f32) -> f32
 }
 
 // x kept to 0..top; NaN gives 0.
+#[tactic(auto, unfolding(crate::specs::Rules::held))]
 fn hold(x: f32, top: f32) -> f32
     ensures { result ≡ held top x }
 {
@@ -79,6 +81,7 @@ pub fn index(x: f32) -> usize
 }
 
 // a over b, and 0 where b is smaller in size than limit.
+#[tactic(auto, unfolding(crate::specs::Rules::guarded_quotient))]
 pub fn guarded_quotient(a: f32, b: f32, limit: f32) -> f32
     ensures { result ≡ guarded_quotient a b limit }
 {

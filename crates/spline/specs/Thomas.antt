@@ -55,7 +55,3 @@ solution rows m = substituted (swept_row rows) m
 -- the rule of the swept rows whose parts are in two of them
 unfoldable pub swept_in : List Float → List Float → ℕ → Swept
 swept_in aboves rights k = record { above = at aboves k; right = at rights k }
-
--- a rule whose first value goes to place `start`
-unfoldable pub starting_at : ℕ → (ℕ → Float) → ℕ → Float
-starting_at start f w = f (w - start)

@@ -12,7 +12,7 @@ ghost use Rattle.spline.specs.Segments.{
   third_coefficient,
 };
 
-use points::{Knot, knot_at, too_thin};
+use points::{Knot, Knots, too_thin};
 use single::guarded_quotient;
 
 pub mod second;
@@ -36,6 +36,7 @@ pub struct Segment {
 }
 
 // The segment from a to b.
+#[tactic(auto, unfolding(crate::specs::Segments::between))]
 fn between(a: Knot, b: Knot) -> Segment
     ensures { result ≡ S.between a b }
 {
@@ -46,16 +47,18 @@ fn between(a: Knot, b: Knot) -> Segment
     }
 }
 
-// The segment i of the knots in two rows.
-fn segment_at(xs: &[f32; 66], ys: &[f32; 66], i: usize) -> Segment
+// The segment i of the knots.
+#[tactic(auto, unfolding(crate::specs::Segments::segment_at))]
+fn segment_at(knots: &Knots, i: usize) -> Segment
     requires { i + 1 < 66 }
-    ensures { result ≡ segment_at xs.now ys.now i }
+    ensures { result ≡ segment_at knots.now.xs knots.now.ys i }
 {
-    between(knot_at(xs, ys, i), knot_at(xs, ys, i + 1))
+    between(knots.at(i), knots.at(i + 1))
 }
 
 // The coefficients of t, of its square and of its cube in the polynomial of the piece from a to b,
 // t being x - a.x, and ma and mb the second derivatives at a and b.
+#[tactic(auto, unfolding(crate::specs::Segments::first_coefficient))]
 pub fn first_coefficient(a: Knot, b: Knot, ma: f32, mb: f32) -> f32
     ensures { result ≡ first_coefficient a b ma mb }
 {
@@ -85,6 +88,7 @@ pub fn polynomial_from(a: Knot, c1: f32, c2: f32, c3: f32, x: f32) -> f32
 }
 
 // The piece from a to b with the second derivatives ma and mb there, at x, unclamped.
+#[tactic(auto, unfolding(crate::specs::Segments::spline_piece))]
 pub fn spline_piece(a: Knot, b: Knot, ma: f32, mb: f32, x: f32) -> f32
     ensures { result ≡ spline_piece a b ma mb x }
 {

@@ -7,6 +7,7 @@ ghost use Rattle.spline.specs.Second.{not_a_knot_first, not_a_knot_last, row_at,
 
 use crate::thomas::Row;
 use crate::{Segment, SplineBoundary, segment_at};
+use points::Knots;
 
 // The row of an inner knot between the segments p and q.
 fn inner(p: Segment, q: Segment) -> Row
@@ -72,44 +73,47 @@ fn not_a_knot_last(p: Segment, q: Segment) -> Row
 }
 
 // The row of the knot k where the slopes at the ends are given.
-fn clamped_row(xs: &[f32; 66], ys: &[f32; 66], n: usize, s0: f32, s1: f32, k: usize) -> Row
-    requires { (2 ≤ n) × (n ≤ 66) × (k < n) }
-    ensures { result ≡ row_at xs.now ys.now n (Clamped s0 s1) k }
+#[tactic(auto, unfolding(crate::specs::Second::row_at))]
+fn clamped_row(knots: &Knots, s0: f32, s1: f32, k: usize) -> Row
+    requires { k < knots.now.count }
+    ensures { result ≡ row_at knots.now.xs knots.now.ys knots.now.count (Clamped s0 s1) k }
 {
     if k == 0 {
-        return clamped_first(s0, segment_at(xs, ys, k));
+        return clamped_first(s0, segment_at(knots, k));
     }
-    let p = segment_at(xs, ys, k - 1);
-    if k + 1 == n {
+    let p = segment_at(knots, k - 1);
+    if k + 1 == knots.count {
         return clamped_last(s1, p);
     }
-    inner(p, segment_at(xs, ys, k))
+    inner(p, segment_at(knots, k))
 }
 
 // The row of the inner knot k + 1 under not-a-knot.
-fn not_a_knot_row(xs: &[f32; 66], ys: &[f32; 66], n: usize, k: usize) -> Row
-    requires { (n ≤ 66) × (k + 2 < n) }
-    ensures { result ≡ row_at xs.now ys.now n NotAKnot k }
+#[tactic(auto, unfolding(crate::specs::Second::row_at))]
+fn not_a_knot_row(knots: &Knots, k: usize) -> Row
+    requires { k + 2 < knots.now.count }
+    ensures { result ≡ row_at knots.now.xs knots.now.ys knots.now.count NotAKnot k }
 {
-    let p = segment_at(xs, ys, k);
-    let q = segment_at(xs, ys, k + 1);
+    let p = segment_at(knots, k);
+    let q = segment_at(knots, k + 1);
     if k == 0 {
         return not_a_knot_first(p, q);
     }
-    if k + 3 == n {
+    if k + 3 == knots.count {
         return not_a_knot_last(p, q);
     }
     inner(p, q)
 }
 
 // The row k of the system.
-pub fn row_at(xs: &[f32; 66], ys: &[f32; 66], n: usize, boundary: SplineBoundary, k: usize) -> Row
-    requires { (2 ≤ n) × (n ≤ 66) × (k < row_count boundary n) }
-    ensures { result ≡ row_at xs.now ys.now n boundary k }
+#[tactic(auto, unfolding(crate::specs::Second::row_at))]
+pub fn row_at(knots: &Knots, boundary: SplineBoundary, k: usize) -> Row
+    requires { k < row_count boundary knots.now.count }
+    ensures { result ≡ row_at knots.now.xs knots.now.ys knots.now.count boundary k }
 {
     match boundary {
-        SplineBoundary::Natural => inner(segment_at(xs, ys, k), segment_at(xs, ys, k + 1)),
-        SplineBoundary::Clamped { s0, s1 } => clamped_row(xs, ys, n, s0, s1, k),
-        SplineBoundary::NotAKnot => not_a_knot_row(xs, ys, n, k),
+        SplineBoundary::Natural => inner(segment_at(knots, k), segment_at(knots, k + 1)),
+        SplineBoundary::Clamped { s0, s1 } => clamped_row(knots, s0, s1, k),
+        SplineBoundary::NotAKnot => not_a_knot_row(knots, k),
     }
 }

@@ -1,9 +1,9 @@
 // The Thomas solve of a tridiagonal system (L. H. Thomas, 1949): the forward sweep of one row, and
 // back substitution.
-ghost use Rattle.std.specs.Prelude.{◌≡◌, ◌+◌, ◌≤◌};
-ghost use Rattle.lists.specs.Stored.{Stored};
+ghost use Rattle.std.specs.Prelude.{◌≡◌, ◌≤◌, length};
+ghost use Rattle.lists.specs.Tabulate.{tabulate};
 ghost use Rattle.spline.specs.Thomas as Thomas;
-ghost use Rattle.spline.specs.Thomas.{swept_in, substituted, starting_at};
+ghost use Rattle.spline.specs.Thomas.{swept_in, substituted};
 
 use single::guarded_quotient;
 
@@ -23,6 +23,14 @@ pub struct Swept {
     pub right: f32,
 }
 
+impl Swept {
+    // What is before the first row.
+    pub const NONE: Swept = Swept {
+        above: 0.0,
+        right: 0.0,
+    };
+}
+
 // One over the pivot, and 0 for a pivot below 1e-12 in size.
 fn inverse(pivot: f32) -> f32
     ensures { result ≡ Thomas.inverse pivot }
@@ -31,6 +39,7 @@ fn inverse(pivot: f32) -> f32
 }
 
 // A row over its pivot.
+#[tactic(auto, unfolding(crate::specs::Thomas::scaled))]
 fn scaled(pivot: f32, c: f32, d: f32) -> Swept
     ensures { result ≡ Thomas.scaled pivot c d }
 {
@@ -42,6 +51,7 @@ fn scaled(pivot: f32, c: f32, d: f32) -> Swept
 }
 
 // The row k swept, p being the row before it.
+#[tactic(auto, unfolding(crate::specs::Thomas::sweep))]
 pub fn sweep(k: usize, p: Swept, r: Row) -> Swept
     ensures { result ≡ Thomas.sweep k p r }
 {
@@ -51,25 +61,15 @@ pub fn sweep(k: usize, p: Swept, r: Row) -> Swept
     scaled(r.b - r.a * p.above, r.c, r.d - r.a * p.right)
 }
 
-// Back substitution over m swept rows, from the last one on: the unknowns, to a
-// row from place start on.
-pub fn substitute(
-    aboves: &[f32; 66],
-    rights: &[f32; 66],
-    m: usize,
-    start: usize,
-    row: &mut [f32; 66],
-)
-    requires { start + m ≤ 66 }
-    ensures { Stored (starting_at start
-        (substituted (swept_in aboves.now rights.now) m)) start (start + m)
-        row.old row.new }
+// Back substitution over swept rows, as many as there are unknowns, from the last one on.
+pub fn substitute(aboves: &[f32; 66], rights: &[f32; 66], unknowns: &mut [f32])
+    requires { length unknowns.old ≤ 66 }
+    ensures { unknowns.new ≡ tabulate (length unknowns.old)
+        (substituted (swept_in aboves.now rights.now) (length unknowns.old)) }
 {
     let mut next = 0.0;
-    let mut k = m;
-    while 0 < k {
-        k -= 1;
+    for k in (0..unknowns.len()).rev() {
         next = rights[k] - aboves[k] * next;
-        row[start + k] = next;
+        unknowns[k] = next;
     }
 }

@@ -2,10 +2,10 @@
 // the byte table by value.
 #![tactic(auto)]
 
-ghost use Rattle.std.specs.Prelude.{◌≡◌, ◌≤◌, [], ◌∷◌, length, take, replicate};
+ghost use Rattle.std.specs.Prelude.{◌≡◌, ◌≤◌, [], ◌∷◌, length, replicate};
 ghost use Rattle.answers.specs.Checks.{first_refusal};
 ghost use Rattle.single.specs.Constants.{𝟎};
-ghost use Rattle.points.specs.Points.{joined, list_of};
+ghost use Rattle.points.specs.Points.{list_of};
 ghost use Rattle.points.specs.Joined.{TypedRows};
 ghost use Rattle.tables.specs.Kinds.{
   kind_number,
@@ -27,7 +27,7 @@ ghost use Rattle.tables.specs.Tables.{
 };
 
 use answers::{Answer, Refusal};
-use points::{Curve, given_knots};
+use points::{Curve, Knots};
 use sampling::Form;
 use spline::second::second_derivatives;
 use spline::{SplineBoundary, clamped_slope};
@@ -203,63 +203,46 @@ fn form_of(kind: CurveInterpolation) -> Form
     }
 }
 
-// The values at n knots, tangents or second derivatives, to the front of a row of zeros.
-fn knot_values<'a>(
-    kind: CurveInterpolation,
-    xs: &'a [f32; 66],
-    ys: &'a [f32; 66],
-    n: usize,
-    row: &mut [f32; 66],
-)
-    requires { (2 ≤ n) × (n ≤ 66) × (row.old ≡ replicate 66 𝟎) }
-    ensures { row.new ≡ knot_value_row kind xs.now ys.now n }
+// The values at the knots, tangents or second derivatives, to the front of a row of zeros.
+fn knot_values(kind: CurveInterpolation, knots: &Knots, row: &mut [f32; 66])
+    requires { row.old ≡ replicate 66 𝟎 }
+    ensures { row.new ≡ knot_value_row kind knots.now.xs knots.now.ys knots.now.count }
 {
     match kind {
         CurveInterpolation::Linear => {}
-        CurveInterpolation::CatmullRom => tangents::catmull_rom(xs, ys, n, row),
-        CurveInterpolation::MonotoneCubic => monotone::monotone(false, xs, ys, n, row),
-        CurveInterpolation::MonotoneCubicBox => monotone::monotone(true, xs, ys, n, row),
+        CurveInterpolation::CatmullRom => tangents::catmull_rom(knots, row),
+        CurveInterpolation::MonotoneCubic => monotone::cubic(knots, row),
+        CurveInterpolation::MonotoneCubicBox => monotone::cubic_box(knots, row),
         CurveInterpolation::NaturalCubic => {
-            second_derivatives(xs, ys, n, SplineBoundary::Natural, row)
+            second_derivatives(knots, SplineBoundary::Natural, row)
         }
-        CurveInterpolation::CentripetalCatmullRom => chords::alpha(true, xs, ys, n, row),
-        CurveInterpolation::ChordalCatmullRom => chords::alpha(false, xs, ys, n, row),
-        CurveInterpolation::Cardinal { tension_q8 } => {
-            tangents::cardinal(tension_q8, xs, ys, n, row)
-        }
+        CurveInterpolation::CentripetalCatmullRom => chords::centripetal(knots, row),
+        CurveInterpolation::ChordalCatmullRom => chords::chordal(knots, row),
+        CurveInterpolation::Cardinal { tension_q8 } => tangents::cardinal(tension_q8, knots, row),
         CurveInterpolation::ClampedCubic {
             start_slope_q8,
             end_slope_q8,
         } => {
             let s0 = clamped_slope(start_slope_q8);
             let s1 = clamped_slope(end_slope_q8);
-            second_derivatives(xs, ys, n, SplineBoundary::Clamped { s0, s1 }, row)
+            second_derivatives(knots, SplineBoundary::Clamped { s0, s1 }, row)
         }
         CurveInterpolation::NotAKnotCubic => {
-            second_derivatives(xs, ys, n, SplineBoundary::NotAKnot, row)
+            second_derivatives(knots, SplineBoundary::NotAKnot, row)
         }
     }
 }
 
-// The samples of a given list, whose rows are lent. It is not checked.
-pub fn sample_curve<'a>(
-    xs: &'a [u8; 64],
-    ys: &'a [u16; 64],
-    count: usize,
-    kind: CurveInterpolation,
-    samples: &mut [f32],
-)
-    requires rows { TypedRows xs.now ys.now }
+// The samples of a given list, which is lent. It is not checked.
+pub fn sample_curve(curve: &Curve, kind: CurveInterpolation, samples: &mut [f32])
+    requires rows { TypedRows curve.now.xs curve.now.ys }
     requires counts { (2 ≤ length samples.old) × (length samples.old ≤ 4096) }
-    ensures { samples.new
-        ≡ fine_table kind (take count (joined xs.now ys.now))
-        (length samples.old) }
+    ensures { samples.new ≡ fine_table kind (list_of curve.now) (length samples.old) }
 {
-    let knots = given_knots(xs, ys, count);
-    let n = knots.count;
+    let knots = curve.given_knots();
     let mut ms = [0.0; 66];
-    knot_values(kind, &knots.xs, &knots.ys, n, &mut ms);
-    sampling::fill(form_of(kind), &knots.xs, &knots.ys, &ms, n, samples);
+    knot_values(kind, &knots, &mut ms);
+    sampling::fill(form_of(kind), &knots, &ms, samples);
 }
 
 // Each sample to a byte.
@@ -278,7 +261,7 @@ pub fn entries_of(curve: Curve, kind: CurveInterpolation) -> [u8; 256]
     ensures { result ≡ byte_table kind (list_of curve) }
 {
     let mut samples = [0.0; 256];
-    sample_curve(&curve.xs, &curve.ys, curve.count, kind, &mut samples);
+    sample_curve(&curve, kind, &mut samples);
     to_bytes(&samples)
 }
 
@@ -315,7 +298,7 @@ pub fn build_table(curve: Curve, kind: CurveInterpolation, samples: &mut [f32]) 
 {
     curve.check_given()?;
     length_answer(samples.len())?;
-    sample_curve(&curve.xs, &curve.ys, curve.count, kind, samples);
+    sample_curve(&curve, kind, samples);
     Ok(())
 }
 

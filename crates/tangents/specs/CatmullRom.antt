@@ -1,6 +1,6 @@
 -- The tangents of CatmullRom and Cardinal (Catmull and Rom, "A class of local interpolating
 -- splines", 1974), as document 01 has them. Definitions only.
-use Rattle.std.specs.Prelude.{ℕ, List, Float}
+use Rattle.std.specs.Prelude.{◌≡◌, ◌<◌, ℕ, List, Float}
 use Rattle.floats.specs.Notation.{◌⊖◌, ◌⊗◌, ◌⊘◌}
 use Rattle.single.specs.Constants.{𝟏, 𝟐𝟓𝟓, micro}
 use Rattle.single.specs.Rules.{float, guarded_quotient}
@@ -23,3 +23,8 @@ loose_slope scale l r = guarded_quotient (scale ⊗ (r.y ⊖ l.y)) (r.x ⊖ l.x)
 unfoldable pub cardinal_at : ℕ → List Float → List Float → ℕ → ℕ → Float
 cardinal_at q xs ys n i =
     loose_slope (looseness q) (knot_at xs ys (before i)) (knot_at xs ys (after n i))
+
+-- what may be said of each knot's neighbours is the rule's element at the knot
+abbrev pub Follows : (Knot → Knot → Float → Type 0) → List Float → List Float → ℕ → (ℕ → Float) → Type 0
+Follows post xs ys n rule =
+    (i : ℕ) (m : Float) → i < n → post (knot_at xs ys (before i)) (knot_at xs ys (after n i)) m → m ≡ rule i

@@ -1,13 +1,13 @@
-// The tangents of CatmullRom and Cardinal at the knots. n knots are in the rows xs and ys; what
-// is behind them is not read. The tangents go to the front of a lent row.
+// The tangents of CatmullRom and Cardinal at the knots. They go to the front of a lent row.
 #![tactic(auto)]
 
-ghost use Rattle.std.specs.Prelude.{◌≡◌, ◌≤◌, ◌<◌};
+ghost use Rattle.std.specs.Prelude.{◌≡◌, ◌<◌};
 ghost use Rattle.lists.specs.Stored.{Stored};
 ghost use Rattle.points.specs.Knots as K;
 ghost use Rattle.tangents.specs.CatmullRom as CatmullRom;
+ghost use Rattle.tangents.specs.CatmullRom.{Follows};
 
-use points::{Knot, knot_at};
+use points::{Knot, Knots};
 use segments::slope;
 use single::{byte_to_float, guarded_quotient};
 
@@ -26,22 +26,28 @@ fn after(n: usize, i: usize) -> usize
     if i + 1 == n { i } else { i + 1 }
 }
 
-// The tangents of CatmullRom.
-pub fn catmull_rom(xs: &[f32; 66], ys: &[f32; 66], n: usize, tangents: &mut [f32; 66])
-    requires { (2 ≤ n) × (n ≤ 66) }
-    ensures { Stored (CatmullRom.catmull_rom_at xs.now ys.now n) 0 n
-        tangents.old tangents.new }
+// At each knot what f says of the knots before and after it.
+fn by_neighbours<F: Fn(Knot, Knot) -> f32>(knots: &Knots, f: F, tangents: &mut [f32; 66])
+    requires { (l r : _) → F.pre f l r }
+    ensures { (rule : _) → Follows (F.post f) knots.now.xs knots.now.ys knots.now.count rule
+        → Stored rule 0 knots.now.count tangents.old tangents.new }
 {
-    let mut i: usize = 0;
-    while i < n {
-        let l = knot_at(xs, ys, before(i));
-        let r = knot_at(xs, ys, after(n, i));
-        tangents[i] = slope(l, r);
-        i += 1;
+    let n = knots.count;
+    for i in 0..n {
+        tangents[i] = f(knots.at(before(i)), knots.at(after(n, i)));
     }
 }
 
+// The tangents of CatmullRom.
+pub fn catmull_rom(knots: &Knots, tangents: &mut [f32; 66])
+    ensures { Stored (CatmullRom.catmull_rom_at knots.now.xs knots.now.ys knots.now.count) 0
+        knots.now.count tangents.old tangents.new }
+{
+    by_neighbours(knots, slope, tangents);
+}
+
 // 1 − c, where c is the tension q / 255.
+#[tactic(auto, unfolding(crate::specs::CatmullRom::looseness))]
 fn looseness(q: u8) -> f32
     ensures { result ≡ CatmullRom.looseness q }
 {
@@ -49,6 +55,7 @@ fn looseness(q: u8) -> f32
 }
 
 // The rise from l to r times the scale 1 − c, over the run.
+#[tactic(auto, unfolding(crate::specs::CatmullRom::loose_slope))]
 fn loose_slope(scale: f32, l: Knot, r: Knot) -> f32
     ensures { result ≡ CatmullRom.loose_slope scale l r }
 {
@@ -56,17 +63,10 @@ fn loose_slope(scale: f32, l: Knot, r: Knot) -> f32
 }
 
 // The tangents of Cardinal with the tension q.
-pub fn cardinal(q: u8, xs: &[f32; 66], ys: &[f32; 66], n: usize, tangents: &mut [f32; 66])
-    requires { (2 ≤ n) × (n ≤ 66) }
-    ensures { Stored (CatmullRom.cardinal_at q xs.now ys.now n) 0 n
-        tangents.old tangents.new }
+pub fn cardinal(q: u8, knots: &Knots, tangents: &mut [f32; 66])
+    ensures { Stored (CatmullRom.cardinal_at q knots.now.xs knots.now.ys knots.now.count) 0
+        knots.now.count tangents.old tangents.new }
 {
     let scale = looseness(q);
-    let mut i: usize = 0;
-    while i < n {
-        let l = knot_at(xs, ys, before(i));
-        let r = knot_at(xs, ys, after(n, i));
-        tangents[i] = loose_slope(scale, l, r);
-        i += 1;
-    }
+    by_neighbours(knots, |l, r| loose_slope(scale, l, r), tangents);
 }

@@ -7,21 +7,20 @@ use Rattle.sampling.proofs.rest.Goals as goal
 
 pub loop-v-preserved : goal.loop-v-preserved
 unfolding sampled height_at
-loop-v-preserved c =
+loop-v-preserved g c =
     let pre = c.requires in
     stored_next c.loop-v.invariant
     (rw (
-      c.clamp.ensures,
-      c.height.ensures,
-      c.piece_at.ensures,
+      c.sample_at.ensures,
+      c.at.ensures,
       c.advance-i.ensures.0,
       c.position-x.ensures,
-      pre.counts.2,
+      pre.counts.1,
       ← pre.state.ahead c.loop-v.v (omega arith) (omega arith),
     ))
 
 pub loop-v-init : goal.loop-v-init
-loop-v-init c = stored_none
+loop-v-init g c = stored_none
 
 pub returns : goal.returns
-returns c = all_done c.requires.state c.loop-v.invariant (omega arith)
+returns g c = all_done c.requires.state c.loop-v.invariant (omega arith)

@@ -1,5 +1,5 @@
 -- `tables::entries_of`: the bytes of the 256 samples of the fine table.
-use Rattle.std.proofs.Common.{arith, ap, ◌∙◌, rules}
+use Rattle.std.proofs.Common.{ap, ◌∙◌, rules}
 use Rattle.std.specs.Float.{nan}
 use Rattle.lists.specs.Tabulate.{get_d_tabulate, tabulate_same}
 use Rattle.single.specs.Rules.{byte_of}
@@ -7,13 +7,11 @@ use Rattle.points.specs.Joined.{FullRows, typed_rows}
 use Rattle.tables.specs.Tables.{byte_at, entry_of}
 use Rattle.tables.proofs.entries_of.Goals as goal
 
-pub sample_curve-requires : goal.sample_curve-requires
-sample_curve-requires c =
+pub sample_curve-requires-clause-rows : goal.sample_curve-requires-clause-rows
+sample_curve-requires-clause-rows c =
     let given = c.args.curve in
-    let full : FullRows given = search rules in record {
-      rows = typed_rows given full (λ i. search rules) (λ i. search rules);
-      counts = (omega arith, omega arith);
-    }
+    let full : FullRows given = search rules in
+    typed_rows given full (λ i. search rules) (λ i. search rules)
 
 pub returns : goal.returns
 unfolding byte_at entry_of

@@ -1,6 +1,6 @@
 -- `ends::guess`: the loop stores the rule's element at each place, and all stay
 -- right as long as each is.
-use Rattle.std.proofs.Common.{◌≡◌, ap, ℕ, ◌+◌, ◌≤◌, arith, rules, Float}
+use Rattle.std.proofs.Common.{◌≡◌, ap, ℕ, ◌+◌, ◌≤◌, arith, Float}
 use Rattle.std.proofs.Math.Decide.{dec_lt}
 use Rattle.lists.specs.Stored.{stored_none, stored_next, stored_end}
 use Rattle.single.specs.Rules.{floor_of}
@@ -14,7 +14,6 @@ index-most x e = rw e (floor_small x)
 
 pub loop-i-init : goal.loop-i-init
 loop-i-init c = (
-  search rules,
   stored_none,
   λ h. record {
     wide = λ k low. let zeroth : k ≡ 0 = omega arith in rw (zeroth, ← c.too_thin-right.ensures) (not_true _ h);
@@ -27,12 +26,11 @@ unfolding end_at
 loop-i-preserved c =
     let i = c.loop-i.i in
     let end = ap (λ (k : ℕ). k + 1) c.index-e.ensures in (
-      search rules,
-      stored_next c.loop-i.invariant.1 end,
+      stored_next c.loop-i.invariant.0 end,
       λ h.
           let last = both_true _ _ h in
           let first = both_true _ _ last.0 in
-          let before = c.loop-i.invariant.2 first.0 in
+          let before = c.loop-i.invariant.1 first.0 in
           let two : i + 1 + 1 ≡ i + 2 = omega arith in
           record {
             wide = λ k low. elim (dec_lt i k) [
@@ -50,8 +48,8 @@ loop-i-preserved c =
 pub returns : goal.returns
 returns c =
     let inv = c.loop-i.invariant in
-    let all : c.loop-i.i + 2 ≡ c.args.n = omega arith in
-    record { row = stored_end inv.1 (omega arith); right = λ h. rw (← all) (inv.2 h) }
+    let all : c.loop-i.i + 2 ≡ c.args.knots.now.count = omega arith in
+    record { row = stored_end inv.0 (omega arith); right = λ h. rw (← all) (inv.1 h) }
 
 pub overflow_add-e : goal.overflow_add-e
 overflow_add-e c = omega (arith, index-most _ c.index-e.ensures)

@@ -1,6 +1,6 @@
 -- `second::ends_recovered`: the unknowns are those of the inner knots, and the ends
 -- are recovered from them.
-use Rattle.std.proofs.Common.{◌-◌, arith}
+use Rattle.std.proofs.Common.{◌-◌, ◌≤◌, length, arith}
 use Rattle.lists.specs.Stored.{stored_as}
 use Rattle.spline.specs.declared.SplineBoundary.TheVariants.{NotAKnot}
 use Rattle.spline.specs.Second.{unknown, ends_recovered}
@@ -10,10 +10,15 @@ use Rattle.spline.proofs.second.ends_recovered.Goals as goal
 pub returns : goal.returns
 unfolding ends_recovered
 returns c =
-    let a = c.args in
-    let f = unknown a.xs.now a.ys.now a.n NotAKnot in
-    let inside = inner_value f c.thomas_solve.ensures (omega arith) in
-    stored_as (framed_row f c.thomas_solve.ensures c.recovered-first.result c.recovered-last.result (omega arith))
+    let k = c.args.knots.now in
+    let n = k.count in
+    let l = c.args.row.now in
+    let f = unknown k.xs k.ys n NotAKnot in
+    let room : n ≤ length l = omega arith in
+    let two : 2 ≤ n = omega arith in
+    let solved = c.thomas_solve.ensures in
+    let inside = inner_value n f l room two solved in
+    stored_as (framed_row n f l room two solved c.recovered-first.result c.recovered-last.result)
     (λ w low high. rw (
       c.recovered-first.ensures,
       c.segment_at.ensures,
@@ -23,6 +28,6 @@ returns c =
       c.segment_at-4.ensures,
       inside 1 0 (omega arith) (omega arith),
       inside 2 1 (omega arith) (omega arith),
-      inside (a.n - 2) (a.n - 3) (omega arith) (omega arith),
-      inside (a.n - 3) (a.n - 4) (omega arith) (omega arith),
+      inside (n - 2) (n - 3) (omega arith) (omega arith),
+      inside (n - 3) (n - 4) (omega arith) (omega arith),
     ))

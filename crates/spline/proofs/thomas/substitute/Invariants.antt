@@ -1,13 +1,11 @@
--- `thomas::substitute`: from the back, each row by the unknown after its own.
-use Rattle.std.proofs.Common.{◌≡◌, ◌+◌, ◌≤◌}
+-- `thomas::substitute`: from the back, each unknown by the one after it.
+use Rattle.std.proofs.Common.{◌≡◌, length}
 use Rattle.lists.specs.Stored.{Stored}
-use Rattle.spline.specs.Thomas.{substituted, swept_in, starting_at}
+use Rattle.spline.specs.Thomas.{substituted, swept_in}
 use Rattle.spline.proofs.thomas.substitute.Given as goal
 
 abbrev pub invariant-loop-k : goal.invariant-loop-k
 invariant-loop-k l =
-    let unknown = substituted (swept_in l.aboves l.rights) l.m in
-    (l.k ≤ l.m) × Stored (starting_at l.start unknown) (l.start + l.k) (l.start + l.m) l.initial.row l.row × (l.next ≡ unknown l.k)
-
-abbrev pub decreases-loop-k : goal.decreases-loop-k
-decreases-loop-k l = l.k
+    let m = length l.initial.unknowns in
+    let unknown = substituted (swept_in l.aboves l.rights) m in
+    Stored unknown l.k m l.initial.unknowns l.unknowns × (l.next ≡ unknown l.k)

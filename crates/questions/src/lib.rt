@@ -1,0 +1,145 @@
+// What the programs that replay stored questions share: how a question is read, and the digest that
+// stands for a long answer.
+#![tactic(auto)]
+
+ghost use Rattle.std.specs.Prelude.{◌≡◌, ◌+◌, ◌*◌, ◌<◌, ◌≤◌, IfOk, IfSome, take};
+ghost use Rattle.std.specs.List.{fold};
+ghost use Rattle.questions.specs.Questions.{digit_value, byte_of, bytes_of, joined, whole};
+
+use std::alloc::Allocator;
+use std::hash::Hasher;
+use std::io::Read;
+use std::{fmt, io};
+
+// Reads n bytes, or as many as there are. The contract doesn't say what is left of the input, since
+// that of `read_to_end` doesn't say how much of its limit a `Take` has used up.
+pub fn read_up_to<A: Allocator, R: Read>(alloc: A, input: &mut R, n: u64) -> io::Result<Vec<u8, A>>
+    ensures { IfOk result (λ v. IfSome (R.remaining input.old) (λ s. v.items ≡ take n s)) }
+{
+    let mut bytes = Vec::new(alloc);
+    input.take(n).read_to_end(&mut bytes)?;
+    Ok(bytes)
+}
+
+// Reads N bytes, if there are so many.
+pub fn read_array<const N: usize, A: Allocator, R: Read>(
+    alloc: A,
+    input: &mut R,
+) -> io::Result<Option<[u8; N]>>
+    ensures { IfOk result (λ r. IfSome (R.remaining input.old) (λ s. r ≡ whole N s)) }
+{
+    let bytes = read_up_to(alloc, input, N as u64)?;
+    Ok(bytes.as_slice().try_into().ok())
+}
+
+// The first n of some bytes, or all.
+pub fn front(bytes: &[u8], n: usize) -> &[u8]
+    ensures { result.now ≡ take n bytes.now }
+{
+    bytes.get(..n).unwrap_or(bytes)
+}
+
+// What a hexadecimal digit in lower case means; any other byte means 0.
+// Stays: `char::to_digit` and the crate `hex` read upper case too.
+fn digit(c: u8) -> u8
+    ensures { (result ≡ digit_value c) × (result < 16) }
+{
+    match c {
+        b'0'..=b'9' => c - b'0',
+        b'a'..=b'f' => c - b'a' + 10,
+        _ => 0,
+    }
+}
+
+// A question: a line whose bytes are two hexadecimal digits each.
+#[derive(Clone, Copy)]
+pub struct Question<const LENGTH: usize> {
+    pub line: [u8; LENGTH],
+}
+
+impl<const LENGTH: usize> Question<LENGTH> {
+    ghost use Rattle.questions.specs.Question.{line_of};
+    ghost use Rattle.std.specs.Option.{option_map};
+
+    // The next question, if there is one.
+    pub fn read<A: Allocator, R: Read>(
+        alloc: A,
+        input: &mut R,
+    ) -> io::Result<Option<Question<LENGTH>>>
+        ensures { IfOk result (λ r. IfSome (R.remaining input.old) (λ s.
+            option_map line_of r ≡ whole LENGTH s)) }
+    {
+        match read_array(alloc, input)? {
+            Some(line) => Ok(Some(Question { line })),
+            None => Ok(None),
+        }
+    }
+
+    // Byte i of the question.
+    pub fn byte(&self, i: usize) -> u8
+        requires { 2 * i + 1 < LENGTH }
+        ensures { result ≡ byte_of self.now.line i }
+    {
+        16 * digit(self.line[2 * i]) + digit(self.line[2 * i + 1])
+    }
+
+    // The N bytes from a place on.
+    pub fn bytes<const N: usize>(&self, from: usize) -> [u8; N]
+        requires { 2 * (from + N) ≤ LENGTH }
+        ensures { result ≡ bytes_of self.now.line from N }
+    {
+        // Stays: where N is a parameter, the contract of `array::from_fn` doesn't say what ran.
+        let mut bytes = [0; N];
+        for i in 0..N {
+            bytes[i] = self.byte(from + i);
+        }
+        bytes
+    }
+}
+
+// A digest by FNV-1a (Fowler, Noll and Vo), of as many bits as the mask has.
+#[derive(Clone, Copy)]
+pub struct Fnv<const START: u64, const PRIME: u64, const MASK: u64> {
+    pub state: u64,
+}
+
+pub type Fnv32 = Fnv<0x811c_9dc5, 0x0100_0193, 0xffff_ffff>;
+
+pub type Fnv64 = Fnv<0xcbf2_9ce4_8422_2325, 0x0100_0000_01b3, 0xffff_ffff_ffff_ffff>;
+
+impl<const START: u64, const PRIME: u64, const MASK: u64> Fnv<START, PRIME, MASK> {
+    // The digest of no bytes.
+    pub fn new() -> Self
+        ensures { result.state ≡ START }
+    {
+        Fnv { state: START }
+    }
+}
+
+impl<const START: u64, const PRIME: u64, const MASK: u64> Hasher for Fnv<START, PRIME, MASK> {
+    ghost write = { λ d bytes. record { state = fold (joined PRIME MASK) d.state bytes } };
+
+    ghost finish = { λ d. d.state };
+
+    fn finish(&self) -> u64 {
+        self.state
+    }
+
+    fn write(&mut self, bytes: &[u8]) {
+        let step = |state: u64, byte: &u8| -> u64
+            ensures { result ≡ joined PRIME MASK state byte.now }
+        { (state ^ u64::from(*byte)).wrapping_mul(PRIME) & MASK };
+        *self = Fnv {
+            state: bytes.iter().fold(self.state, step),
+        };
+    }
+}
+
+impl<const START: u64, const PRIME: u64, const MASK: u64> fmt::Write for Fnv<START, PRIME, MASK> {
+    ghost write_str_gives = { λ d text e. e.state ≡ fold (joined PRIME MASK) d.state text };
+
+    fn write_str(&mut self, s: &str) -> fmt::Result {
+        Hasher::write(self, s.as_bytes());
+        Ok(())
+    }
+}
