@@ -121,7 +121,7 @@ fn refusals() {
         assert_eq!(number(&name), usize::from(place), "{name}");
         assert_eq!(in_header(&name, ":\n        return "), format!("\"{}\";", refusal.words()));
     }
-    let in_crate: Vec<_> = lines_of(ANSWERS, "number_of").skip(1).collect();
+    let in_crate: Vec<_> = lines_of(ANSWERS, "refusal_number").collect();
     let here = Refusal::all().map(|refusal| (format!("{refusal:?}"), refusal.number().to_string()));
     assert!(
         here.into_iter()
