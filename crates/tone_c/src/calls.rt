@@ -62,7 +62,7 @@ pub fn fine_table(
     let curve = given::curve_of(points, kind)?;
     length_answer(table.len())?;
     let interpolation = kind_of(kind, tension, start_slope, end_slope);
-    sample_curve(&curve.xs, &curve.ys, curve.count, interpolation, table);
+    sample_curve(&curve, interpolation, table);
     Ok(())
 }
 
