@@ -82,6 +82,7 @@ fn replace(table: &[f32], indices: &[u16; 64], at: usize, n: usize, values: &mut
 }
 
 // Replaces every value. A table that has not 4,096 entries is refused, and the values stay.
+// Stays: blocks by place; after `chunks_mut` a proof knows a slice's length, not its elements.
 pub fn lookup(table: &[f32], values: &mut [f32]) -> Answer
     ensures { L.LookupCall table.now values.old result values.new }
 {

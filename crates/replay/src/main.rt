@@ -48,18 +48,19 @@ fn values() -> [f32; 256] {
     array::from_fn(|k| (single::count_to_float(k) - 16.0) / 224.0)
 }
 
-// Prints what a question is answered.
+// Prints what a question is answered. A refused call leaves its floats as they are, and they are
+// printed all the same.
 fn answer(rt: &(impl Print + AllocGlobal), question: &Question) -> io::Result<()> {
     let curve = curve_of(question);
     let kind = kind_of(question);
     let lut = tables::build_lut(curve, kind);
     let table = hex::encode(rt.alloc(), lut.table)?;
     let mut coarse = [0.0; 256];
-    tables::build_table(curve, kind, &mut coarse);
+    let _ = tables::build_table(curve, kind, &mut coarse);
     let mut fine = [0.0; 4096];
-    tables::build_table(curve, kind, &mut fine);
+    let _ = tables::build_table(curve, kind, &mut fine);
     let mut looked = values();
-    lookup::lookup(&fine, &mut looked);
+    let _ = lookup::lookup(&fine, &mut looked);
     let [coarse, fine, looked] = [digest(&coarse), digest(&fine), digest(&looked)];
     println!(rt; "{table} {coarse:016x} {fine:016x} {looked:016x}")
 }

@@ -34,12 +34,13 @@ fn table_of(question: &Question) -> [u8; 256] {
     tables::build_lut(set.master, set.interpolation).table
 }
 
-// The call by one table, in place. A plane that is to have more bytes than there are stays.
+// The call by one table, in place. A plane that is to have more bytes than there are stays, and so
+// does one that is refused.
 fn tone_plane(rt: &(impl Print + AllocGlobal), question: &Question) -> io::Result<()> {
     let mut plane: [u8; 240] = question.bytes(75);
     let n = length_at(question, 7);
     if let Some(plane) = plane.get_mut(..n) {
-        pictures::apply_tone_lut(
+        let _ = pictures::apply_tone_lut(
             plane,
             length_at(question, 4),
             table_of(question),

@@ -1,7 +1,7 @@
 // Whether two sets of curves are the same. `same` answers for any two sets,
 // whatever their lists claim.
-// Stays: functions, not PartialEq of `Curves`: the types are of other crates, and `Same` passes over
-// what is past a count and behind an absent mark.
+// Stays: functions, not PartialEq of `Curves`; the types are of other crates, and `Same` passes
+// over what is past a count and behind an absent mark.
 #![tactic(auto)]
 
 ghost use Rattle.std.specs.Prelude.{◌≡◌, ◌≤◌, take};

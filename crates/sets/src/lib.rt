@@ -123,6 +123,7 @@ impl Curves {
         self
     }
 
+    // Stays: three functions; one that takes the colour needs a match of three stores for these.
     pub fn with_red(mut self, c: Curve) -> Curves
         ensures { result ≡ replace_colour Red (present_channel c) self }
     {
@@ -164,6 +165,8 @@ impl Curves {
 }
 
 // The colour's own table or else the master's, lent on without copying.
+// Stays: present is the channel's mark, "a present mark beside the curve", and the clause says
+// `chosen present`.
 pub fn chosen_table<'a>(present: bool, own: &'a [u8; 256], master: &'a [u8; 256]) -> &'a [u8; 256]
     ensures { result.now ≡ chosen present own.now master.now }
 {
