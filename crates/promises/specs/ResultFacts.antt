@@ -17,7 +17,8 @@ use Rattle.lookup.specs.Lookup.{looked, looked_up, LookupCall}
 use Rattle.sets.specs.declared.Curves.{Curves}
 use Rattle.sets.specs.Sets.{view_of}
 use Rattle.writing.specs.Encode.{encode}
-use Rattle.writing.specs.Cases.{write_done, done_case, run_answer, run_writes}
+use Rattle.writing.specs.Cases.{write_done, done_case, run_answer}
+use Rattle.writing.proofs.RunLaws.{run_writes}
 use Rattle.writing.specs.Statements.{WriteRecordCall}
 use Rattle.rows.specs.Bytes.{same, row_byte}
 use Rattle.rows.specs.Rows.{Rows, in_row, plane_byte}

@@ -24,7 +24,8 @@ use Rattle.records.specs.Format.{read_record}
 use Rattle.records.specs.Views.{ReadRecordCall}
 use Rattle.writing.specs.Encode.{one_if, Write, encode}
 use Rattle.writing.specs.Cases.{write_answer, write_done, done_case}
-use Rattle.writing.specs.Cases.{run_answer, run_refused, run_done, run_writes}
+use Rattle.writing.specs.Cases.{run_answer, run_refused, run_done}
+use Rattle.writing.proofs.RunLaws.{run_writes}
 use Rattle.writing.specs.Statements.{length_or_refusal, WriteRecordCall}
 use Rattle.record_facts.specs.Levels.{
   HoldsLevels,

@@ -14,7 +14,7 @@ use Rattle.points.specs.declared.Heights.TheVariants.{Whole}
 use Rattle.sets.specs.declared.Curves.{Curves}
 use Rattle.sets.specs.Sets.{view_of, curve_checks, set_checks, set_answer}
 use Rattle.writing.specs.Encode.{encode, outcome, write_checks, write_record}
-use Rattle.writing.specs.Statements.{Held, length_or_refusal, WriteRecordCall}
+use Rattle.writing.specs.Statements.{Held, WriteRecordCall}
 
 module _ (s : Curves) (buffer : List ℕ) where
   abbrev room : List Check
@@ -93,8 +93,3 @@ module _ {set : Curves} {before after : List ℕ} {r : Result ℕ Refusal}
 
   pub run_held : {n : ℕ} → r ≡ Ok n → Held set
   run_held is = rw is at run.held
-
-  pub run_writes : set_answer Whole set ≡ done
-      → ListN.length (encode (view_of set)) ≤ ListN.length before
-      → r ≡ Ok (ListN.length (encode (view_of set)))
-  run_writes passed enough = run.answer ∙ rw (write_done set before passed enough)
