@@ -1,4 +1,5 @@
 // The calls, each as far as its answer; the root hands that on as its number.
+// Stays: parameters one by one, as C gives them; a struct of them would be taken apart at once.
 ghost use Rattle.answers.specs.Numbers.{number_of};
 ghost use Rattle.points.specs.Points.{list_of};
 ghost use Rattle.tone_c.specs.Boundary.{
