@@ -2,3 +2,5 @@
 pub mod NumberLaws
 -- lists of checks behind one another
 pub mod CheckLaws
+-- a check that fails refuses
+pub mod Refusals

@@ -25,6 +25,7 @@ use Rattle.promises.specs.Words.{
   IsYuv,
   Copied,
   ExactPicture,
+  steps_or_none,
   PassedThrough,
   WriteTheSame,
 }
@@ -147,9 +148,9 @@ pub handed_back : (a : Call) → ExactPicture a
 handed_back a e = (e.steps, e.done, e.step)
 
 pub steps_handed_back : (a : Call) → PassedThrough a → has_chroma a.given ≡ true
-    → (steps : Steps) × (a.answered ≡ Ok steps) × (steps.cb_step ≡ a.given.lent.cb.step)
-    × (steps.cr_step ≡ a.given.lent.cr.step)
-steps_handed_back a p yuv = (p.steps, p.done, p.cb_step yuv, p.cr_step yuv)
+    → ((steps_or_none a.answered).cb_step ≡ a.given.lent.cb.step)
+    × ((steps_or_none a.answered).cr_step ≡ a.given.lent.cr.step)
+steps_handed_back a p yuv = (p.cb_step yuv, p.cr_step yuv)
 
 pub every_place_held : (a : Call) → ExactPicture a → (p : Place) → Within a.given p
     → (in_plane a.given p < length a.given.lent.plane.bytes)

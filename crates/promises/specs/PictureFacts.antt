@@ -69,8 +69,6 @@ module _ (c : Call) (ok : Accepted c) where
     ];
     cb = (whole_chroma c ok).cb;
     cr = (whole_chroma c ok).cr;
-    steps = steps_of c.given;
-    done = call_steps c.contract ok;
-    cb_step = λ yuv. rw yuv;
-    cr_step = λ yuv. rw yuv;
+    cb_step = λ yuv. rw (call_steps c.contract ok, yuv);
+    cr_step = λ yuv. rw (call_steps c.contract ok, yuv);
   }

@@ -1,6 +1,6 @@
 -- The words of the third demand, with document 01's terms, and of document 02's U9, which restates
 -- it for finer heights. Definitions only.
-use Rattle.std.specs.Prelude.{ℕ, ◌+◌, ◌*◌, ◌≤◌, ◌<◌, ◌≡◌, ◌⊎◌, true, false, cond, List, [], length, get_or, take, Result, Ok}
+use Rattle.std.specs.Prelude.{ℕ, ◌+◌, ◌*◌, ◌≤◌, ◌<◌, ◌≡◌, ◌⊎◌, true, false, cond, List, [], length, get_or, take, Result, Ok, Err}
 use Rattle.points.specs.declared.Point.{Point}
 use Rattle.points.specs.Knots.{OnLine}
 use Rattle.points.specs.Order.{All, WholeHeight, NeverFalls}
@@ -179,18 +179,21 @@ pub record ExactPicture (c : Call) : Type 0 where
   pub other_cb : (IsYuv c.given → ⊥) → c.after.cb ≡ c.given.lent.outputs.cb
   pub other_cr : (IsYuv c.given → ⊥) → c.after.cr ≡ c.given.lent.outputs.cr
 
+-- the steps handed back; zeros beside a refusal, which hands none back
+abbrev pub steps_or_none : Result Steps Refusal → Steps
+steps_or_none (Ok steps) = steps
+steps_or_none (Err _) = record { step = 0; cb_step = 0; cr_step = 0 }
+
 -- alpha and chroma "come out as they went in", the chroma's step "handed back"
 pub record PassedThrough (c : Call) : Type 0 where
-  pub steps : Steps
-  pub done : c.answered ≡ Ok steps
   pub alpha : (p : Place) → Within c.given p → (TonedAt c.given p → ⊥)
       → output c p ≡ input c p
   pub cb : IsYuv c.given
       → take (length c.given.lent.cb.bytes) c.after.cb ≡ c.given.lent.cb.bytes
   pub cr : IsYuv c.given
       → take (length c.given.lent.cr.bytes) c.after.cr ≡ c.given.lent.cr.bytes
-  pub cb_step : IsYuv c.given → steps.cb_step ≡ c.given.lent.cb.step
-  pub cr_step : IsYuv c.given → steps.cr_step ≡ c.given.lent.cr.step
+  pub cb_step : IsYuv c.given → (steps_or_none c.answered).cb_step ≡ c.given.lent.cb.step
+  pub cr_step : IsYuv c.given → (steps_or_none c.answered).cr_step ≡ c.given.lent.cr.step
 
 -- ---- two runs
 -- "alike in their rows": the same byte at every place, alpha too

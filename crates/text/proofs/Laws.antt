@@ -1,12 +1,11 @@
 -- Texts character by character, and how long they are.
-use Rattle.std.specs.Prelude.{◌≡◌, ℕ, ◌+◌, ◌*◌, ◌/◌, ◌%◌, ◌<◌, ◌≤◌, List, [], ◌∷◌, ◌++◌, length, get_or, take, min, ltb}
+use Rattle.std.specs.Prelude.{◌≡◌, ℕ, ◌+◌, ◌*◌, ◌/◌, ◌%◌, ◌<◌, ◌≤◌, List, [], ◌∷◌, ◌++◌, length, get_or, take, min, ltb, Ok, Err}
 use Rattle.std.proofs.Common.{sym, ap, ◌∙◌, arith, lit<, lit≤, length-append, take_all, ltb-true, ltb-false}
 use Rattle.std.proofs.lemmas.List.{get_or_append_left, get_or_push}
 use Rattle.lists.specs.Test.{by_test}
 use Rattle.lists.specs.Tabulate.{tabulate, length_tabulate, get_d_tabulate, is_tabulate}
-use Rattle.answers.specs.declared.Refusal.{Refusal}
 use Rattle.answers.specs.declared.Refusal.TheVariants.{RecordTruncated, PointCount, PointsNotRising, UnknownKind, FieldMismatch, TrailingBytes, UnsupportedFormat, PictureTooLarge, MissingPlane, RowStep, PlaneTooShort, OutputTooSmall, TableLength, HeightRange}
-use Rattle.answers.specs.Numbers.{refusal_number, number_of, is_done}
+use Rattle.answers.specs.Numbers.{Answer, number_of, is_done}
 use Rattle.tables.specs.Tables.{byte_table}
 use Rattle.records.specs.Format.{read_record}
 use Rattle.text.specs.Text.{character, character_at, refusal_text, printed}
@@ -43,21 +42,22 @@ take_min n m l e =
     rw is (take_all m l (omega arith) ∙ sym (take_all n l (omega arith))))
 
 -- two digits hold every number
-pub two_digits : (r : Refusal) → refusal_number r < 100
-two_digits RecordTruncated = lit< tt
-two_digits PointCount = lit< tt
-two_digits PointsNotRising = lit< tt
-two_digits UnknownKind = lit< tt
-two_digits FieldMismatch = lit< tt
-two_digits TrailingBytes = lit< tt
-two_digits UnsupportedFormat = lit< tt
-two_digits PictureTooLarge = lit< tt
-two_digits MissingPlane = lit< tt
-two_digits RowStep = lit< tt
-two_digits PlaneTooShort = lit< tt
-two_digits OutputTooSmall = lit< tt
-two_digits TableLength = lit< tt
-two_digits HeightRange = lit< tt
+pub two_digits : (a : Answer) → number_of a < 100
+two_digits (Ok tt) = lit< tt
+two_digits (Err RecordTruncated) = lit< tt
+two_digits (Err PointCount) = lit< tt
+two_digits (Err PointsNotRising) = lit< tt
+two_digits (Err UnknownKind) = lit< tt
+two_digits (Err FieldMismatch) = lit< tt
+two_digits (Err TrailingBytes) = lit< tt
+two_digits (Err UnsupportedFormat) = lit< tt
+two_digits (Err PictureTooLarge) = lit< tt
+two_digits (Err MissingPlane) = lit< tt
+two_digits (Err RowStep) = lit< tt
+two_digits (Err PlaneTooShort) = lit< tt
+two_digits (Err OutputTooSmall) = lit< tt
+two_digits (Err TableLength) = lit< tt
+two_digits (Err HeightRange) = lit< tt
 
 -- the characters of entry i
 module _ (table : List ℕ) (i j k : ℕ) (e : k ≡ i * 3 + j) (h : j < 3) where
