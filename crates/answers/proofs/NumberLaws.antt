@@ -1,10 +1,9 @@
 -- Different answers have different numbers, none of them 1; and what code knows that asks whether an
 -- answer is done.
-use Rattle.std.specs.Prelude.{◌≡◌, refl, Bool, true, false, not, eqb, get_or, Result, Ok, Err}
+use Rattle.std.specs.Prelude.{◌≡◌, refl, true, eqb, get_or, Result, Ok, Err}
 use Rattle.std.specs.Result.{result_and, IsErrAnd}
 use Rattle.std.proofs.lemmas.Result.{err_from_is_err_and}
 use Rattle.std.proofs.Common.{arith, sym, ap, ◌∙◌, true≢false, ne_eqb}
-use Rattle.std.proofs.lemmas.Bool.{not-true, not-false}
 use Rattle.answers.specs.declared.Refusal.{Refusal}
 use Rattle.answers.specs.Numbers.{
   Answer,
@@ -34,14 +33,6 @@ number_done (Err r) = ne_eqb _ 0 (λ e. true≢false (sym (ap is_done (number_un
 pub done_is : (a : Answer) → is_done a ≡ true → a ≡ done
 done_is (Ok tt) e = refl
 done_is (Err r) e = absurd (true≢false (sym e))
-
--- code asked whether a is done, and tested that it is not
-module _ (a : Answer) {done : Bool} (is : done ≡ is_done a) where
-  pub asked_refused : not done ≡ true → is_done a ≡ false
-  asked_refused t = sym is ∙ not-true done t
-
-  pub asked_done : not done ≡ false → a ≡ Ok tt
-  asked_done t = done_is a (sym is ∙ not-false done t)
 
 -- a call that hands v back where a is done, and else its refusal, answers a
 pub answer_handed : {A : Type 0} (a : Answer) (v : A) → answer_of (result_and a (Ok v)) ≡ a

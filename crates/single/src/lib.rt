@@ -99,10 +99,11 @@ pub fn tiny(d: f32) -> bool
 pub fn byte_to_float(b: u8) -> f32
     ensures { result ≡ float b }
 {
-    b as f32
+    f32::from(b)
 }
 
 // A count as a float, exactly: single precision has every whole number up to 2²⁴.
+// Stays: std has no From<usize> for f32.
 pub fn count_to_float(n: usize) -> f32
     requires { n ≤ 2 ^ 24 }
     ensures { result ≡ float n }

@@ -53,6 +53,7 @@ fn guess(a: u64, odd: u64, m: u64) -> u64
 
 // The first number from p on that is not too small: the root of m is not past
 // the half-way to the next.
+// Stays: r is searched, and there is no end to count to.
 fn raised(m: u64, p: u64) -> u64
     requires { (m < 2 ^ 48) × (p ≤ 2 ^ 26) }
     ensures { (m ≤ result * result + result) × (result ≤ 2 ^ 26) }
@@ -65,6 +66,7 @@ fn raised(m: u64, p: u64) -> u64
 }
 
 // From a p that is not too small, the number nearest to the root of m.
+// Stays: r is searched, and there is no end to count to.
 fn lowered(m: u64, p: u64) -> u64
     requires { (0 < m) × (m < 2 ^ 48) × (m ≤ p * p + p) × (p ≤ 2 ^ 26) }
     ensures { (result * result < m + result) × (m ≤ result * result + result) }
@@ -93,17 +95,17 @@ fn missing_digits(t: u32) -> u32
     requires { (0 < t) × (t < 2 ^ 23) }
     ensures { (2 ^ 23 ≤ t * 2 ^ result) × (t * 2 ^ result < 2 ^ 24) × (result ≤ 24) }
 {
-    u32::leading_zeros(t) - 8
+    t.leading_zeros() - 8
 }
 
 // The square root of x.
 pub fn sqrt(x: f32) -> f32
     ensures { result ≡ root_of x }
 {
-    if x != x {
+    if x.is_nan() {
         return x;
     }
-    let b = f32::to_bits(x);
+    let b = x.to_bits();
     if b >= 0x7f80_0000 {
         if b > 0x8000_0000 {
             return 0.0 / 0.0;

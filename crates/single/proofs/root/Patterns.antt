@@ -1,7 +1,7 @@
 -- The root of a float by its bit pattern b: one law for each way through `sqrt`.
-use mathlib.Core.Path.{◌≡◌, refl, sym, ap, subst}
+use mathlib.Core.Path.{◌≡◌, refl, sym, ap}
 use mathlib.Core.Logic.{inl, inr}
-use mathlib.Core.Bool.{Bool, true, false, not, cond}
+use mathlib.Core.Bool.{Bool, true, false, cond}
 use Prim.Native.Nat.{ℕ, zero, suc, ◌+◌, ◌-◌, ◌*◌, ◌/◌, ◌%◌, ◌^◌, ◌≤◌, ◌<◌}
 use native.Mathlib.Nat.{
   mod-eq_of_lt,
@@ -14,25 +14,21 @@ use native.Mathlib.Nat.{
 }
 use native.Mathlib.Omega.{arith}
 use lib.IntN.{ℤ}
-use lib.Dec.{T, eqb}
+use lib.Dec.{eqb}
 use lib.Pow.{pow_pos, pow-add}
-use lib.Ieee.{Float, nan, inf, fin, binary32, up, down, odd, of_fields, of_bits, is_nan, ne}
-use lib.Ieee.Compare.{differs_from_itself}
+use lib.Ieee.{Float, nan, inf, fin, binary32, up, down, odd, of_fields, of_bits, is_nan}
 use lib.Ieee.Exact.{HasValue, odd_sign}
 use lib.Ieee.Fits.{down_pos}
+use Rattle.std.proofs.lemmas.Bool.{false≢true}
 use borrow.Author.Tests.{le-leb, lt-leb, ne_eqb}
 use Rattle.single.specs.Root.{root_of_units, root_of}
 
 -- ---- the test for a NaN
-pub not-nan : (x : Float) → ne x x ≡ false → T (not (is_nan x))
-unfolding ne is_nan
-not-nan nan e = absurd (subst T e tt)
-not-nan (inf s) e = tt
-not-nan (fin s m d) e = tt
-
-pub nan-root : (x : Float) → ne x x ≡ true → x ≡ root_of x
-unfolding root_of
-nan-root x e = rw (differs_from_itself x (rw e tt))
+pub nan-root : (x : Float) → is_nan x ≡ true → x ≡ root_of x
+unfolding root_of is_nan
+nan-root nan e = refl
+nan-root (inf s) e = absurd (false≢true e)
+nan-root (fin s m d) e = absurd (false≢true e)
 
 -- ---- the root of a float by its value
 nonzero : (c : ℕ) (e : ℤ) (a : ℕ) → 0 < a → zero * up e * c ≡ a * down e → ⊥
