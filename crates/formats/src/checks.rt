@@ -13,6 +13,7 @@ ghost use Rattle.formats.specs.Checks.{
 
 use crate::{Lengths, PixelFormat};
 use answers::{Answer, Refusal, room_for};
+use rows::Grid;
 
 fn too_large(w: usize, h: usize) -> bool
     ensures { result ≡ too_large w h }
@@ -28,10 +29,11 @@ fn wrong_step(row: usize, step: usize) -> bool
 
 // How many bytes a plane must have.
 #[tactic(auto, unfolding(rows::specs::Rows::needed))]
-fn needed_bytes(w: usize, h: usize, row: usize, step: usize) -> usize
-    requires { (h ≤ 4096) × (row ≤ step) × (step ≤ 32768) }
-    ensures { result ≡ needed w h row step }
+fn needed_bytes(grid: Grid, row: usize) -> usize
+    requires { (grid.h ≤ 4096) × (row ≤ grid.step) × (grid.step ≤ 32768) }
+    ensures { result ≡ needed grid.w grid.h row grid.step }
 {
+    let Grid { w, h, step } = grid;
     if w == 0 {
         return 0;
     }
@@ -42,14 +44,14 @@ fn needed_bytes(w: usize, h: usize, row: usize, step: usize) -> usize
 }
 
 // 11, 12 of a first plane of len bytes.
-fn plane_answer(w: usize, h: usize, row: usize, step: usize, len: usize) -> Answer
-    requires { h ≤ 4096 }
-    ensures { result ≡ first_refusal (plane_checks w h row step len) }
+fn plane_answer(grid: Grid, row: usize, len: usize) -> Answer
+    requires { grid.h ≤ 4096 }
+    ensures { result ≡ first_refusal (plane_checks grid.w grid.h row grid.step len) }
 {
-    if wrong_step(row, step) {
+    if wrong_step(row, grid.step) {
         return Err(Refusal::RowStep);
     }
-    if len < needed_bytes(w, h, row, step) {
+    if len < needed_bytes(grid, row) {
         return Err(Refusal::PlaneTooShort);
     }
     Ok(())
@@ -57,13 +59,13 @@ fn plane_answer(w: usize, h: usize, row: usize, step: usize, len: usize) -> Answ
 
 // 9, 11, 12.
 #[tactic(auto, unfolding(crate::specs::Checks::lut_answer))]
-pub fn lut_answer(format: PixelFormat, w: usize, h: usize, step: usize, len: usize) -> Answer
-    ensures { result ≡ lut_answer format w h step len }
+pub fn lut_answer(format: PixelFormat, grid: Grid, len: usize) -> Answer
+    ensures { result ≡ lut_answer format grid.w grid.h grid.step len }
 {
-    if too_large(w, h) {
+    if too_large(grid.w, grid.h) {
         return Err(Refusal::PictureTooLarge);
     }
-    plane_answer(w, h, w * format.bytes_a_pixel(), step, len)
+    plane_answer(grid, grid.w * format.bytes_a_pixel(), len)
 }
 
 // 13: tight rows of size bytes, and for YUV each chroma plane.
@@ -80,27 +82,20 @@ fn output_answer(format: PixelFormat, size: usize, held: Lengths) -> Answer
 
 // 8, 9, 10, 11, 12, 13.
 #[tactic(auto, unfolding(crate::specs::Checks::picture_answer))]
-pub fn picture_answer(
-    format: PixelFormat,
-    w: usize,
-    h: usize,
-    planes: usize,
-    step: usize,
-    held: Lengths,
-) -> Answer
-    ensures { result ≡ picture_answer format w h planes step held }
+pub fn picture_answer(format: PixelFormat, grid: Grid, planes: usize, held: Lengths) -> Answer
+    ensures { result ≡ picture_answer format grid.w grid.h planes grid.step held }
 {
     let read = format.planes_read();
     if read == 0 {
         return Err(Refusal::UnsupportedFormat);
     }
-    if too_large(w, h) {
+    if too_large(grid.w, grid.h) {
         return Err(Refusal::PictureTooLarge);
     }
     if planes < read {
         return Err(Refusal::MissingPlane);
     }
-    let row = w * format.bytes_a_pixel();
-    plane_answer(w, h, row, step, held.plane)?;
-    output_answer(format, h * row, held)
+    let row = grid.w * format.bytes_a_pixel();
+    plane_answer(grid, row, held.plane)?;
+    output_answer(format, grid.h * row, held)
 }

@@ -26,6 +26,7 @@ pub enum PixelFormat {
 }
 
 // The format of a number. One above the last is none: whoever asks has refused it.
+// Stays beside `try_from`: what cannot fail has no Result.
 pub fn format_of(n: u8) -> PixelFormat
     ensures { result ≡ format_of n }
 {

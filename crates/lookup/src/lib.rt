@@ -4,7 +4,7 @@
 // LLVM finds several at once.
 #![tactic(auto)]
 
-ghost use Rattle.std.specs.Prelude.{◌≡◌, ◌+◌, ◌≤◌, min, length, replicate};
+ghost use Rattle.std.specs.Prelude.{◌≡◌, ◌+◌, ◌≤◌, length, replicate};
 ghost use Rattle.lists.specs.Stored.{Stored};
 ghost use Rattle.single.specs.Rules.{floor_of};
 ghost use Rattle.lookup.specs.Lookup as L;
@@ -49,13 +49,6 @@ fn blend(table: &[f32], v: f32, i: u16) -> f32
     (table[i] * (1.0 - f) + table[next] * f) / 255.0
 }
 
-// How many of the n values left make the next block.
-fn block_size(n: usize) -> usize
-    ensures { result ≡ min n 64 }
-{
-    n.min(64)
-}
-
 // The indices of the n values from the place at on.
 fn indices(values: &[f32], at: usize, n: usize) -> [u16; 64]
     requires { (n ≤ 64) × (at + n ≤ length values.now) }
@@ -90,12 +83,10 @@ pub fn lookup(table: &[f32], values: &mut [f32]) -> Answer
         return Err(Refusal::TableLength);
     }
     let end = values.len();
-    let mut at = 0;
-    while at < end {
-        let n = block_size(end - at);
+    for at in (0..end).step_by(64) {
+        let n = (end - at).min(64);
         let indices = indices(values, at, n);
         replace(table, &indices, at, n, values);
-        at += n;
     }
     Ok(())
 }

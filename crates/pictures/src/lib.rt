@@ -50,16 +50,13 @@ pub fn apply_tone_lut(
 ) -> Answer
     ensures { OneTableCall format width height step table plane.old result plane.new }
 {
-    let w = width as usize;
-    let h = height as usize;
-    checks::lut_answer(format, w, h, step, plane.len())?;
-    tone_rows(
-        plane,
-        Grid { w, h, step },
-        format.bytes_a_pixel(),
-        format.alpha(),
-        &table,
-    );
+    let grid = Grid {
+        w: width as usize,
+        h: height as usize,
+        step,
+    };
+    checks::lut_answer(format, grid, plane.len())?;
+    tone_rows(plane, grid, format.bytes_a_pixel(), format.alpha(), &table);
     Ok(())
 }
 
@@ -143,8 +140,11 @@ pub fn apply_pixels<'a, 'x, 'y, 'z>(
 {
     let set = job.set;
     let format = job.format;
-    let w = job.width as usize;
-    let h = job.height as usize;
+    let grid = Grid {
+        w: job.width as usize,
+        h: job.height as usize,
+        step,
+    };
     let held = Lengths {
         plane: plane.len(),
         cb: cb.len(),
@@ -154,9 +154,9 @@ pub fn apply_pixels<'a, 'x, 'y, 'z>(
         out_cr: out_cr.len(),
     };
     set.check(Heights::Fine)?;
-    checks::picture_answer(format, w, h, job.planes, step, held)?;
-    tone_first(set, format, plane, Grid { w, h, step }, out);
-    let row = w * format.bytes_a_pixel();
+    checks::picture_answer(format, grid, job.planes, held)?;
+    tone_first(set, format, plane, grid, out);
+    let row = grid.w * format.bytes_a_pixel();
     if format.planes_read() == 3 {
         copy_bytes(cb, out_cb);
         copy_bytes(cr, out_cr);

@@ -21,6 +21,7 @@ pub fn unnamed_kind(newer: bool) -> CurveInterpolation
 }
 
 // 5, of a kind's number.
+// Stays: of a number, the record's byte; 6 is found by it before what the kind carries is read.
 pub fn check_kind(kind: u8) -> Answer
     ensures { result ≡ first_refusal (kind_check kind ∷ []) }
 {
@@ -31,6 +32,7 @@ pub fn check_kind(kind: u8) -> Answer
 }
 
 // The kind byte where it is there; else the number of the unnamed kind.
+// Stays: present is the map's bit; no value is beside it, so an Option would hold nothing.
 #[tactic(auto, unfolding(crate::specs::Kinds::read_number))]
 fn read_number(
     rest: &[u8],

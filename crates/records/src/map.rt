@@ -5,6 +5,7 @@ ghost use Rattle.records.specs.Map.{bit, colour_bit};
 use sets::Colour;
 
 // Whether the bit of this weight is set.
+// Stays: numbers, here and in `colour_bit`; the map is a byte of the record.
 pub fn has_bit(map: u8, weight: u8) -> bool
     requires { 0 < weight }
     ensures { result ≡ bit weight map }

@@ -28,6 +28,7 @@ pub fn point_bytes(edition: Edition) -> usize
 }
 
 // The point at the front: its x, then its height.
+// Stays: a match for each point, by the cases of `point_of`; a closure or a trait is no plainer.
 fn read_point(edition: Edition, bytes: &[u8]) -> Point
     requires { point_bytes edition ≤ length bytes.now }
     ensures { result ≡ point_of edition bytes.now }
@@ -94,6 +95,7 @@ fn read_curve(rest: &[u8], least: usize) -> Result<(Curve, &[u8]), Refusal>
 }
 
 // A list whose field is there only where its bit is set.
+// Stays: present is the map's bit; no value is beside it, so an Option would hold nothing.
 #[tactic(auto, using(crate::proofs::Lists::empty_passes))]
 pub fn read_field(rest: &[u8], present: bool, least: usize) -> Result<(Curve, &[u8]), Refusal>
     ensures { ListRead (read_field present least rest.now) result }

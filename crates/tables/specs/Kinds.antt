@@ -1,8 +1,11 @@
 -- The ten kinds: their numbers, what they carry, how a piece is drawn, and the value at each knot,
 -- as document 01's sections "Kinds and tables" and "Stored record" have them. Definitions only.
-use Rattle.std.specs.Prelude.{ℕ, ◌<◌, Bool, cond, List, [], ◌∷◌, eqb, ℤ, pos, get_or, replicate, Float}
+use Rattle.std.specs.Prelude.{ℕ, ◌<◌, Bool, cond, List, [], ◌∷◌, eqb, ltb, ℤ, pos, get_or, replicate, Float}
+use Rattle.std.specs.Prelude.{Result, Ok, Err}
 use Rattle.std.specs.Int.Signed.{mag}
 use Rattle.lists.specs.Tabulate.{filled}
+use Rattle.answers.specs.declared.Refusal.{Refusal}
+use Rattle.answers.specs.declared.Refusal.TheVariants.{UnknownKind}
 use Rattle.single.specs.Constants.{𝟎}
 use Rattle.tangents.specs.CatmullRom.{catmull_rom_at, cardinal_at}
 use Rattle.monotone.specs.Monotone.{circle_at, box_at}
@@ -84,6 +87,10 @@ in_order q start end =
 -- a greater number is none: it is refused before anything is asked of its kind
 unfoldable pub kind_of : ℕ → ℕ → ℤ → ℤ → CurveInterpolation
 kind_of n q start end = get_or (in_order q start end) n Linear
+
+-- 5 of a number above the last, else its kind
+abbrev pub kind_from : ℕ → ℕ → ℤ → ℤ → Result CurveInterpolation Refusal
+kind_from n q start end = cond (ltb last_kind n) (Err UnknownKind) (Ok (kind_of n q start end))
 
 abbrev pub carries_tension : ℕ → Bool
 carries_tension k = eqb k 7

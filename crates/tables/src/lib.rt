@@ -10,6 +10,7 @@ ghost use Rattle.points.specs.Joined.{TypedRows};
 ghost use Rattle.tables.specs.Kinds.{
   kind_number,
   kind_of,
+  kind_from,
   carries_tension,
   carries_slopes,
   kind_bits,
@@ -72,6 +73,7 @@ impl CurveInterpolation {
     // The number of the last kind.
     pub const LAST_KIND: u8 = 9;
 
+    // Stays: no From; `u8::from(kind)` would not say that this is the number in a record.
     pub fn number(self) -> u8
         ensures { result ≡ kind_number self }
     {
@@ -94,7 +96,8 @@ impl CurveInterpolation {
 }
 
 // The kind of a number up to the last, with a tension and two slopes for the kinds that carry them.
-// Stays: no TryFrom; a number alone does not tell what its kind carries, and this cannot fail.
+// Stays beside `kind_from`: what cannot fail has no Result. No TryFrom: a number alone does not tell
+// what its kind carries.
 pub fn kind_of(k: u8, tension_q8: u8, start_slope_q8: i16, end_slope_q8: i16) -> CurveInterpolation
     ensures { result ≡ kind_of k tension_q8 start_slope_q8 end_slope_q8 }
 {
@@ -120,7 +123,24 @@ pub fn kind_of(k: u8, tension_q8: u8, start_slope_q8: i16, end_slope_q8: i16) ->
     }
 }
 
+// The same of a number that is not checked yet: 5, above the last.
+pub fn kind_from(
+    k: u8,
+    tension_q8: u8,
+    start_slope_q8: i16,
+    end_slope_q8: i16,
+) -> Result<CurveInterpolation, Refusal>
+    ensures { result ≡ kind_from k tension_q8 start_slope_q8 end_slope_q8 }
+{
+    if CurveInterpolation::LAST_KIND < k {
+        return Err(Refusal::UnknownKind);
+    }
+    Ok(kind_of(k, tension_q8, start_slope_q8, end_slope_q8))
+}
+
 // Whether the kind of this number carries a tension.
+// Stays, as the two below: of numbers, as the record's bytes are; 6 is found by the number before
+// what the kind carries is read.
 pub fn carries_tension(k: u8) -> bool
     ensures { result ≡ carries_tension k }
 {
@@ -148,6 +168,7 @@ pub fn kind_bits(k: u8) -> u8
 }
 
 // What a kind carries; zeros where it carries nothing.
+// Stays: docs/ARCHITECTURE.md names it, and its contract says that every kind is legal.
 pub fn carried_by(kind: CurveInterpolation) -> Carried
     ensures { (result ≡ carried_of kind) × LegalKind kind }
 {
@@ -247,6 +268,7 @@ pub fn sample_curve(curve: &Curve, kind: CurveInterpolation, samples: &mut [f32]
 }
 
 // Each sample to a byte.
+// Stays: with `array::from_fn` the proof did not close; `search` does not go through 256 calls.
 fn to_bytes(samples: &[f32; 256]) -> [u8; 256]
     ensures { result ≡ bytes_of samples.now }
 {

@@ -17,8 +17,8 @@ pub const INPUT: usize = 523;
 pub type Text = ArrayVec<u8, 768>;
 
 // The digit of a number below 16.
-// Stays, and a decimal digit is made likewise: the edits `lower_case` and `tens_of_eleven` are of
-// them, and what is printed goes into bytes, which no Display writes.
+// Stays, and a decimal digit is made likewise: the edits `lower_case` and `tens_of_eleven` hold
+// them.
 fn digit(d: u8) -> u8
     requires { d < 16 }
     ensures { result ≡ hexadecimal d }

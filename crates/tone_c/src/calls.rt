@@ -19,7 +19,7 @@ use pictures::{Job, apply_pixels, apply_tone_lut};
 use points::Curve;
 use records::read_set;
 use rows::copy_bytes;
-use tables::{CurveInterpolation, entries_of, kind_of, length_answer, sample_curve};
+use tables::{CurveInterpolation, entries_of, length_answer, sample_curve};
 use writing::write_record;
 
 // 13, then the byte table of a list that has passed at the front of table.
@@ -44,8 +44,8 @@ pub fn table(
     ensures { ToneTableCall points.now kind «tension» start_slope end_slope
         table.old (number_of result) table.new }
 {
-    let curve = given::curve_of(points, kind)?;
-    put_table(curve, kind_of(kind, tension, start_slope, end_slope), table)
+    let (curve, kind) = given::curve_of(points, kind, tension, start_slope, end_slope)?;
+    put_table(curve, kind, table)
 }
 
 // 3, 20, 5 and 14 of `tone_fine_table`.
@@ -60,9 +60,8 @@ pub fn fine_table(
     ensures { ToneFineTableCall points.now kind «tension» start_slope end_slope
         table.old (number_of result) table.new }
 {
-    let curve = given::curve_of(points, kind)?;
+    let (curve, interpolation) = given::curve_of(points, kind, tension, start_slope, end_slope)?;
     length_answer(table.len())?;
-    let interpolation = kind_of(kind, tension, start_slope, end_slope);
     sample_curve(&curve, interpolation, table);
     Ok(())
 }

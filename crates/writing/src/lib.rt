@@ -27,13 +27,13 @@ use arrayvec::ArrayVec;
 use points::{Curve, Heights};
 use records::kinds::unnamed_kind;
 use sets::{Channel, Curves};
-use tables::{CurveInterpolation, carried_by, carries_slopes, carries_tension, kind_bits};
+use tables::{CurveInterpolation, kind_bits};
 
 // The most bytes that a record has: the map, four lists of a count and 64
 // points, the kind, two slopes.
 pub const LONGEST_RECORD: usize = 1 + 4 * (1 + 2 * Curve::LIMIT) + 1 + 4;
 
-// A record in the making.
+// The bytes of a record, as far as they are written.
 type Draft = ArrayVec<u8, LONGEST_RECORD>;
 
 // An x and a y for each point. The y is a level: heights are multiples of 256 here.
@@ -84,13 +84,16 @@ fn push_carried(draft: &mut Draft, k: CurveInterpolation)
     requires { Room (carried_bytes k) draft.old }
     ensures { Appended (carried_bytes k) draft.old draft.new × LegalKind k }
 {
-    let number = k.number();
-    let carried = carried_by(k);
-    if carries_tension(number) {
-        draft.push(carried.tension);
-    } else if carries_slopes(number) {
-        push_slope(draft, carried.start);
-        push_slope(draft, carried.end);
+    match k {
+        CurveInterpolation::Cardinal { tension_q8 } => draft.push(tension_q8),
+        CurveInterpolation::ClampedCubic {
+            start_slope_q8,
+            end_slope_q8,
+        } => {
+            push_slope(draft, start_slope_q8);
+            push_slope(draft, end_slope_q8);
+        }
+        _ => {}
     }
 }
 
@@ -98,11 +101,11 @@ fn push_carried(draft: &mut Draft, k: CurveInterpolation)
 fn names_kind(k: CurveInterpolation) -> bool
     ensures { result ≡ names_kind k }
 {
-    let unnamed = unnamed_kind(true);
-    k.number() != unnamed.number()
+    k != unnamed_kind(true)
 }
 
 // The bit of this weight, where it is set.
+// Stays: a number; the map is a byte of the record, and `map_byte` adds its bits up.
 fn mark(present: bool, weight: u8) -> u8
     ensures { (result ≡ cond present weight 0) × (result ≤ weight) }
 {

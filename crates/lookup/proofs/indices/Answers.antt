@@ -1,5 +1,5 @@
 -- `lookup::indices` meets its contract: the loop stores one index after another.
-use Rattle.std.proofs.Common.{arith, rules}
+use Rattle.std.proofs.Common.{arith}
 use Rattle.lists.specs.Stored.{stored_none, stored_next, stored_end}
 use Rattle.lookup.specs.Lookup.{index_from}
 use Rattle.lookup.proofs.indices.Goals as goal

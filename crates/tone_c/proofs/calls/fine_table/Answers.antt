@@ -59,7 +59,7 @@ returns c =
       table =
           c.sample_curve.ensures
           ∙ rw (
-            c.kind_of-interpolation.ensures,
+            c.in_ok-curve.ensures.kind,
             c.in_ok-curve.ensures.list,
             to_z-of_z c.ranges.start_slope,
             to_z-of_z c.ranges.end_slope,

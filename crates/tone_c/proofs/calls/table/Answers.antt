@@ -32,7 +32,7 @@ returns c =
       table =
           rw (number_done c.put_table.result)
           (rw (
-            c.kind_of.ensures,
+            c.in_ok-curve.ensures.kind,
             c.in_ok-curve.ensures.list,
             to_z-of_z c.ranges.start_slope,
             to_z-of_z c.ranges.end_slope,
