@@ -10,6 +10,7 @@ use native.Mathlib.Omega.{arith}
 use lib.ListN.{length, get_or, drop}
 use lib.Seq.{drop-length}
 use borrow.Author.Tests.{ne_eqb}
+use lib.Dec.{eqb}
 use Rattle.std.proofs.Common.{add-mul, mul-one, zero-mul}
 use Rattle.std.proofs.Math.Nat.{mul-add-mod_self_right}
 use Rattle.lists.specs.Each.{each, each_same, is_each}
@@ -104,17 +105,17 @@ pub last_of_four : {p kept : ℕ} → InPlace p kept → kept < p → (p ≡ 2 �
 last_of_four o lt n = ⊎_elim (λ q. absurd (omega arith)) (⊎_elim (λ q. absurd (n q.0)) (λ q. q)) o
 
 -- the rows of a plane, each byte a pixel
+none_same : (w p : ℕ) → 1 ≤ p → eqb (w * p) 0 ≡ eqb w 0
+none_same zero p some = rw (zero-mul p)
+none_same (suc w) p some =
+    let wide = mul_bound 1 1 (suc w) p (omega arith) some in
+    rw (ne_eqb (suc w * p) 0 (λ e. omega arith), ne_eqb (suc w) 0 (λ e. omega arith))
+
 pub rows_of_bytes : {w h p step len : ℕ} → 1 ≤ p → Rows w h (w * p) step len
     → Rows (w * p) h (w * p * 1) step len
 unfolding needed
-rows_of_bytes {w = zero} {p = p} some rows = record { stepped = omega arith; enough = rw (zero-mul p) (omega arith) }
-rows_of_bytes {w = suc w} {p = p} some rows =
-    let wide = mul_bound 1 1 (suc w) p (omega arith) some in
-    record {
-      stepped = rw mul-one rows.stepped;
-      enough = rw (ne_eqb (suc w * p) 0 (λ e. omega arith), mul-one)
-          (rw (ne_eqb (suc w) 0 (λ e. omega arith)) at rows.enough);
-    }
+rows_of_bytes {w = w} {p = p} some rows =
+    rw mul-one (record { stepped = rows.stepped; enough = rw (none_same w p some) rows.enough })
 
 -- a row of a plane after others
 module _ (row h step : ℕ) (g : ℕ → ℕ → ℕ) where
