@@ -9,7 +9,9 @@ use native.Mathlib.Nat.{mod-lt}
 use native.Mathlib.Omega.{arith}
 use lib.ListN.{length, get_or, drop}
 use lib.Seq.{drop-length}
-use Rattle.std.proofs.Common.{add-mul}
+use borrow.Author.Tests.{ne_eqb}
+use lib.Dec.{eqb}
+use Rattle.std.proofs.Common.{add-mul, mul-one, zero-mul}
 use Rattle.std.proofs.Math.Nat.{mul-add-mod_self_right}
 use Rattle.lists.specs.Each.{each, each_same, is_each}
 use Rattle.lists.specs.Replaced.{
@@ -24,8 +26,8 @@ use Rattle.lists.specs.Replaced.{
 use Rattle.lists.specs.Stored.{Stored, stored_then, stored_end, stored_inside}
 use Rattle.lists.specs.Part.{part, back, length_part, get_d_part, stored_part_each, replaced_part}
 use Rattle.rows.specs.Bytes.{same, three, through, toned, row_byte, pixel_byte}
-use Rattle.rows.specs.Rows.{in_row, plane_byte, InPlace, Pixels}
-use Rattle.rows.specs.Places.{mul_next, mul_part}
+use Rattle.rows.specs.Rows.{in_row, plane_byte, needed, Rows, InPlace, Pixels}
+use Rattle.rows.specs.Places.{mul_next, mul_part, mul_bound}
 use Rattle.rows.specs.Laws.{
   toned_through,
   toned_kept,
@@ -70,26 +72,22 @@ three_same table zero = refl
 three_same table (suc zero) = refl
 three_same table (suc (suc channel)) = refl
 
-pub one_table : (p kept : ℕ) (table l : List ℕ)
-    → each (row_byte p kept (three table table table)) l ≡ each (row_byte p kept (same table)) l
+pub one_table : (p kept : ℕ) (table : List ℕ) (c b : ℕ)
+    → row_byte p kept (three table table table) c b ≡ row_byte p kept (same table) c b
 unfolding row_byte toned
-one_table p kept table l =
-    each_same 0 (row_byte p kept (three table table table)) (row_byte p kept (same table)) l
-    (λ c lt. rw (three_same table (c % p)))
+one_table p kept table c b = rw (three_same table (c % p))
 
 -- where no channel is kept, every byte goes through the table: each is a pixel by itself
-pub all_toned : (p kept : ℕ) (table l : List ℕ) → 1 ≤ p → p ≤ kept
-    → each (row_byte 1 1 (same table)) l ≡ each (row_byte p kept (same table)) l
+pub all_toned : (p kept : ℕ) (table : List ℕ) → 1 ≤ p → p ≤ kept → (c b : ℕ)
+    → row_byte 1 1 (same table) c b ≡ row_byte p kept (same table) c b
 unfolding row_byte
-all_toned p kept table l some none =
-    each_same 0 (row_byte 1 1 (same table)) (row_byte p kept (same table)) l
-    (λ c lt.
+all_toned p kept table some none c b =
     let alone : c % 1 < 1 = mod-lt c (omega arith) in
     let channel : c % p < p = mod-lt c some in
     rw (
-      toned_through 1 (c % 1) (same table) (get_or l c 0) (λ q. omega arith),
-      toned_through kept (c % p) (same table) (get_or l c 0) (λ q. omega arith),
-    ))
+      toned_through 1 (c % 1) (same table) b (λ q. omega arith),
+      toned_through kept (c % p) (same table) b (λ q. omega arith),
+    )
 
 -- a copy as long as its original, of which each byte was then replaced
 pub copied_each : {copy m : List ℕ} (f : ℕ → ℕ → ℕ) (src dst : List ℕ) → length dst ≡ length src
@@ -106,6 +104,19 @@ last_of_two o lt e = ⊎_elim (λ q. absurd (omega arith)) (⊎_elim (λ q. q.1)
 pub last_of_four : {p kept : ℕ} → InPlace p kept → kept < p → (p ≡ 2 → ⊥) → (p ≡ 4) × (kept ≡ 3)
 last_of_four o lt n = ⊎_elim (λ q. absurd (omega arith)) (⊎_elim (λ q. absurd (n q.0)) (λ q. q)) o
 
+-- the rows of a plane, each byte a pixel
+none_same : (w p : ℕ) → 1 ≤ p → eqb (w * p) 0 ≡ eqb w 0
+none_same zero p some = rw (zero-mul p)
+none_same (suc w) p some =
+    let wide = mul_bound 1 1 (suc w) p (omega arith) some in
+    rw (ne_eqb (suc w * p) 0 (λ e. omega arith), ne_eqb (suc w) 0 (λ e. omega arith))
+
+pub rows_of_bytes : {w h p step len : ℕ} → 1 ≤ p → Rows w h (w * p) step len
+    → Rows (w * p) h (w * p * 1) step len
+unfolding needed
+rows_of_bytes {w = w} {p = p} some rows =
+    rw mul-one (record { stepped = rows.stepped; enough = rw (none_same w p some) rows.enough })
+
 -- a row of a plane after others
 module _ (row h step : ℕ) (g : ℕ → ℕ → ℕ) where
   pub plane_next : {l m n : List ℕ} (y : ℕ) → row ≤ step → y < h → y * step + row ≤ length m
@@ -119,6 +130,12 @@ module _ (row h step : ℕ) (g : ℕ → ℕ → ℕ) where
       let place : k ≡ y * step + (k - y * step) = omega arith in
       rw place (plane_padding row h step g _ b (beside_row row h step y (k - y * step) (omega arith) (omega arith)))))
       (sym (mul_next y step))
+
+  -- a function that agrees with g on every byte
+  pub plane_same : (f : ℕ → ℕ → ℕ) → ((c b : ℕ) → g c b ≡ f c b) → (l : List ℕ)
+      → each (plane_byte row h step g) l ≡ each (plane_byte row h step f) l
+  unfolding plane_byte
+  plane_same f same l = each_same 0 _ _ l (λ k lt. rw (same (k % step) (get_or l k 0)))
 
   -- the bytes from n on are padding
   pub plane_done : {n : ℕ} {l m : List ℕ} → Replaced 0 (plane_byte row h step g) 0 n l m

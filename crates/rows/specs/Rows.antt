@@ -53,7 +53,8 @@ InPlace p kept = ((1 ≤ p) × (p ≤ kept)) ⊎ (((p ≡ 2) × (kept ≡ 1)) �
 abbrev pub Tight : ℕ → Type 0
 Tight p = (p ≡ 1) ⊎ ((p ≡ 3) ⊎ (p ≡ 4))
 
--- pixels of p bytes of which the first ones are toned, and at most one byte after them is kept
+-- pixels of p bytes of which the first ones are toned, and at most one byte after them is kept.
+-- This stays a clause: p and toned are const parameters, and a slice is not in a struct with them
 abbrev pub Pixels : ℕ → ℕ → Type 0
 Pixels p toned = (1 ≤ p) × ((toned ≤ p) × (p ≤ toned + 1))
 

@@ -70,7 +70,9 @@ fn tone_eight<const P: usize, const K: usize>(s: &mut [u8], x: usize, tables: Ta
 // Tones as many whole eights of pixels as there are.
 // Stays: a `while` with a count of what is left. LLVM then steps a pointer alone, and a store needs
 // no index register. `for` over the eights takes 125 us for the 86 of this (Gray8, 128 rows of
-// 1,920); `chunks_exact_mut` is as fast, but its contract does not say what the slice ends as.
+// 1,920), and misses the mark of the one-table call in docs/BENCHMARKS.md, 1.00 of the Rust, which
+// this meets by 0.98; `chunks_exact_mut` is as fast, but its contract does not say what the slice
+// ends as.
 fn tone_eights<const P: usize, const K: usize>(s: &mut [u8], w: usize, tables: Tables)
     requires { Pixels P K × (length s.old ≡ w * P) }
     ensures { Replaced 0 (row_byte P K (by_channel tables.entry)) 0 ((w - w % 8) * P) s.old s.new }
@@ -95,10 +97,31 @@ fn tone_pixels<const P: usize, const K: usize>(s: &mut [u8], w: usize, tables: T
     }
 }
 
-// Tones a row in place by one table, but for its kept channel.
-fn tone_row(s: &mut [u8], w: usize, p: usize, kept: usize, table: &[u8; 256])
-    requires { InPlace p kept × (length s.old ≡ w * p) }
-    ensures { s.new ≡ each (row_byte p kept (same table.now)) s.old }
+// Tones each row of a plane in place, pixels of P bytes each. Padding stays.
+fn tone_plane<const P: usize, const K: usize>(plane: &mut [u8], grid: Grid, tables: Tables)
+    requires { Pixels P K × HasRows grid P (length plane.old) }
+    ensures { plane.new
+        ≡ each (plane_byte (grid.w * P) grid.h grid.step (row_byte P K (by_channel tables.entry)))
+        plane.old }
+{
+    if grid.w == 0 {
+        return;
+    }
+    let row = grid.w * P;
+    for y in 0..grid.h {
+        let at = y * grid.step;
+        let end = at + row;
+        tone_pixels::<P, K>(&mut plane[at..end], grid.w, tables);
+    }
+}
+
+// Tones each row of a plane in place by one table. Padding and the kept channel stay. Where no
+// channel is kept, each byte is a pixel by itself.
+pub fn tone_rows(plane: &mut [u8], grid: Grid, p: usize, kept: usize, table: &[u8; 256])
+    requires { InPlace p kept × HasRows grid p (length plane.old) }
+    ensures { plane.new
+        ≡ each (plane_byte (grid.w * p) grid.h grid.step (row_byte p kept (same table.now)))
+        plane.old }
 {
     let tables = Tables {
         red: table,
@@ -106,30 +129,12 @@ fn tone_row(s: &mut [u8], w: usize, p: usize, kept: usize, table: &[u8; 256])
         blue: table,
     };
     if p <= kept {
-        let n = s.len();
-        tone_pixels::<1, 1>(s, n, tables);
+        let w = grid.w * p;
+        tone_plane::<1, 1>(plane, Grid { w, ..grid }, tables);
     } else if p == 2 {
-        tone_pixels::<2, 1>(s, w, tables);
+        tone_plane::<2, 1>(plane, grid, tables);
     } else {
-        tone_pixels::<4, 3>(s, w, tables);
-    }
-}
-
-// Tones each row of a plane in place by one table. Padding and the kept channel stay.
-pub fn tone_rows(plane: &mut [u8], grid: Grid, p: usize, kept: usize, table: &[u8; 256])
-    requires { InPlace p kept × HasRows grid p (length plane.old) }
-    ensures { plane.new
-        ≡ each (plane_byte (grid.w * p) grid.h grid.step (row_byte p kept (same table.now)))
-        plane.old }
-{
-    if grid.w == 0 {
-        return;
-    }
-    let row = grid.w * p;
-    for y in 0..grid.h {
-        let at = y * grid.step;
-        let end = at + row;
-        tone_row(&mut plane[at..end], grid.w, p, kept, table);
+        tone_plane::<4, 3>(plane, grid, tables);
     }
 }
 
@@ -143,8 +148,6 @@ pub fn copy_bytes(src: &[u8], dst: &mut [u8])
 }
 
 // Copies w pixels, and tones the copy.
-// Stays: a loop for the copy. `copy_from_slice` calls memcpy, which costs more in blocks of this
-// size: 2,820 us for the 2,670 of this (Rgb24, 1920 x 1080).
 fn tone_block_into<const P: usize, const K: usize>(
     src: &[u8],
     w: usize,
@@ -154,14 +157,12 @@ fn tone_block_into<const P: usize, const K: usize>(
     requires { Pixels P K × (length src.now ≡ w * P) × (length dst.old ≡ w * P) }
     ensures { dst.new ≡ each (row_byte P K (by_channel tables.entry)) src.now }
 {
-    for i in 0..src.len() {
-        dst[i] = src[i];
-    }
+    copy_bytes(src, dst);
     tone_pixels::<P, K>(dst, w, tables);
 }
 
-// Tones the row src into the row dst, in blocks of so few pixels that a copied block is still at
-// hand when it is toned.
+// Tones the row src into the row dst, in blocks of so few pixels that a copied block is still in
+// the processor's cache when it is toned.
 fn tone_row_into<const P: usize, const K: usize>(
     src: &[u8],
     w: usize,

@@ -9,7 +9,7 @@ use Rattle.segments.specs.Segments.{sample_at}
 use Rattle.segments.specs.Straight.{part}
 use Rattle.sampling.specs.declared.Form.{Form}
 use Rattle.sampling.specs.declared.blocks.Cursor.{Cursor}
-use Rattle.sampling.specs.declared.Piece.{Piece}
+use Rattle.points.specs.declared.Piece.{Piece}
 use Rattle.sampling.specs.Pieces.{piece_height}
 use Rattle.sampling.specs.Walk.{part_from, parts_of, piece_sample}
 

@@ -4,7 +4,7 @@ use Rattle.std.proofs.Common.{refl}
 use Rattle.single.specs.Rules.{clamped}
 use Rattle.segments.specs.Straight.{part}
 use Rattle.sampling.specs.declared.Form.TheVariants.{Straight, Cubic}
-use Rattle.sampling.specs.declared.Piece.{Piece}
+use Rattle.points.specs.declared.Piece.{Piece}
 use Rattle.sampling.specs.Pieces.{piece_height}
 use Rattle.sampling.specs.Walk.{straight_sample, cubic_sample}
 

@@ -9,7 +9,7 @@ use Rattle.hermite.specs.Hermite.{hermite}
 use Rattle.spline.specs.Segments.{spline_piece}
 use Rattle.sampling.specs.declared.Form.{Form}
 use Rattle.sampling.specs.declared.Form.TheVariants.{Straight, Cubic, Spline}
-use Rattle.sampling.specs.declared.Piece.{Piece}
+use Rattle.points.specs.declared.Piece.{Piece}
 
 -- the piece i of the curve with the knots in xs and ys and the values at them, tangents or second
 -- derivatives, in ms

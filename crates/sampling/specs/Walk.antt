@@ -14,7 +14,7 @@ use Rattle.segments.specs.Straight.{part, straight}
 use Rattle.hermite.specs.Hermite.{hermite}
 use Rattle.spline.specs.Segments.{first_coefficient, third_coefficient, polynomial_from}
 use Rattle.sampling.specs.declared.Form.{Form}
-use Rattle.sampling.specs.declared.Piece.{Piece}
+use Rattle.points.specs.declared.Piece.{Piece}
 use Rattle.sampling.specs.declared.Pieces.{Pieces}
 use Rattle.sampling.specs.declared.blocks.Cursor.{Cursor}
 use Rattle.sampling.specs.Pieces.{piece_at, piece_height, height_at, sampled}

@@ -5,7 +5,8 @@ ghost use Rattle.points.specs.Knots.{at, too_thin};
 ghost use Rattle.segments.specs.Straight as Straight;
 ghost use Rattle.sampling.specs.Walk.{next_cursor, parts_of, piece_of};
 
-use crate::{Piece, Pieces, position};
+use crate::{Pieces, position};
+use points::Piece;
 
 // Where the drawing of the samples is: at the next sample, v, and a piece, i, that it does not
 // lie left of.

@@ -5,13 +5,14 @@ ghost use Rattle.single.specs.Rules.{clamped};
 ghost use Rattle.segments.specs.Straight.{part};
 ghost use Rattle.sampling.specs.declared.Form.{Form};
 ghost use Rattle.sampling.specs.declared.Form.TheVariants as F;
-ghost use Rattle.sampling.specs.declared.Piece.{Piece};
+ghost use Rattle.points.specs.declared.Piece.{Piece};
 ghost use Rattle.sampling.specs.Pieces.{piece_height};
 ghost use Rattle.sampling.specs.Walk.{straight_sample, cubic_sample};
 ghost use Rattle.sampling.specs.ByPart.{straight_is, cubic_is};
 
 use crate::blocks::{Cursor, four, next, parts};
-use crate::{Drawn, Piece, Pieces};
+use crate::{Drawn, Pieces};
+use points::Piece;
 
 // A form by parts.
 pub trait ByPart {
@@ -53,7 +54,7 @@ impl ByPart for Cubic {
     ghost is = { cubic_is };
 
     fn sample(piece: Piece, t: f32) -> f32 {
-        let height = hermite::hermite(piece.a, piece.b, piece.p, piece.q, t);
+        let height = hermite::hermite(piece, t);
         single::clamp(height)
     }
 }
@@ -66,6 +67,7 @@ impl<P: ByPart> Drawn for P {
     }
 
     // The parts of the next block are found before this one is drawn, since a quotient takes long.
+    // `Spline` has a loop of its own: it goes by coefficients that are found before all blocks.
     fn draw(pieces: Pieces<'_>, ends: &[u32; 66], step: f32, samples: &mut [f32]) -> Cursor {
         let count = samples.len();
         let mut p = Cursor::START;

@@ -14,7 +14,7 @@ ghost use Rattle.sampling.specs.Pieces.{piece_height, height_at, sampled};
 ghost use Rattle.sampling.specs.Walk.{piece_of, curve_of, EndsOf, StateOf};
 
 use blocks::Cursor;
-use points::{Knot, Knots};
+use points::{Knots, Piece};
 
 mod blocks;
 mod by_part;
@@ -27,15 +27,6 @@ pub enum Form {
     Straight,
     Cubic,
     Spline,
-}
-
-// A piece of a curve: its two knots, and at each a number: a tangent, or a second derivative.
-#[derive(Clone, Copy)]
-pub struct Piece {
-    pub a: Knot,
-    pub b: Knot,
-    pub p: f32,
-    pub q: f32,
 }
 
 // The pieces of a curve: its knots, and the numbers at them.

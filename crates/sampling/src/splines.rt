@@ -6,12 +6,12 @@ ghost use Rattle.sampling.specs.declared.Form.TheVariants as F;
 ghost use Rattle.sampling.specs.Walk.{first_of, third_of, spline_sample};
 
 use crate::blocks::{Cursor, four, next};
-use crate::{Drawn, Piece, Pieces, position};
-use points::Knot;
+use crate::{Drawn, Pieces, position};
+use points::{Knot, Piece};
 
 // The coefficients of the pieces, those of x - x0 and those of its cube, to the fronts of two rows.
-// Stays: as two rows by `Knots::per_segment` a table of 256 samples takes 4 % longer (2 knots: 552
-// ns, not 532).
+// Stays: two lent rows, and not two handed back by `Knots::per_segment`, which copies them; document
+// 01 has "arrays of 66 floats for x, height, tangent and the solver's rows, made by [0.0; 66]".
 fn coefficients(pieces: Pieces<'_>, c1s: &mut [f32; 66], c3s: &mut [f32; 66])
     ensures first { Stored (first_of pieces.entry) 0 (pieces.entry.knots.now.count - 1) c1s.old
         c1s.new }
@@ -20,8 +20,8 @@ fn coefficients(pieces: Pieces<'_>, c1s: &mut [f32; 66], c3s: &mut [f32; 66])
 {
     for i in 0..pieces.knots.count - 1 {
         let piece = pieces.at(i);
-        c1s[i] = spline::first_coefficient(piece.a, piece.b, piece.p, piece.q);
-        c3s[i] = spline::third_coefficient(piece.a, piece.b, piece.p, piece.q);
+        c1s[i] = spline::first_coefficient(piece);
+        c3s[i] = spline::third_coefficient(piece);
     }
 }
 
@@ -43,7 +43,7 @@ impl Drawn for Spline {
 
     #[tactic(auto, unfolding(crate::specs::Pieces::piece_height))]
     fn sample_at(piece: Piece, x: f32) -> f32 {
-        single::clamp(spline::spline_piece(piece.a, piece.b, piece.p, piece.q, x))
+        single::clamp(spline::spline_piece(piece, x))
     }
 
     fn draw(pieces: Pieces<'_>, ends: &[u32; 66], step: f32, samples: &mut [f32]) -> Cursor {

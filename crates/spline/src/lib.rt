@@ -12,7 +12,7 @@ ghost use Rattle.spline.specs.Segments.{
   third_coefficient,
 };
 
-use points::{Knot, Knots, too_thin};
+use points::{Knot, Knots, Piece, too_thin};
 use single::guarded_quotient;
 
 pub mod second;
@@ -56,14 +56,14 @@ fn segment_at(knots: &Knots, i: usize) -> Segment
     between(knots.at(i), knots.at(i + 1))
 }
 
-// The coefficients of t, of its square and of its cube in the polynomial of the piece from a to b,
-// t being x - a.x, and ma and mb the second derivatives at a and b.
+// The coefficients of t, of its square and of its cube in the polynomial of a piece with a second
+// derivative at each of its knots, t being x - a.x, and ma the second derivative at a.
 #[tactic(auto, unfolding(crate::specs::Segments::first_coefficient))]
-pub fn first_coefficient(a: Knot, b: Knot, ma: f32, mb: f32) -> f32
-    ensures { result ≡ first_coefficient a b ma mb }
+pub fn first_coefficient(piece: Piece) -> f32
+    ensures { result ≡ first_coefficient piece.a piece.b piece.p piece.q }
 {
-    let s = between(a, b);
-    s.secant - s.width * (2.0 * ma + mb) / 6.0
+    let s = between(piece.a, piece.b);
+    s.secant - s.width * (2.0 * piece.p + piece.q) / 6.0
 }
 
 // ma / 2 as a product, which has the same bits for every ma.
@@ -73,10 +73,10 @@ pub fn second_coefficient(ma: f32) -> f32
     ma * 0.5
 }
 
-pub fn third_coefficient(a: Knot, b: Knot, ma: f32, mb: f32) -> f32
-    ensures { result ≡ third_coefficient a b ma mb }
+pub fn third_coefficient(piece: Piece) -> f32
+    ensures { result ≡ third_coefficient piece.a piece.b piece.p piece.q }
 {
-    (mb - ma) / (6.0 * (b.x - a.x))
+    (piece.q - piece.p) / (6.0 * (piece.b.x - piece.a.x))
 }
 
 // The polynomial with these coefficients, from the knot a on, at x.
@@ -87,18 +87,18 @@ pub fn polynomial_from(a: Knot, c1: f32, c2: f32, c3: f32, x: f32) -> f32
     a.y + c1 * t + c2 * t * t + c3 * t * t * t
 }
 
-// The piece from a to b with the second derivatives ma and mb there, at x, unclamped.
+// The piece with a second derivative at each of its knots, at x, unclamped.
 #[tactic(auto, unfolding(crate::specs::Segments::spline_piece))]
-pub fn spline_piece(a: Knot, b: Knot, ma: f32, mb: f32, x: f32) -> f32
-    ensures { result ≡ spline_piece a b ma mb x }
+pub fn spline_piece(piece: Piece, x: f32) -> f32
+    ensures { result ≡ spline_piece piece.a piece.b piece.p piece.q x }
 {
-    if too_thin(a.x, b.x) {
-        return a.y;
+    if too_thin(piece.a.x, piece.b.x) {
+        return piece.a.y;
     }
-    let c1 = first_coefficient(a, b, ma, mb);
-    let c2 = second_coefficient(ma);
-    let c3 = third_coefficient(a, b, ma, mb);
-    polynomial_from(a, c1, c2, c3, x)
+    let c1 = first_coefficient(piece);
+    let c2 = second_coefficient(piece.p);
+    let c3 = third_coefficient(piece);
+    polynomial_from(piece.a, c1, c2, c3, x)
 }
 
 // A slope of a clamped curve, a signed 16-bit number over 256, as a float, in this one place: as a

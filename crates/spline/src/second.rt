@@ -1,31 +1,36 @@
 // The second derivatives at the knots, made of the solution of the system.
-ghost use Rattle.std.specs.Prelude.{◌≡◌, ◌+◌, ◌≤◌, length};
+ghost use Rattle.std.specs.Prelude.{◌≡◌, ◌+◌, ◌≤◌, ◌<◌, ℕ, length};
 ghost use Rattle.lists.specs.Stored.{Stored};
 ghost use Rattle.lists.specs.Tabulate.{tabulate};
 ghost use Rattle.spline.specs.Second as Second;
-ghost use Rattle.spline.specs.Second.{row_count, unknown, natural_at, ends_recovered};
-ghost use Rattle.spline.specs.Second.{not_a_knot_at, second_at};
+ghost use Rattle.spline.specs.Second.{natural_at, ends_recovered, not_a_knot_at, second_at};
+ghost use Rattle.spline.specs.Thomas.{solution};
+ghost use Rattle.spline.specs.declared.SplineBoundary.TheVariants.{Clamped};
+ghost use Rattle.spline.specs.declared.thomas.Row.{Row};
 
-use crate::system::row_at;
-use crate::thomas::{Swept, substitute, sweep};
+use crate::system::{clamped_row, natural_row, not_a_knot_row};
+use crate::thomas::{Row, Swept, substitute, sweep};
 use crate::{Segment, SplineBoundary, segment_at};
 use points::Knots;
 use single::guarded_quotient;
 
-// The Thomas solve: the unknowns of the system. Each row of the system is made just before it is
-// swept.
+// The Thomas solve: the unknowns of a system by what gives its rows. Each row is made just before
+// it is swept. In words the clause says: where every row given is that of a rule, the unknowns are
+// the solution of the rule's system.
 // Stays: two arrays and not one of `Swept`; document 01 has "arrays of 66 floats for x, height,
 // tangent and the solver's rows, made by [0.0; 66]".
-fn thomas_solve(knots: &Knots, boundary: SplineBoundary, unknowns: &mut [f32])
-    requires { length unknowns.old ≡ row_count boundary knots.now.count }
-    ensures { unknowns.new ≡ tabulate (row_count boundary knots.now.count)
-        (unknown knots.now.xs knots.now.ys knots.now.count boundary) }
+fn thomas_solve<F: Fn(usize) -> Row>(row_at: F, unknowns: &mut [f32])
+    requires room { length unknowns.old ≤ 66 }
+    requires callable { (k : ℕ) → k < length unknowns.old → F.pre row_at k }
+    ensures { (rows : ℕ → Row) (m : ℕ) → length unknowns.old ≡ m
+        → ((k : ℕ) (r : Row) → k < m → F.post row_at k r → r ≡ rows k)
+        → unknowns.new ≡ tabulate m (solution rows m) }
 {
     let mut aboves = [0.0; 66];
     let mut rights = [0.0; 66];
     let mut p = Swept::NONE;
     for k in 0..unknowns.len() {
-        p = sweep(k, p, row_at(knots, boundary, k));
+        p = sweep(k, p, row_at(k));
         aboves[k] = p.above;
         rights[k] = p.right;
     }
@@ -38,7 +43,7 @@ fn natural(knots: &Knots, row: &mut [f32; 66])
         row.old row.new }
 {
     let n = knots.count;
-    thomas_solve(knots, SplineBoundary::Natural, &mut row[1..n - 1]);
+    thomas_solve(|k| natural_row(knots, k), &mut row[1..n - 1]);
     row[0] = 0.0;
     row[n - 1] = 0.0;
 }
@@ -68,7 +73,7 @@ fn ends_recovered(knots: &Knots, row: &mut [f32; 66])
         row.old row.new }
 {
     let n = knots.count;
-    thomas_solve(knots, SplineBoundary::NotAKnot, &mut row[1..n - 1]);
+    thomas_solve(|k| not_a_knot_row(knots, k), &mut row[1..n - 1]);
     let first = recovered(segment_at(knots, 0), segment_at(knots, 1), row[1], row[2]);
     let last = recovered(
         segment_at(knots, n - 2),
@@ -78,6 +83,14 @@ fn ends_recovered(knots: &Knots, row: &mut [f32; 66])
     );
     row[0] = first;
     row[n - 1] = last;
+}
+
+// Clamped: the slopes at the ends are given, and every knot has a row.
+fn clamped(knots: &Knots, s0: f32, s1: f32, row: &mut [f32; 66])
+    ensures { Stored (second_at knots.now.xs knots.now.ys knots.now.count (Clamped s0 s1)) 0
+        knots.now.count row.old row.new }
+{
+    thomas_solve(|k| clamped_row(knots, s0, s1, k), &mut row[..knots.count]);
 }
 
 // Not-a-knot: two knots give zeros, three the parabola through them.
@@ -94,14 +107,14 @@ fn not_a_knot(knots: &Knots, row: &mut [f32; 66])
 }
 
 // The second derivatives at the knots, to the front of a row.
-#[tactic(auto, using(crate::proofs::Rows::lent_front), unfolding(crate::specs::Second::second_at))]
+#[tactic(auto, unfolding(crate::specs::Second::second_at))]
 pub fn second_derivatives(knots: &Knots, boundary: SplineBoundary, row: &mut [f32; 66])
     ensures { Stored (second_at knots.now.xs knots.now.ys knots.now.count boundary) 0
         knots.now.count row.old row.new }
 {
     match boundary {
         SplineBoundary::Natural => natural(knots, row),
-        SplineBoundary::Clamped { .. } => thomas_solve(knots, boundary, &mut row[..knots.count]),
+        SplineBoundary::Clamped { s0, s1 } => clamped(knots, s0, s1, row),
         SplineBoundary::NotAKnot => not_a_knot(knots, row),
     }
 }

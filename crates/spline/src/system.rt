@@ -1,12 +1,12 @@
 // The rows of the system for the second derivatives, under each boundary rule.
 ghost use Rattle.std.specs.Prelude.{◌≡◌, ◌+◌, ◌≤◌, ◌<◌};
-ghost use Rattle.spline.specs.declared.SplineBoundary.TheVariants.{Clamped, NotAKnot};
+ghost use Rattle.spline.specs.declared.SplineBoundary.TheVariants.{Natural, Clamped, NotAKnot};
 ghost use Rattle.spline.specs.Second as Second;
 ghost use Rattle.spline.specs.Second.{clamped_first, clamped_last};
-ghost use Rattle.spline.specs.Second.{not_a_knot_first, not_a_knot_last, row_at, row_count};
+ghost use Rattle.spline.specs.Second.{not_a_knot_first, not_a_knot_last, row_at};
 
 use crate::thomas::Row;
-use crate::{Segment, SplineBoundary, segment_at};
+use crate::{Segment, segment_at};
 use points::Knots;
 
 // The row of an inner knot between the segments p and q.
@@ -72,9 +72,18 @@ fn not_a_knot_last(p: Segment, q: Segment) -> Row
     }
 }
 
+// The row of the inner knot k + 1 where the second derivatives at the ends are 0.
+#[tactic(auto, unfolding(crate::specs::Second::row_at))]
+pub fn natural_row(knots: &Knots, k: usize) -> Row
+    requires { k + 2 < knots.now.count }
+    ensures { result ≡ row_at knots.now.xs knots.now.ys knots.now.count Natural k }
+{
+    inner(segment_at(knots, k), segment_at(knots, k + 1))
+}
+
 // The row of the knot k where the slopes at the ends are given.
 #[tactic(auto, unfolding(crate::specs::Second::row_at))]
-fn clamped_row(knots: &Knots, s0: f32, s1: f32, k: usize) -> Row
+pub fn clamped_row(knots: &Knots, s0: f32, s1: f32, k: usize) -> Row
     requires { k < knots.now.count }
     ensures { result ≡ row_at knots.now.xs knots.now.ys knots.now.count (Clamped s0 s1) k }
 {
@@ -90,7 +99,7 @@ fn clamped_row(knots: &Knots, s0: f32, s1: f32, k: usize) -> Row
 
 // The row of the inner knot k + 1 under not-a-knot.
 #[tactic(auto, unfolding(crate::specs::Second::row_at))]
-fn not_a_knot_row(knots: &Knots, k: usize) -> Row
+pub fn not_a_knot_row(knots: &Knots, k: usize) -> Row
     requires { k + 2 < knots.now.count }
     ensures { result ≡ row_at knots.now.xs knots.now.ys knots.now.count NotAKnot k }
 {
@@ -103,17 +112,4 @@ fn not_a_knot_row(knots: &Knots, k: usize) -> Row
         return not_a_knot_last(p, q);
     }
     inner(p, q)
-}
-
-// The row k of the system.
-#[tactic(auto, unfolding(crate::specs::Second::row_at))]
-pub fn row_at(knots: &Knots, boundary: SplineBoundary, k: usize) -> Row
-    requires { k < row_count boundary knots.now.count }
-    ensures { result ≡ row_at knots.now.xs knots.now.ys knots.now.count boundary k }
-{
-    match boundary {
-        SplineBoundary::Natural => inner(segment_at(knots, k), segment_at(knots, k + 1)),
-        SplineBoundary::Clamped { s0, s1 } => clamped_row(knots, s0, s1, k),
-        SplineBoundary::NotAKnot => not_a_knot_row(knots, k),
-    }
 }

@@ -1,50 +1,36 @@
--- `rows::tone_rows` meets its contract: row after row, each with the padding behind it.
-use Rattle.std.proofs.Common.{arith, refl, ◌*◌, zero-mul}
-use Rattle.lists.specs.Replaced.{replaced_none, replaced_end}
-use Rattle.rows.specs.Bytes.{same, row_byte}
-use Rattle.rows.specs.Places.{mul_last, mul_bound}
-use Rattle.rows.specs.Laws.{rows_inside, below_rows, no_columns_lem}
-use Rattle.rows.proofs.Walk.{plane_next, plane_done, some_bytes}
+-- `rows::tone_rows` meets its contract: the tests find which pixels these are.
+use Rattle.std.proofs.Common.{arith, ◌∙◌, mul-one}
+use Rattle.rows.proofs.Walk.{
+  all_toned,
+  some_bytes,
+  last_of_two,
+  last_of_four,
+  one_table,
+  plane_same,
+  rows_of_bytes,
+}
 use Rattle.rows.proofs.tone_rows.Goals as goal
 
-pub returns-then-grid-eq0 : goal.returns-then-grid-eq0
-returns-then-grid-eq0 c =
-    plane_done _ _ _ _ replaced_none
-    (λ k low. no_columns_lem _ _ _ k (rw c.if-grid-eq0.true (zero-mul _)))
+pub tone_plane-requires : goal.tone_plane-requires
+tone_plane-requires c = (omega arith, rows_of_bytes (some_bytes c.requires.0) c.requires.1)
 
-pub loop-y-init : goal.loop-y-init
-loop-y-init c = (refl, replaced_end replaced_none (omega arith))
+pub returns-then-p-kept : goal.returns-then-p-kept
+returns-then-p-kept c =
+    let table = c.args.table.now in
+    let is = rw mul-one at c.tone_plane.ensures in
+    is
+    ∙ plane_same _ _ _ _ _
+    (λ k b. one_table 1 1 table k b
+    ∙ all_toned _ _ table (some_bytes c.requires.0) c.if-p-kept.true k b) _
 
--- the row lies in the plane, so its bounds fit too
-pub slice_bounds-tone_row-end : goal.slice_bounds-tone_row-end
-slice_bounds-tone_row-end c =
-    omega (arith, rows_inside c.loop-y.y c.requires.1 c.if-grid-eq0.false c.loop-y-test.true)
+pub returns-then-p-eq2 : goal.returns-then-p-eq2
+returns-then-p-eq2 c =
+    let two = c.if-p-eq2.true in
+    rw (two, last_of_two c.requires.0 c.if-p-kept.false two)
+    (c.tone_plane-then-p-eq2.ensures ∙ plane_same _ _ _ _ _ (one_table _ _ _) _)
 
-pub overflow_mul-at : goal.overflow_mul-at
-overflow_mul-at c =
-    omega (arith, rows_inside c.loop-y.y c.requires.1 c.if-grid-eq0.false c.loop-y-test.true)
-
-pub overflow_add-end : goal.overflow_add-end
-overflow_add-end c =
-    omega (arith, rows_inside c.loop-y.y c.requires.1 c.if-grid-eq0.false c.loop-y-test.true)
-
-pub loop-y-preserved : goal.loop-y-preserved
-loop-y-preserved c =
-    let given = c.args in
-    let rule = row_byte given.p given.kept (same given.table.now) in
-    let below = c.loop-y-test.true in
-    let inside = rows_inside c.loop-y.y c.requires.1 c.if-grid-eq0.false below in
-    let before = c.loop-y.invariant.1 in (
-      omega arith,
-      plane_next (given.grid.w * given.p) given.grid.h given.grid.step rule c.loop-y.y
-          c.requires.1.stepped below (omega (arith, inside)) before c.tone_row.ensures,
-    )
-
-pub returns : goal.returns
-returns c =
-    let given = c.args in
-    let some = mul_bound 1 1 given.grid.w given.p (omega arith) (some_bytes c.requires.0) in
-    plane_done _ _ _ _
-    (replaced_end c.loop-y.invariant.1
-    (mul_last c.loop-y.y given.grid.h _ (omega arith) (omega arith)))
-    (λ k low. below_rows _ _ _ k (omega arith) low)
+pub returns-else-p-eq2 : goal.returns-else-p-eq2
+returns-else-p-eq2 c =
+    let last = last_of_four c.requires.0 c.if-p-kept.false c.if-p-eq2.false in
+    rw (last.0, last.1)
+    (c.tone_plane-else-p-eq2.ensures ∙ plane_same _ _ _ _ _ (one_table _ _ _) _)

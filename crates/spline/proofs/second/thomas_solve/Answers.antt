@@ -1,33 +1,33 @@
 -- `second::thomas_solve`: the forward sweep of the system's rows, then back substitution.
-use Rattle.std.proofs.Common.{refl, ◌∙◌, add-one, ◌≤◌, length, arith, rules}
+use Rattle.std.proofs.Common.{refl, ◌∙◌, add-one, arith}
 use Rattle.std.specs.Float.{nan}
 use Rattle.lists.specs.Stored.{stored_none, stored_next, stored_inside}
 use Rattle.lists.specs.Tabulate.{tabulate_same}
 use Rattle.spline.specs.Thomas.{swept, swept_row, solution, swept_in}
 use Rattle.spline.specs.ThomasLaws.{substituted_same}
-use Rattle.spline.specs.Second.{unknown}
 use Rattle.spline.proofs.second.thomas_solve.Invariants.{above, right}
 use Rattle.spline.proofs.second.thomas_solve.Goals as goal
 
 pub loop-k-init : goal.loop-k-init
 unfolding swept
-loop-k-init c = (stored_none, stored_none, refl)
+loop-k-init g c = λ rows given. (stored_none, stored_none, refl)
 
 pub loop-k-preserved : goal.loop-k-preserved
 unfolding swept swept_row above right
-loop-k-preserved c =
-    let inv = c.loop-k.invariant in
-    let here = rw (inv.2, c.row_at.ensures) at c.sweep-p.ensures in
+loop-k-preserved g c = λ rows given.
+    let inv = c.loop-k.invariant rows given in
+    let row = given c.loop-k.k _ (omega arith) c.row_at.ensures in
+    let here = rw (inv.2, row) at c.sweep-p.ensures in
     (stored_next inv.0 (rw here), stored_next inv.1 (rw here), rw add-one here)
 
 -- back substitution goes by the swept rows alone
 pub returns : goal.returns
-unfolding unknown solution swept_in above right
-returns c =
-    let inv = c.loop-k.invariant in
-    let room : length c.args.unknowns.now ≤ 66 = search rules in
+unfolding solution swept_in above right
+returns g c = λ rows m long given.
+    let inv = c.loop-k.invariant rows (rw long given) in
+    let room = c.requires.room in
     c.substitute.ensures
-    ∙ rw (← c.requires)
+    ∙ rw long
     (tabulate_same _
     (λ k low. substituted_same _ _ _ (λ j below. rw (
       stored_inside inv.0 j nan (omega arith) (omega arith) (omega arith),
