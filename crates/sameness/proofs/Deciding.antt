@@ -1,23 +1,12 @@
--- Answers that go with a proposition: of two numbers, of two propositions together, and of
--- one that another comes to.
-use Prim.Native.Nat.{ℕ}
-use mathlib.Core.Path.{◌≡◌, refl, sym, ◌∙◌}
+-- Answers that go with a proposition: of two propositions together, and of one that another comes
+-- to.
+use mathlib.Core.Path.{◌≡◌, refl}
 use mathlib.Core.Bool.{Bool, true, false, ◌&&◌, not, false≢true}
-use lib.Dec.{eqb}
-use borrow.Author.Tests.{eqb-true, eq-eqb, not-true}
+use borrow.Author.Tests.{not-true}
 use Rattle.sameness.specs.Decides.{Decides}
-
-pub yes : {P : Type 0} → P → Decides P true
-yes p = record { sound = λ e. p; complete = λ q. refl }
-
-pub no : {P : Type 0} → (P → ⊥) → Decides P false
-no n = record { sound = λ e. absurd (false≢true e); complete = λ p. absurd (n p) }
 
 pub decides_as : {P Q : Type 0} {r : Bool} → (P → Q) → (Q → P) → Decides P r → Decides Q r
 decides_as f g d = record { sound = λ e. f (d.sound e); complete = λ q. d.complete (g q) }
-
-pub decides_not : {P : Type 0} {r : Bool} → Decides P r → r ≡ false → P → ⊥
-decides_not d e p = false≢true (sym e ∙ d.complete p)
 
 both_true : (p q : Bool) → p && q ≡ true → (p ≡ true) × (q ≡ true)
 both_true true q e = (refl, e)
@@ -28,9 +17,6 @@ decides_both {p = p} {q = q} d e = record {
   sound = λ t. let b = both_true p q t in (d.sound b.0, e.sound b.1);
   complete = λ r. rw (d.complete r.0) (e.complete r.1);
 }
-
-pub decides_equal : (a b : ℕ) → Decides (a ≡ b) (eqb a b)
-decides_equal a b = record { sound = eqb-true a b; complete = eq-eqb a b }
 
 pub decides_on : (b : Bool) → Decides (b ≡ true) b
 decides_on b = record { sound = λ e. e; complete = λ e. e }

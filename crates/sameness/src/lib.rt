@@ -9,7 +9,7 @@ ghost use Rattle.points.specs.Points.{places_of};
 ghost use Rattle.sets.specs.Same.{Same, SameCurve, SameChannel};
 ghost use Rattle.sameness.specs.Decides.{Decides};
 
-use points::{Curve, Point};
+use points::Curve;
 use sets::{Channel, Curves};
 
 // The first n points of two lists.
@@ -17,20 +17,7 @@ fn same_points(a: Curve, b: Curve, n: usize) -> bool
     requires { n ≤ 64 }
     ensures { Decides (take n (places_of a) ≡ take n (places_of b)) result }
 {
-    for i in 0..n {
-        let p = Point {
-            x: a.xs[i],
-            y: a.ys[i],
-        };
-        let q = Point {
-            x: b.xs[i],
-            y: b.ys[i],
-        };
-        if p != q {
-            return false;
-        }
-    }
-    true
+    (a.xs[..n] == b.xs[..n]) & (a.ys[..n] == b.ys[..n])
 }
 
 // Two lists, as far as their counts claim; one that claims more than 64 points has 64.

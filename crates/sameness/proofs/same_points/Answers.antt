@@ -1,62 +1,66 @@
--- `same_points`: at each turn the points before i agree; where two differ, so do the lists.
-use Rattle.std.proofs.Common.{◌≡◌, sym, ap, ◌∙◌, List, ℕ, ◌<◌, ◌+◌, ◌&&◌, nat_eq, add-one, arith, rules, length, get_or, take, take-suc, get_or-take}
-use Rattle.std.proofs.lemmas.Bool.{not-true, not-false}
+-- `same_points`: the rows are equal as far as n, and so are the points, which are the rows' joined.
+use Rattle.std.proofs.Common.{◌≡◌, refl, sym, ap, ◌∙◌, List, [], ◌∷◌, ℕ, zero, suc, Bool, ◌&&◌, eqb, arith, rules, length, take, length-take, map}
+use Rattle.std.proofs.lemmas.Bool.Decides.{Decides-eqb}
+use Rattle.std.proofs.lemmas.Slice.Eq.{slice_eq-Decides}
+use Rattle.std.specs.Cmp.Lexicographic.{pointwise}
 use Rattle.points.specs.declared.Point.{Point}
-use Rattle.points.specs.Points.{places_of, pt, nth}
-use Rattle.points.specs.declared.Curve.{Curve}
-use Rattle.points.specs.Joined.{places_long, place_at}
+use Rattle.points.specs.Points.{joined, pt}
+use Rattle.points.specs.Joined.{FullRows}
 use Rattle.sameness.specs.Decides.{Decides}
-use Rattle.sameness.proofs.Deciding.{no, decides_as, decides_both, decides_equal, decides_not}
-use Rattle.sameness.proofs.same_points.Goals.{At-loop-i}
+use Rattle.sameness.proofs.Deciding.{decides_as, decides_both}
 use Rattle.sameness.proofs.same_points.Goals as goal
 
-one_more : (k l : List Point) (i : ℕ) → i < length k → i < length l → take i k ≡ take i l → nth k i ≡ nth l i
-    → take (i + 1) k ≡ take (i + 1) l
-one_more k l i h g e p = rw (add-one i, take-suc k i (pt 0 0) h, take-suc l i (pt 0 0) g, e, p)
+joined_take : (n : ℕ) (xs ys : List ℕ) → take n (joined xs ys) ≡ joined (take n xs) (take n ys)
+joined_take zero xs ys = refl
+joined_take (suc n) [] ys = refl
+joined_take (suc n) (x ∷ xs) [] = refl
+joined_take (suc n) (x ∷ xs) (y ∷ ys) = ap (λ (l : List Point). pt x y ∷ l) (joined_take n xs ys)
 
-at_one : (k l : List Point) (n i : ℕ) → i < n → take n k ≡ take n l → nth k i ≡ nth l i
-at_one k l n i h e =
-    sym (get_or-take n k i (pt 0 0) h) ∙ ap (λ (m : List Point). nth m i) e ∙ get_or-take n l i (pt 0 0) h
+-- the rows of joined points
+xs_back : (xs ys : List ℕ) → length xs ≡ length ys → map (λ (p : Point). p.x) (joined xs ys) ≡ xs
+xs_back [] ys e = refl
+xs_back (x ∷ xs) [] e = absurd (omega arith)
+xs_back (x ∷ xs) (y ∷ ys) e = ap (λ (l : List ℕ). x ∷ l) (xs_back xs ys (omega arith))
 
--- two points are the same where their x and their y are
-point_same : (p q : Point) → Decides (p ≡ q) (nat_eq p.x q.x && nat_eq p.y q.y)
-point_same p q =
+ys_back : (xs ys : List ℕ) → length xs ≡ length ys → map (λ (p : Point). p.y) (joined xs ys) ≡ ys
+ys_back [] [] e = refl
+ys_back [] (y ∷ ys) e = absurd (omega arith)
+ys_back (x ∷ xs) [] e = absurd (omega arith)
+ys_back (x ∷ xs) (y ∷ ys) e = ap (λ (l : List ℕ). y ∷ l) (ys_back xs ys (omega arith))
+
+-- a test of two rows
+row_decides : (xs ys : List ℕ) {r : Bool} → r ≡ pointwise eqb xs ys → Decides (xs ≡ ys) r
+row_decides xs ys {r = r} e =
+    let d = slice_eq-Decides Decides-eqb xs ys r e in record { sound = d.0; complete = d.1 }
+
+-- the points of two lists are equal where both their rows are
+rows_decide : (n : ℕ) (ks ls ms ns : List ℕ) {p q : Bool} → length ks ≡ length ls → length ms ≡ length ns
+    → Decides (take n ks ≡ take n ms) p → Decides (take n ls ≡ take n ns) q
+    → Decides (take n (joined ks ls) ≡ take n (joined ms ns)) (p && q)
+rows_decide n ks ls ms ns long full x y =
+    let left : length (take n ks) ≡ length (take n ls) = rw (length-take, length-take, long) refl in
+    let right : length (take n ms) ≡ length (take n ns) = rw (length-take, length-take, full) refl in
     decides_as
-    (λ (e : (p.x ≡ q.x) × (p.y ≡ q.y)). ap (λ x. pt x p.y) e.0 ∙ ap (pt q.x) e.1)
-    (λ e. (ap (λ (p : Point). p.x) e, ap (λ (p : Point). p.y) e))
-    (decides_both (decides_equal _ _) (decides_equal _ _))
+    (λ (e : (take n ks ≡ take n ms) × (take n ls ≡ take n ns)).
+    joined_take n ks ls
+    ∙ ap (λ l. joined l (take n ls)) e.0
+    ∙ ap (joined (take n ms)) e.1
+    ∙ sym (joined_take n ms ns))
+    (λ h. let same = sym (joined_take n ks ls) ∙ h ∙ joined_take n ms ns in (
+      sym (xs_back (take n ks) (take n ls) left)
+          ∙ ap (map (λ (p : Point). p.x)) same
+          ∙ xs_back (take n ms) (take n ns) right,
+      sym (ys_back (take n ks) (take n ls) left)
+          ∙ ap (map (λ (p : Point). p.y)) same
+          ∙ ys_back (take n ms) (take n ns) right,
+    ))
+    (decides_both x y)
 
--- what the code compares at a turn are the points there
-module _ (c : At-loop-i) (h : c.loop-i.i < c.args.n) where
-  abbrev a : Curve
-  a = c.args.a
-
-  abbrev b : Curve
-  b = c.args.b
-
-  of-a : nth (places_of a) c.loop-i.i ≡ pt (get_or a.xs c.loop-i.i 0) (get_or a.ys c.loop-i.i 0)
-  of-a = place_at a c.loop-i.i (search rules) (omega arith)
-
-  of-b : nth (places_of b) c.loop-i.i ≡ pt (get_or b.xs c.loop-i.i 0) (get_or b.ys c.loop-i.i 0)
-  of-b = place_at b c.loop-i.i (search rules) (omega arith)
-
-  decided : Decides (pt (get_or a.xs c.loop-i.i 0) (get_or a.ys c.loop-i.i 0) ≡ pt (get_or b.xs c.loop-i.i 0) (get_or b.ys c.loop-i.i 0))
-      (nat_eq (get_or a.xs c.loop-i.i 0) (get_or b.xs c.loop-i.i 0) && nat_eq (get_or a.ys c.loop-i.i 0) (get_or b.ys c.loop-i.i 0))
-  decided = point_same _ _
-
-pub returns-then-ne : goal.returns-then-ne
-returns-then-ne c =
-    let h : c.loop-i.i < c.args.n = omega arith in
-    let m = (goal.at.returns-then-ne c).At-loop-i in
-    no (λ e. decides_not (decided m h) (not-true _ (sym c.ne.ensures ∙ c.if-ne.true))
-    (sym (of-a m h) ∙ at_one _ _ _ _ h e ∙ of-b m h))
-
-pub loop-i-preserved : goal.loop-i-preserved
-loop-i-preserved c =
-    let h : c.loop-i.i < c.args.n = omega arith in
-    let m = (goal.at.loop-i-preserved c).At-loop-i in
-    let a-long = places_long (a m h) (search rules) in
-    let b-long = places_long (b m h) (search rules) in
-    let equal = (decided m h).sound (not-false _ (sym c.ne.ensures ∙ c.if-ne.false)) in
-    one_more (places_of (a m h)) (places_of (b m h)) c.loop-i.i (omega arith) (omega arith)
-    c.loop-i.invariant (of-a m h ∙ equal ∙ sym (of-b m h))
+pub returns : goal.returns
+returns c =
+    let a = c.args.a in
+    let b = c.args.b in
+    let of_a : FullRows a = search rules in
+    let of_b : FullRows b = search rules in
+    rows_decide c.args.n a.xs a.ys b.xs b.ys (omega (arith, of_a.xs, of_a.ys)) (omega (arith, of_b.xs, of_b.ys))
+    (row_decides _ _ c.eq.ensures) (row_decides _ _ c.eq-2.ensures)
