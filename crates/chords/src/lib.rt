@@ -56,8 +56,9 @@ fn inner_tangent(l: Knot, c: Knot, r: Knot, dl: f32, ds: f32, dr: f32) -> f32
     over(rise, over(r.x - l.x, ds))
 }
 
-// The tangents by the spacing that belongs to a chord. The spacings have a loop of their own: two
-// roots one after the other would leave the processor waiting.
+// The tangents by the spacing that belongs to a chord. The spacings have a loop of their own, so
+// that no root waits for the root of the chord. In words the clause says: where `spacing` gives
+// what one of the two kinds has for every chord, the tangents are that kind's.
 fn by_spacing<F: Fn(f32) -> f32>(knots: &Knots, spacing: F, tangents: &mut [f32; 66])
     requires { (chord : _) → F.pre spacing chord }
     ensures { (centripetal : _) → Spaces (F.post spacing) centripetal → Stored

@@ -93,7 +93,8 @@ fn by_circle(delta: f32, l: f32, r: f32, beta: f32) -> Tangents
 // The tangents by what limits those at the ends of a segment, segment by segment from the left. A
 // secant near 0 sets both to 0. m is the tangent of knot i as the segments before it leave it. What
 // does not wait for m is found before, in rows: with m / d and r / d in one turn LLVM makes one
-// vector of them, and each turn waits for the one before it.
+// vector of them, and each turn waits for the one before it. In words the clause says: where
+// `limit` gives what one of the two kinds has for every segment, the tangents are that kind's.
 fn walk<F: Fn(f32, f32, f32, f32) -> Tangents>(knots: &Knots, limit: F, tangents: &mut [f32; 66])
     requires { (delta l r : _) → F.pre limit delta l r (r ⊘ delta) }
     ensures { (box : _) → Limits (F.post limit) box → Stored

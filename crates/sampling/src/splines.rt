@@ -10,8 +10,9 @@ use crate::{Drawn, Pieces, position};
 use points::{Knot, Piece};
 
 // The coefficients of the pieces, those of x - x0 and those of its cube, to the fronts of two rows.
-// Stays: two lent rows, and not two handed back by `Knots::per_segment`, which copies them; document
-// 01 has "arrays of 66 floats for x, height, tangent and the solver's rows, made by [0.0; 66]".
+// Stays: two lent rows, and not two handed back by `Knots::per_segment`, which copies them:
+// document 01 has "arrays of 66 floats for x, height, tangent and the solver's rows, made by
+// [0.0; 66]".
 fn coefficients(pieces: Pieces<'_>, c1s: &mut [f32; 66], c3s: &mut [f32; 66])
     ensures first { Stored (first_of pieces.entry) 0 (pieces.entry.knots.now.count - 1) c1s.old
         c1s.new }

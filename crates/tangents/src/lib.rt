@@ -26,7 +26,8 @@ fn after(n: usize, i: usize) -> usize
     if i + 1 == n { i } else { i + 1 }
 }
 
-// At each knot what f says of the knots before and after it.
+// At each knot what f gives for the knots before and after it. In words the clause says: where f
+// gives at each knot what a rule has there, the row holds the rule's values.
 fn by_neighbours<F: Fn(Knot, Knot) -> f32>(knots: &Knots, f: F, tangents: &mut [f32; 66])
     requires { (l r : _) → F.pre f l r }
     ensures { (rule : _) → Follows (F.post f) knots.now.xs knots.now.ys knots.now.count rule
