@@ -49,28 +49,28 @@ fn blend(table: &[f32], v: f32, i: u16) -> f32
     (table[i] * (1.0 - f) + table[next] * f) / 255.0
 }
 
-// The indices of the n values from the place at on.
-fn indices(values: &[f32], at: usize, n: usize) -> [u16; 64]
-    requires { (n ≤ 64) × (at + n ≤ length values.now) }
-    ensures { Stored (L.index_from values.now at) 0 n (replicate 64 0) result }
+// The indices of a block of at most 64 values.
+fn indices(block: &[f32]) -> [u16; 64]
+    requires { length block.now ≤ 64 }
+    ensures { Stored (L.index_from block.now 0) 0 (length block.now) (replicate 64 0) result }
 {
     let mut indices = [0u16; 64];
-    for j in 0..n {
-        indices[j] = index(values[at + j]);
+    for j in 0..block.len() {
+        indices[j] = index(block[j]);
     }
     indices
 }
 
-// Replaces these values.
-fn replace(table: &[f32], indices: &[u16; 64], at: usize, n: usize, values: &mut [f32])
-    requires table_len { (length table.now ≡ 4096) × (n ≤ 64) × (at + n ≤ length values.old) }
-    requires stored { Stored (L.index_from values.old at) 0 n (replicate 64 0) indices.now }
-    ensures { Stored (L.looked table.now values.old) at (at + n)
-        values.old values.new }
+// Replaces the values of a block, whose indices are given.
+fn replace(table: &[f32], indices: &[u16; 64], block: &mut [f32])
+    requires table_len { (length table.now ≡ 4096) × (length block.old ≤ 64) }
+    requires stored { Stored (L.index_from block.old 0) 0 (length block.old) (replicate 64 0)
+        indices.now }
+    ensures { Stored (L.looked table.now block.old) 0 (length block.old) block.old block.new }
 {
-    for j in 0..n {
-        let v = values[at + j];
-        values[at + j] = blend(table, v, indices[j]);
+    for j in 0..block.len() {
+        let v = block[j];
+        block[j] = blend(table, v, indices[j]);
     }
 }
 
@@ -85,8 +85,8 @@ pub fn lookup(table: &[f32], values: &mut [f32]) -> Answer
     let end = values.len();
     for at in (0..end).step_by(64) {
         let n = (end - at).min(64);
-        let indices = indices(values, at, n);
-        replace(table, &indices, at, n, values);
+        let indices = indices(&values[at..at + n]);
+        replace(table, &indices, &mut values[at..at + n]);
     }
     Ok(())
 }
