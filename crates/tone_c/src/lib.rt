@@ -1,6 +1,7 @@
 // The tone calls, which the crate `tone_exports` offers to a C or Rust caller under the same names.
 // Each answers one byte: 0 when it did its work, else the first refusal's number; then no lent byte
 // has changed.
+// Stays, here and in `calls`: a parameter for each of the call's in the C interface.
 #![tactic(auto)]
 
 ghost use Rattle.tone_c.specs.Boundary.{

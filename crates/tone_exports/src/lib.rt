@@ -1,6 +1,7 @@
 // The C boundary: each call of `tone_c` under its name, with its clauses. A crate is a library or a
 // static library and not both, so this one has nothing of its own.
 // A slice crosses as a pointer and a length.
+// Stays: a parameter for each of the call's in the C interface.
 #![tactic(auto)]
 
 ghost use Rattle.tone_c.specs.Boundary.{
