@@ -1,7 +1,7 @@
 -- The ten kinds: their numbers, what they carry, how a piece is drawn, and the value at each knot,
 -- as document 01's sections "Kinds and tables" and "Stored record" have them. Definitions only.
-use Rattle.std.specs.Prelude.{ℕ, ◌<◌, Bool, cond, List, [], ◌∷◌, eqb, ltb, ℤ, pos, get_or, replicate, Float}
-use Rattle.std.specs.Prelude.{Result, Ok, Err}
+use Rattle.std.specs.Prelude.{ℕ, ◌<◌, Bool, cond, List, [], ◌∷◌, eqb, ℤ, pos, get_or, replicate, Float}
+use Rattle.std.specs.Prelude.{ltb, Result, Ok, Err}
 use Rattle.std.specs.Int.Signed.{mag}
 use Rattle.lists.specs.Tabulate.{filled}
 use Rattle.answers.specs.declared.Refusal.{Refusal}

@@ -96,8 +96,8 @@ impl CurveInterpolation {
 }
 
 // The kind of a number up to the last, with a tension and two slopes for the kinds that carry them.
-// Stays beside `kind_from`: what cannot fail has no Result. No TryFrom: a number alone does not tell
-// what its kind carries.
+// Stays beside `kind_from`: what cannot fail has no Result. No TryFrom: a number alone does not
+// tell what its kind carries.
 pub fn kind_of(k: u8, tension_q8: u8, start_slope_q8: i16, end_slope_q8: i16) -> CurveInterpolation
     ensures { result ≡ kind_of k tension_q8 start_slope_q8 end_slope_q8 }
 {
