@@ -10,7 +10,7 @@ use Rattle.single.specs.Constants.{𝟎, ½, 𝟑, 𝟗}
 use Rattle.single.specs.Rules.{tiny}
 use Rattle.single.specs.Root.{root_of}
 use Rattle.monotone.specs.declared.Tangents.{Tangents}
-use Rattle.points.specs.Knots.{knot_at, at}
+use Rattle.points.specs.Knots.{knot_at}
 use Rattle.segments.specs.Straight.{slope}
 
 -- Δᵢ, the secant of the segment i
