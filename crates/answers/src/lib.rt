@@ -35,7 +35,7 @@ impl Refusal {
 
     pub const FINE_TABLE_LENGTH: usize = 4096;
 
-    // The paper's number.
+    // The paper's number. Stays: "The answer is the number", document 01; so it is in C.
     pub fn number(self) -> u8
         ensures { result ≡ N.refusal_number self }
     {
@@ -58,7 +58,8 @@ impl Refusal {
     }
 }
 
-// The number of an answer: 0 for done, else the refusal's.
+// The number of an answer: 0 for done, else the refusal's. Stays a function: both `Result` and `u8`
+// are of std, so there is no From.
 pub fn number_of(answer: Answer) -> u8
     ensures { result ≡ number_of answer }
 {

@@ -65,7 +65,8 @@ impl TryFrom<u8> for PixelFormat {
     }
 }
 
-// What the kernels and the checks need to know of a format.
+// What the kernels and the checks need to know of a format. Stays: numbers, as the kernels compare
+// them; "no alpha" and "no plane" need no test of their own.
 #[derive(Clone, Copy)]
 pub struct Layout {
     // of a pixel

@@ -75,7 +75,7 @@ fn replace(table: &[f32], indices: &[u16; 64], block: &mut [f32])
 }
 
 // Replaces every value. A table that has not 4,096 entries is refused, and the values stay.
-// Stays: blocks by place; after `chunks_mut` a proof knows a slice's length, not its elements.
+// Stays: blocks by place. After `chunks_mut` a proof knows a slice's length alone, by its contract.
 pub fn lookup(table: &[f32], values: &mut [f32]) -> Answer
     ensures { L.LookupCall table.now values.old result values.new }
 {

@@ -39,7 +39,7 @@ pub struct Steps {
 }
 
 // Tones a plane in place by one table, all twelve formats. Alpha, chroma and
-// padding stay as they are.
+// padding stay as they are. Its parameters stay apart: "the core first on slice and number".
 pub fn apply_tone_lut(
     plane: &mut [u8],
     step: usize,

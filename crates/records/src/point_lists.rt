@@ -17,7 +17,7 @@ pub enum Edition {
     Two,
 }
 
-// How many bytes a point is.
+// How many bytes a point is. Stays a match: the cases are the paper's.
 pub fn point_bytes(edition: Edition) -> usize
     ensures { result ≡ point_bytes edition }
 {

@@ -65,7 +65,8 @@ fn answer(rt: &(impl Print + AllocGlobal), question: &Question) -> io::Result<()
     println!(rt; "{table} {coarse:016x} {fine:016x} {looked:016x}")
 }
 
-// The stored list, which has fewer questions than this bound.
+// The stored list, which has fewer questions than this bound. Stays in both replays of questions: a
+// closure for what is done with one is no plainer than the loop.
 fn main(rt: HostRuntime) -> io::Result<()> {
     let mut input = rt.stdin();
     for _ in 0..1000 {

@@ -92,7 +92,8 @@ fn tone_picture(rt: &(impl Print + AllocGlobal), question: &Question) -> io::Res
     println!(rt; "{out} {cb} {cr}")
 }
 
-// The stored list, which has fewer questions than this bound.
+// The stored list, which has fewer questions than this bound. Stays in both replays of questions: a
+// closure for what is done with one is no plainer than the loop.
 fn main(rt: HostRuntime) -> io::Result<()> {
     let mut input = rt.stdin();
     for _ in 0..1000 {

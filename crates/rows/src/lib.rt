@@ -20,6 +20,7 @@ pub struct Tables<'a> {
 }
 
 impl<'a> Tables<'a> {
+    // Stays a match: a channel is a number here, as a pixel's bytes lie.
     fn of(self, channel: usize) -> &'a [u8; 256]
         ensures { result.now ≡ by_channel self.entry channel }
     {
@@ -70,9 +71,8 @@ fn tone_eight<const P: usize, const K: usize>(s: &mut [u8], x: usize, tables: Ta
 // Tones as many whole eights of pixels as there are.
 // Stays: a `while` with a count of what is left. LLVM then steps a pointer alone, and a store needs
 // no index register. `for` over the eights takes 125 us for the 86 of this (Gray8, 128 rows of
-// 1,920), and misses the mark of the one-table call in docs/BENCHMARKS.md, 1.00 of the Rust, which
-// this meets by 0.98; `chunks_exact_mut` is as fast, but its contract does not say what the slice
-// ends as.
+// 1,920), half as much again, and misses the mark of the one-table call, 1.00 of the Rust;
+// `chunks_exact_mut` is as fast, but its contract does not say what the slice ends as.
 fn tone_eights<const P: usize, const K: usize>(s: &mut [u8], w: usize, tables: Tables)
     requires { Pixels P K × (length s.old ≡ w * P) }
     ensures { Replaced 0 (row_byte P K (by_channel tables.entry)) 0 ((w - w % 8) * P) s.old s.new }

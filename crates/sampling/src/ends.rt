@@ -16,8 +16,8 @@ fn is_end(x: f32, step: f32, e: usize) -> bool
 // The ends of the pieces but the last, to the front of a row: whether all are right and no segment
 // is too thin. Each end is guessed by a quotient and then looked at, so that nothing need be known
 // of quotients.
-// Stays: a lent row, and no `Option` of a row, which is then copied; document 01 has "arrays of 66
-// floats for x, height, tangent and the solver's rows, made by [0.0; 66]".
+// Stays: a lent row. Whoever lends it has put the end of the last piece there; an `Option` of a row
+// is no plainer, and is copied where it is handed back.
 pub fn guess(knots: &Knots, step: f32, ends: &mut [u32; 66]) -> bool
     ensures { W.Guessed knots.now.xs knots.now.count step result ends.old ends.new }
 {

@@ -29,7 +29,8 @@ pub enum Form {
     Spline,
 }
 
-// The pieces of a curve: its knots, and the numbers at them.
+// The pieces of a curve: its knots, and the numbers at them, in rows: document 01's "arrays of 66
+// floats for x, height, tangent".
 #[derive(Clone, Copy)]
 struct Pieces<'a> {
     knots: &'a Knots,

@@ -10,9 +10,8 @@ use crate::{Drawn, Pieces, position};
 use points::{Knot, Piece};
 
 // The coefficients of the pieces, those of x - x0 and those of its cube, to the fronts of two rows.
-// Stays: two lent rows, and not two handed back by `Knots::per_segment`, which copies them:
-// document 01 has "arrays of 66 floats for x, height, tangent and the solver's rows, made by
-// [0.0; 66]".
+// Stays: one loop makes both. By `Knots::per_segment` there are two, and each piece is opened
+// twice.
 fn coefficients(pieces: Pieces<'_>, c1s: &mut [f32; 66], c3s: &mut [f32; 66])
     ensures first { Stored (first_of pieces.entry) 0 (pieces.entry.knots.now.count - 1) c1s.old
         c1s.new }
@@ -27,6 +26,7 @@ fn coefficients(pieces: Pieces<'_>, c1s: &mut [f32; 66], c3s: &mut [f32; 66])
 }
 
 // Sample v of the piece from the knot a on with these coefficients.
+// Stays: three numbers, of which each comes from a row of its own.
 #[tactic(auto, unfolding(crate::specs::Walk::spline_sample))]
 fn sample(a: Knot, c1: f32, c2: f32, c3: f32, step: f32, v: usize) -> f32
     requires { v ≤ 4096 }

@@ -11,7 +11,7 @@ fn falling(c: u64, d: u64, z: u64) -> u64
     c - d * z / 8388608
 }
 
-// One that rises.
+// One that rises. Stays beside `falling`: a sign is no parameter of whole numbers without one.
 fn rising(c: u64, d: u64, z: u64) -> u64
     requires { (c < 2 ^ 24) × (d < 2 ^ 24) × (z < 2 ^ 23) }
     ensures { result ≤ c + d }

@@ -79,7 +79,8 @@ pub fn third_coefficient(piece: Piece) -> f32
     (piece.q - piece.p) / (6.0 * (piece.b.x - piece.a.x))
 }
 
-// The polynomial with these coefficients, from the knot a on, at x.
+// The polynomial with these coefficients, from the knot a on, at x. Stays: three numbers; whoever
+// samples has them in rows of their own.
 pub fn polynomial_from(a: Knot, c1: f32, c2: f32, c3: f32, x: f32) -> f32
     ensures { result ≡ polynomial_from a c1 c2 c3 x }
 {
@@ -102,7 +103,8 @@ pub fn spline_piece(piece: Piece, x: f32) -> f32
 }
 
 // A slope of a clamped curve, a signed 16-bit number over 256, as a float, in this one place: as a
-// product with 1 / 256, which has the quotient's bits.
+// product with 1 / 256, which has the quotient's bits. Stays beside `height` of points: it is of a
+// signed number.
 pub fn clamped_slope(q: i16) -> f32
     ensures { result ≡ slope_of q }
 {

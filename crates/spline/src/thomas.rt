@@ -61,7 +61,8 @@ pub fn sweep(k: usize, p: Swept, r: Row) -> Swept
     scaled(r.b - r.a * p.above, r.c, r.d - r.a * p.right)
 }
 
-// Back substitution over swept rows, as many as there are unknowns, from the last one on.
+// Back substitution over swept rows, as many as there are unknowns, from the last one on. Stays:
+// two arrays, document 01's "solver's rows".
 pub fn substitute(aboves: &[f32; 66], rights: &[f32; 66], unknowns: &mut [f32])
     requires { length unknowns.old ≤ 66 }
     ensures { unknowns.new ≡ tabulate (length unknowns.old)
