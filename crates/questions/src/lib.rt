@@ -143,3 +143,27 @@ impl<const START: u64, const PRIME: u64, const MASK: u64> fmt::Write for Fnv<STA
         Ok(())
     }
 }
+
+#[cfg(test)]
+mod tests {
+    use super::*;
+
+    // Memory can run out in each of these, which no contract rules out: here it does not.
+    #[test]
+    fn reads_what_there_is(rt: HostRuntime) -> io::Result<()> {
+        let mut input: &[u8] = b"07ff\nrest";
+        let question = Question::<5>::read(rt.alloc(), &mut input)?;
+        let Some(question) = question else {
+            panic!(rt; "no question");
+        };
+        assert_eq!(rt; question.byte(0), 7);
+        assert_eq!(rt; question.byte(1), 255);
+        let two: Option<[u8; 2]> = read_array(rt.alloc(), &mut input)?;
+        assert!(rt; two == Some([b'r', b'e']));
+        let more = read_up_to(rt.alloc(), &mut input, 9)?;
+        assert!(rt; more.as_slice() == b"st".as_slice());
+        let none: Option<[u8; 1]> = read_array(rt.alloc(), &mut input)?;
+        assert!(rt; none.is_none());
+        Ok(())
+    }
+}
