@@ -139,12 +139,16 @@ pub fn tone_rows(plane: &mut [u8], grid: Grid, p: usize, kept: usize, table: &[u
 }
 
 // Copies src to the front of dst.
+// Stays: a loop. `copy_from_slice` calls the C library for each block, also of a row of a few
+// pixels, and the archive then asks its linker for `memmove`.
 pub fn copy_bytes(src: &[u8], dst: &mut [u8])
     requires { length src.now ≤ length dst.old }
     ensures { dst.new ≡ src.now ++ drop (length src.now) dst.old }
 {
     let n = src.len();
-    dst[..n].copy_from_slice(src);
+    for i in 0..n {
+        dst[i] = src[i];
+    }
 }
 
 // Copies w pixels, and tones the copy.
@@ -162,7 +166,8 @@ fn tone_block_into<const P: usize, const K: usize>(
 }
 
 // Tones the row src into the row dst, in blocks of so few pixels that a copied block is still in
-// the processor's cache when it is toned.
+// the processor's cache when it is toned. A row of one block goes past the loop, whose start and
+// end cost more than a narrow row.
 fn tone_row_into<const P: usize, const K: usize>(
     src: &[u8],
     w: usize,
@@ -172,6 +177,10 @@ fn tone_row_into<const P: usize, const K: usize>(
     requires { Pixels P K × (length src.now ≡ w * P) × (length dst.old ≡ w * P) }
     ensures { dst.new ≡ each (row_byte P K (by_channel tables.entry)) src.now }
 {
+    if w <= 128 {
+        tone_block_into::<P, K>(src, w, tables, dst);
+        return;
+    }
     for x in (0..w).step_by(128) {
         let n = (w - x).min(128);
         let at = x * P;

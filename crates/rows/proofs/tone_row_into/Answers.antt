@@ -20,21 +20,21 @@ loop-x-preserved g c =
     stored_end
     (block_next {w = c.args.w} g.row.P _ _ c.loop-x.x c.min-n.result (row_from _ _ _ _)
     (omega arith) (omega arith) (omega arith)
-    (stored_end c.loop-x.invariant (ap pixels (omega arith))) c.tone_block_into.ensures)
+    (stored_end c.loop-x.invariant (ap pixels (omega arith))) c.tone_block_into-in-loop-x.ensures)
     (ap pixels (omega arith))
 
-pub returns : goal.returns
-returns g c =
+pub returns-else-w-le128 : goal.returns-else-w-le128
+returns-else-w-le128 g c =
     row_done _ _ c.loop-x.invariant (omega arith)
     (omega (arith, mul-le-mul_right {m = c.args.w} {n = min c.loop-x.x c.args.w} g.row.P (omega arith)))
 
-pub returns-2 : goal.returns-2
-returns-2 g c =
+pub returns-else-w-le128-2 : goal.returns-else-w-le128-2
+returns-else-w-le128-2 g c =
     let pixels = λ (n : ℕ). n * g.row.P in
     row_done _ _
     (stored_end
     (block_next {w = c.args.w} g.row.P _ _ c.loop-x.x c.min-n.result (row_from _ _ _ _)
     (omega arith) (omega arith) (omega arith)
-    (stored_end c.loop-x.invariant (ap pixels (omega arith))) c.tone_block_into.ensures)
+    (stored_end c.loop-x.invariant (ap pixels (omega arith))) c.tone_block_into-in-loop-x.ensures)
     (ap pixels {y = c.args.w} (omega arith)))
     (omega arith) (omega arith)
