@@ -21,11 +21,11 @@ use Rattle.std.specs.Prelude.{
   get_or,
 }
 use Rattle.std.proofs.Math.ListN as ListN
-use Rattle.arrayvec.specs.ArrayVec.{ArrayVec}
 use Rattle.lists.specs.Tabulate.{tabulate}
 use Rattle.answers.specs.Numbers.{number_of, is_done}
 use Rattle.tables.specs.Tables.{byte_table}
 use Rattle.records.specs.Format.{longest, read_record}
+use Rattle.text.specs.declared.text_bytes.Text as declared
 
 abbrev pub space : ℕ
 space = 32
@@ -75,10 +75,10 @@ printed s =
 
 -- a text and its characters
 abbrev pub Text : Type 0
-Text = ArrayVec ℕ
+Text = declared.Text
 
 abbrev pub text_of : Text → List ℕ
-text_of t = t.items
+text_of t = take t.length t.bytes
 
 -- how many bytes of an input are read: one more than the longest record has, so that a byte behind
 -- a record shows
@@ -89,4 +89,5 @@ input_bytes = longest + 1
 pub record InputText (input : List ℕ) (n : ℕ) (r : Text) : Type 0 where
   pub room : ListN.length input ≡ input_bytes
   pub text : text_of r ≡ printed (take n input)
-  pub length : ListN.length (text_of r) ≤ 768
+  pub length : r.length ≤ 768
+  pub fits : ListN.length (text_of r) ≤ 768

@@ -1,7 +1,7 @@
 // What the program `tonetable` prints for the bytes of a record.
 #![tactic(auto)]
 
-ghost use Rattle.std.specs.Prelude.{◌≡◌, ◌<◌};
+ghost use Rattle.std.specs.Prelude.{◌≡◌, ◌<◌, ◌≤◌, length};
 ghost use Rattle.text.specs.Text.{hexadecimal, behind, table_text, refusal_text, printed};
 ghost use Rattle.text.specs.Text.{text_of, InputText};
 
@@ -9,12 +9,33 @@ use arrayvec::ArrayVec;
 use records::read_set;
 use tables::entries_of;
 
+mod text_bytes;
+
+pub use text_bytes::Text;
+
 // How many bytes of an input are read: one more than the longest record has, so that a byte behind
 // a record shows.
 pub const INPUT: usize = 523;
 
-// A text. The longest is that of a table.
-pub type Text = ArrayVec<u8, 768>;
+impl Text {
+    // The text of these characters.
+    fn of(characters: &ArrayVec<u8, 768>) -> Text
+        ensures { text_of result ≡ characters.now.items }
+    {
+        let mut bytes = [0; 768];
+        let length = characters.len();
+        bytes[..length].copy_from_slice(characters.as_slice());
+        Text { bytes, length }
+    }
+
+    // The characters.
+    pub fn as_slice(&self) -> &[u8]
+        ensures value { result.now ≡ text_of self.now }
+        ensures fits { length result.now ≤ 768 }
+    {
+        &self.bytes[..self.length]
+    }
+}
 
 // The digit of a number below 16.
 // Stays, and a decimal digit is made likewise: the edits `lower_case` and `tens_of_eleven` hold
@@ -44,7 +65,7 @@ fn table_text(table: &[u8; 256]) -> Text
         text.push(digit(v % 16));
         text.push(after(i));
     }
-    text
+    Text::of(&text)
 }
 
 // A refusal with its number, which is below 100.
@@ -59,7 +80,7 @@ fn refusal_text(number: u8) -> Text
     }
     text.push(b'0' + number % 10);
     text.push(b'\n');
-    text
+    Text::of(&text)
 }
 
 // The master's byte table of the set in the record, or the refusal.

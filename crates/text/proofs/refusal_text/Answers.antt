@@ -7,7 +7,7 @@ pub returns : goal.returns
 returns c =
     let n = c.args.number in
     let word = rw (c.unwrap.ensures, c.new-text.ensures) at c.try_extend_from_slice.ensures.ok in
-    rw (c.push-3.ensures.items, c.push-2.ensures.items)
+    rw (c.of.ensures, c.push-3.ensures.items, c.push-2.ensures.items)
     (elim c.if-number-ge10.branch [
       | then-number-ge10 w ↦
           rw (w.text-is, w.push.ensures.items, word, le-ltb n 10 (omega (arith, w.if-number-ge10.true)))

@@ -46,4 +46,5 @@ loop-i-preserved c =
 pub returns : goal.returns
 returns c =
     let all : c.loop-i.i * 3 ≡ 768 = omega arith in
-    rw all at c.loop-i.invariant
+    let put = rw all at c.loop-i.invariant in
+    c.of.ensures ∙ put

@@ -11,5 +11,6 @@ returns c =
     record {
       room = long;
       text = c.text_of.ensures ∙ ap printed (rw c.min.ensures (take_min args.n input_bytes args.input long));
-      length = rw c.text_of.ensures (printed_fits _);
+      length = c.text_of.result.fits;
+      fits = rw c.text_of.ensures (printed_fits _);
     }
