@@ -19,6 +19,7 @@ use Rattle.writing.specs.Encode.{
   encode,
 }
 use Rattle.records.specs.Format.{longest, longest_field}
+use Rattle.writing.specs.declared.TheConstants.{LONGEST_RECORD}
 
 pub pairs_length : (l : List Point) → length (pair_bytes l) ≡ length l * 2
 unfolding pair_bytes
@@ -65,3 +66,7 @@ field_lengths v h = record {
 pub encode_length : (v : View) → Legal Whole v → length (encode v) ≤ longest
 unfolding encode
 encode_length v h = let f = field_lengths v h in simp length-append (omega arith)
+
+-- the code's number is that, and no more
+pub longest_said : LONGEST_RECORD ≡ longest
+longest_said = refl

@@ -27,10 +27,11 @@ use arrayvec::ArrayVec;
 use points::{Curve, Heights};
 use records::kinds::unnamed_kind;
 use sets::{Channel, Curves};
-use tables::{CurveInterpolation, kind_bits};
+use tables::{CurveInterpolation, carried_by, carries_slopes, carries_tension, kind_bits};
 
 // The most bytes that a record has: the map, four lists of a count and 64
-// points, the kind, two slopes.
+// points, the kind, two slopes. That it is no more is `longest_said` of specs/Lengths; a draft asks
+// only for room.
 pub const LONGEST_RECORD: usize = 1 + 4 * (1 + 2 * Curve::LIMIT) + 1 + 4;
 
 // The bytes of a record, as far as they are written.
@@ -79,21 +80,19 @@ fn push_slope(draft: &mut Draft, v: i16)
     draft.push(high);
 }
 
-// What the kind carries. That its slopes are of 16 bits is for the theorems on runs.
+// What the kind carries, as its number says. That its slopes are of 16 bits is for the theorems on
+// runs. No line here is of one kind: a kind that carries what another does needs none.
 fn push_carried(draft: &mut Draft, k: CurveInterpolation)
     requires { Room (carried_bytes k) draft.old }
     ensures { Appended (carried_bytes k) draft.old draft.new × LegalKind k }
 {
-    match k {
-        CurveInterpolation::Cardinal { tension_q8 } => draft.push(tension_q8),
-        CurveInterpolation::ClampedCubic {
-            start_slope_q8,
-            end_slope_q8,
-        } => {
-            push_slope(draft, start_slope_q8);
-            push_slope(draft, end_slope_q8);
-        }
-        _ => {}
+    let number = k.number();
+    let carried = carried_by(k);
+    if carries_tension(number) {
+        draft.push(carried.tension);
+    } else if carries_slopes(number) {
+        push_slope(draft, carried.start);
+        push_slope(draft, carried.end);
     }
 }
 
