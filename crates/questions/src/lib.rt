@@ -13,9 +13,8 @@ use std::io::Read;
 use std::{fmt, io};
 
 // Fills a buffer from its front, as far as the input goes, and answers how many bytes there were.
-// Stays: `tonetable` has this loop too, but stands on no crate of the replays, and its edit
-// `short_read_ends` is of its own; `read_exact` says nothing of what is left where it fails, and
-// `read_to_end` needs the heap.
+// Stays: `tonetable` has this loop too, with an edit of it, and stands on no crate of the replays;
+// `read_exact` says nothing of what is left where it fails, and `read_to_end` needs the heap.
 fn fill<R: Read>(input: &mut R, buffer: &mut [u8]) -> io::Result<usize>
     ensures bound { IfOk result (λ n. n ≤ length buffer.new) }
     ensures front { IfOk result (λ n. IfSome (R.remaining input.old) (λ s.
