@@ -1,35 +1,62 @@
-// What the programs that replay stored questions share: how a question is read, and the digest that
-// stands for a long answer.
+// What the programs that replay stored questions share: how a question is read, how bytes are
+// printed, and the digest that stands for a long answer. Nothing here needs the heap.
 #![tactic(auto)]
 
-ghost use Rattle.std.specs.Prelude.{◌≡◌, ◌+◌, ◌*◌, ◌<◌, ◌≤◌, IfOk, IfSome, take};
+ghost use Rattle.std.specs.Prelude.{◌≡◌, ◌+◌, ◌*◌, ◌<◌, ◌≤◌, IfOk, IfSome, Some, length, min, take};
 ghost use Rattle.std.specs.List.{fold};
-ghost use Rattle.questions.specs.Questions.{digit_value, byte_of, bytes_of, joined, whole};
+ghost use Rattle.questions.specs.Questions.{digit_value, byte_of, bytes_of, in_digits, joined, whole};
+ghost use Rattle.questions.specs.Reading.{Takes};
 
-use std::alloc::Allocator;
+use arrayvec::ArrayVec;
 use std::hash::Hasher;
 use std::io::Read;
 use std::{fmt, io};
 
-// Reads n bytes, or as many as there are. The contract doesn't say what is left of the input, since
-// that of `read_to_end` doesn't say how much of its limit a `Take` has used up.
-pub fn read_up_to<A: Allocator, R: Read>(alloc: A, input: &mut R, n: u64) -> io::Result<Vec<u8, A>>
-    ensures { IfOk result (λ v. IfSome (R.remaining input.old) (λ s. v.items ≡ take n s)) }
+// Fills a buffer from its front, as far as the input goes, and answers how many bytes there were.
+// Stays: `tonetable` has this loop too, with an edit of it, and stands on no crate of the replays;
+// `read_exact` says nothing of what is left where it fails, and `read_to_end` needs the heap.
+fn fill<R: Read>(input: &mut R, buffer: &mut [u8]) -> io::Result<usize>
+    ensures bound { IfOk result (λ n. n ≤ length buffer.new) }
+    ensures front { IfOk result (λ n. IfSome (R.remaining input.old) (λ s.
+        take n buffer.new ≡ take (length buffer.new) s)) }
+    ensures left { Takes (length buffer.new) (R.remaining input.old) (R.remaining input.new) result }
 {
-    let mut bytes = Vec::new(alloc);
-    input.take(n).read_to_end(&mut bytes)?;
-    Ok(bytes)
+    let mut filled: usize = 0;
+    while filled < buffer.len() {
+        let more = input.read(&mut buffer[filled..])?;
+        if more == 0 {
+            return Ok(filled);
+        }
+        filled += more;
+    }
+    Ok(filled)
+}
+
+// Reads n bytes, or as many as there are or as there is room for.
+pub fn read_up_to<const ROOM: usize, R: Read>(
+    input: &mut R,
+    n: usize,
+) -> io::Result<ArrayVec<u8, ROOM>>
+    ensures front { IfOk result (λ v. IfSome (R.remaining input.old) (λ s.
+        v.items ≡ take (min n ROOM) s)) }
+    ensures left { Takes (min n ROOM) (R.remaining input.old) (R.remaining input.new) result }
+{
+    let room = n.min(ROOM);
+    let mut bytes = [0; ROOM];
+    let filled = fill(input, &mut bytes[..room])?;
+    let mut front = ArrayVec::from(bytes);
+    front.truncate(filled);
+    Ok(front)
 }
 
 // Reads N bytes, if there are so many.
-pub fn read_array<const N: usize, A: Allocator, R: Read>(
-    alloc: A,
-    input: &mut R,
-) -> io::Result<Option<[u8; N]>>
-    ensures { IfOk result (λ r. IfSome (R.remaining input.old) (λ s. r ≡ whole N s)) }
+pub fn read_array<const N: usize, R: Read>(input: &mut R) -> io::Result<Option<[u8; N]>>
+    ensures front { IfOk result (λ r. IfSome (R.remaining input.old) (λ s. r ≡ whole N s)) }
+    ensures left { Takes N (R.remaining input.old) (R.remaining input.new) result }
 {
-    let bytes = read_up_to(alloc, input, N as u64)?;
-    Ok(bytes.as_slice().try_into().ok())
+    let mut bytes = [0; N];
+    let filled = fill(input, &mut bytes)?;
+    Ok((filled == N).then_some(bytes))
 }
 
 // The first n of some bytes, or all.
@@ -62,14 +89,12 @@ impl<const LENGTH: usize> Question<LENGTH> {
     ghost use Rattle.std.specs.Option.{option_map};
 
     // The next question, if there is one.
-    pub fn read<A: Allocator, R: Read>(
-        alloc: A,
-        input: &mut R,
-    ) -> io::Result<Option<Question<LENGTH>>>
-        ensures { IfOk result (λ r. IfSome (R.remaining input.old) (λ s.
+    pub fn read<R: Read>(input: &mut R) -> io::Result<Option<Question<LENGTH>>>
+        ensures front { IfOk result (λ r. IfSome (R.remaining input.old) (λ s.
             option_map line_of r ≡ whole LENGTH s)) }
+        ensures left { Takes LENGTH (R.remaining input.old) (R.remaining input.new) result }
     {
-        match read_array(alloc, input)? {
+        match read_array(input)? {
             Some(line) => Ok(Some(Question { line })),
             None => Ok(None),
         }
@@ -94,6 +119,21 @@ impl<const LENGTH: usize> Question<LENGTH> {
             bytes[i] = self.byte(from + i);
         }
         bytes
+    }
+}
+
+// Bytes that print as two hexadecimal digits each, in lower case.
+#[derive(Clone, Copy)]
+pub struct Hexadecimal<'a>(pub &'a [u8]);
+
+impl<'a> fmt::Display for Hexadecimal<'a> {
+    ghost output = { λ h. Some (in_digits h.0.now) };
+
+    fn fmt<W: fmt::Write>(&self, f: &mut fmt::Formatter<W>) -> fmt::Result {
+        for &byte in self.0 {
+            write!(f, "{byte:02x}")?;
+        }
+        Ok(())
     }
 }
 
@@ -147,23 +187,34 @@ impl<const START: u64, const PRIME: u64, const MASK: u64> fmt::Write for Fnv<STA
 #[cfg(test)]
 mod tests {
     use super::*;
+    use arrayvec::ArrayString;
+    use std::fmt::Write;
 
-    // Memory can run out in each of these, which no contract rules out: here it does not.
+    // A body that gives up on every input would meet each of these contracts: here each reads.
     #[test]
     fn reads_what_there_is(rt: HostRuntime) -> io::Result<()> {
         let mut input: &[u8] = b"07ff\nrest";
-        let question = Question::<5>::read(rt.alloc(), &mut input)?;
+        let question = Question::<5>::read(&mut input)?;
         let Some(question) = question else {
             panic!(rt; "no question");
         };
         assert_eq!(rt; question.byte(0), 7);
         assert_eq!(rt; question.byte(1), 255);
-        let two: Option<[u8; 2]> = read_array(rt.alloc(), &mut input)?;
+        let two: Option<[u8; 2]> = read_array(&mut input)?;
         assert!(rt; two == Some([b'r', b'e']));
-        let more = read_up_to(rt.alloc(), &mut input, 9)?;
+        let more: ArrayVec<u8, 9> = read_up_to(&mut input, 9)?;
         assert!(rt; more.as_slice() == b"st".as_slice());
-        let none: Option<[u8; 1]> = read_array(rt.alloc(), &mut input)?;
+        let none: Option<[u8; 1]> = read_array(&mut input)?;
         assert!(rt; none.is_none());
+        Ok(())
+    }
+
+    // The same of what prints.
+    #[test]
+    fn prints_two_digits_a_byte(rt: HostRuntime) -> io::Result<()> {
+        let mut text = ArrayString::<6>::new();
+        write!(text, "{}", Hexadecimal(&[7, 0, 175]))?;
+        assert!(rt; text.as_str() == "0700af");
         Ok(())
     }
 }

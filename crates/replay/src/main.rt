@@ -7,7 +7,7 @@
 #![tactic(auto)]
 
 use points::Curve;
-use questions::Fnv64;
+use questions::{Fnv64, Hexadecimal};
 use std::hash::Hasher;
 use std::{array, io};
 use tables::CurveInterpolation;
@@ -50,11 +50,11 @@ fn values() -> [f32; 256] {
 
 // Prints what a question is answered. A refused call leaves its floats as they are, and they are
 // printed all the same.
-fn answer(rt: &(impl Print + AllocGlobal), question: &Question) -> io::Result<()> {
+fn answer(rt: &impl Print, question: &Question) -> io::Result<()> {
     let curve = curve_of(question);
     let kind = kind_of(question);
     let lut = tables::build_lut(curve, kind);
-    let table = hex::encode(rt.alloc(), lut.table)?;
+    let table = Hexadecimal(&lut.table);
     let mut coarse = [0.0; 256];
     let _ = tables::build_table(curve, kind, &mut coarse);
     let mut fine = [0.0; 4096];
@@ -70,7 +70,7 @@ fn answer(rt: &(impl Print + AllocGlobal), question: &Question) -> io::Result<()
 fn main(rt: HostRuntime) -> io::Result<()> {
     let mut input = rt.stdin();
     for _ in 0..1000 {
-        let Some(question) = Question::read(rt.alloc(), &mut input)? else {
+        let Some(question) = Question::read(&mut input)? else {
             return Ok(());
         };
         answer(&rt, &question)?;

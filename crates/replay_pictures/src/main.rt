@@ -8,7 +8,7 @@ ghost use Rattle.std.specs.Prelude.{◌<◌};
 
 use formats::format_of;
 use pictures::Job;
-use questions::front;
+use questions::{Hexadecimal, front};
 use sets::Curves;
 use std::io;
 
@@ -36,7 +36,7 @@ fn table_of(question: &Question) -> [u8; 256] {
 
 // The call by one table, in place. A plane that is to have more bytes than there are stays, and so
 // does one that is refused.
-fn tone_plane(rt: &(impl Print + AllocGlobal), question: &Question) -> io::Result<()> {
+fn tone_plane(rt: &impl Print, question: &Question) -> io::Result<()> {
     let mut plane: [u8; 240] = question.bytes(75);
     let n = length_at(question, 7);
     if let Some(plane) = plane.get_mut(..n) {
@@ -49,11 +49,11 @@ fn tone_plane(rt: &(impl Print + AllocGlobal), question: &Question) -> io::Resul
             u32::from(question.byte(3)),
         );
     }
-    println!(rt; "{}", hex::encode(rt.alloc(), front(&plane, n))?)
+    println!(rt; "{}", Hexadecimal(front(&plane, n)))
 }
 
 // The set call.
-fn tone_picture(rt: &(impl Print + AllocGlobal), question: &Question) -> io::Result<()> {
+fn tone_picture(rt: &impl Print, question: &Question) -> io::Result<()> {
     let plane: [u8; 240] = question.bytes(75);
     let cb: [u8; 24] = question.bytes(315);
     let cr: [u8; 24] = question.bytes(339);
@@ -83,12 +83,12 @@ fn tone_picture(rt: &(impl Print + AllocGlobal), question: &Question) -> io::Res
     if toned.is_err() {
         return println!(rt; "refused");
     }
-    let out = hex::encode(rt.alloc(), front(&out, length_at(question, 10)))?;
+    let out = Hexadecimal(front(&out, length_at(question, 10)));
     if format.planes_read() != 3 {
         return println!(rt; "{out}");
     }
-    let cb = hex::encode(rt.alloc(), front(&out_cb, length_at(question, 8)))?;
-    let cr = hex::encode(rt.alloc(), front(&out_cr, length_at(question, 9)))?;
+    let cb = Hexadecimal(front(&out_cb, length_at(question, 8)));
+    let cr = Hexadecimal(front(&out_cr, length_at(question, 9)));
     println!(rt; "{out} {cb} {cr}")
 }
 
@@ -97,7 +97,7 @@ fn tone_picture(rt: &(impl Print + AllocGlobal), question: &Question) -> io::Res
 fn main(rt: HostRuntime) -> io::Result<()> {
     let mut input = rt.stdin();
     for _ in 0..1000 {
-        let Some(question) = Question::read(rt.alloc(), &mut input)? else {
+        let Some(question) = Question::read(&mut input)? else {
             return Ok(());
         };
         if question.byte(0) == 0 {

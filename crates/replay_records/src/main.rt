@@ -5,30 +5,18 @@
 #![tactic(auto)]
 
 use answers::number_of;
+use arrayvec::ArrayVec;
 use points::Curve;
-use questions::{Fnv32, front, read_array, read_up_to};
+use questions::{Fnv32, Hexadecimal, front, read_array, read_up_to};
 use sets::{Channel, Curves};
 use std::fmt::Write;
 use std::hash::Hasher;
 use std::io::Read;
 use std::{fmt, io};
-use tables::CurveInterpolation;
+use tables::{CurveInterpolation, carried_by, carries_slopes, carries_tension};
 
 // A longer record ends the list.
-const LONGEST: u16 = 1024;
-
-// Bytes in two digits each.
-#[derive(Clone, Copy)]
-struct Hexadecimal<'a>(&'a [u8]);
-
-impl<'a> fmt::Display for Hexadecimal<'a> {
-    fn fmt<W: fmt::Write>(&self, f: &mut fmt::Formatter<W>) -> fmt::Result {
-        for byte in self.0 {
-            write!(f, "{byte:02x}")?;
-        }
-        Ok(())
-    }
-}
+const LONGEST: usize = 1024;
 
 // The points of a list, an x of two digits and a height of four for each.
 #[derive(Clone, Copy)]
@@ -65,15 +53,16 @@ struct Kind(CurveInterpolation);
 
 impl fmt::Display for Kind {
     fn fmt<W: fmt::Write>(&self, f: &mut fmt::Formatter<W>) -> fmt::Result {
-        write!(f, " K{}", self.0.number())?;
-        match self.0 {
-            CurveInterpolation::Cardinal { tension_q8 } => write!(f, " {tension_q8}"),
-            CurveInterpolation::ClampedCubic {
-                start_slope_q8,
-                end_slope_q8,
-            } => write!(f, " {start_slope_q8} {end_slope_q8}"),
-            _ => Ok(()),
+        let number = self.0.number();
+        let carried = carried_by(self.0);
+        write!(f, " K{number}")?;
+        if carries_tension(number) {
+            return write!(f, " {}", carried.tension);
         }
+        if carries_slopes(number) {
+            return write!(f, " {} {}", carried.start, carried.end);
+        }
+        Ok(())
     }
 }
 
@@ -158,22 +147,22 @@ impl<'a> fmt::Display for Text<'a> {
 }
 
 // The next record in the list, if there is one.
-fn next<R: Read>(rt: &impl AllocGlobal, input: &mut R) -> io::Result<Option<Vec<u8>>> {
-    let Some(length) = read_array(rt.alloc(), input)? else {
+fn next<R: Read>(input: &mut R) -> io::Result<Option<ArrayVec<u8, LONGEST>>> {
+    let Some(length) = read_array(input)? else {
         return Ok(None);
     };
-    let length = u16::from_le_bytes(length);
+    let length = usize::from(u16::from_le_bytes(length));
     if length > LONGEST {
         return Ok(None);
     }
-    let record = read_up_to(rt.alloc(), input, u64::from(length))?;
-    Ok(Some(record).filter(|record| record.len() == usize::from(length)))
+    let record = read_up_to(input, length)?;
+    Ok(Some(record).filter(|record| record.len() == length))
 }
 
 // Prints a line for each record of the stored list, which has far fewer than this bound.
-fn print_list<R: Read>(rt: &(impl Print + AllocGlobal), input: &mut R) -> io::Result<()> {
+fn print_list<R: Read>(rt: &impl Print, input: &mut R) -> io::Result<()> {
     for i in 0..100000 {
-        let Some(record) = next(rt, input)? else {
+        let Some(record) = next(input)? else {
             return Ok(());
         };
         println!(rt; "{i}: {}", Text(record.as_slice()))?;

@@ -10,7 +10,7 @@ use text::INPUT;
 
 // How many bytes of an input are taken from the list at most: those that are read, and 4096 behind
 // them that are not.
-const TAKEN: u64 = INPUT as u64 + 4096;
+const TAKEN: usize = INPUT + 4096;
 
 // Prints the text of an input's first bytes.
 fn print_text(rt: &impl Print, bytes: &[u8]) -> io::Result<()> {
@@ -22,12 +22,12 @@ fn print_text(rt: &impl Print, bytes: &[u8]) -> io::Result<()> {
 }
 
 // The next input of the list, if there is one.
-fn next<R: Read>(rt: &(impl Print + AllocGlobal), list: &mut R, i: usize) -> io::Result<bool> {
-    let Some(length) = read_array(rt.alloc(), list)? else {
+fn next<R: Read>(rt: &impl Print, list: &mut R, i: usize) -> io::Result<bool> {
+    let Some(length) = read_array(list)? else {
         return Ok(false);
     };
     let n = u16::from_le_bytes(length);
-    let bytes = read_up_to(rt.alloc(), list, TAKEN.min(u64::from(n)))?;
+    let bytes = read_up_to::<TAKEN, R>(list, usize::from(n))?;
     println!(rt; "{i}, bytes: {n}")?;
     print_text(rt, bytes.as_slice())?;
     Ok(true)
