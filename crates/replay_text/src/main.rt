@@ -8,9 +8,8 @@ use std::io;
 use std::io::Read;
 use text::INPUT;
 
-// How many bytes of an input are taken from the list at most: those that are read, and 4096 behind
-// them that are not.
-const TAKEN: usize = INPUT + 4096;
+// How many bytes behind those that are read are taken from the list at most.
+const SKIPPED: usize = 4096;
 
 // Prints the text of an input's first bytes.
 fn print_text(rt: &impl Print, bytes: &[u8]) -> io::Result<()> {
@@ -27,7 +26,10 @@ fn next<R: Read>(rt: &impl Print, list: &mut R, i: usize) -> io::Result<bool> {
         return Ok(false);
     };
     let n = u16::from_le_bytes(length);
-    let bytes = read_up_to::<TAKEN, R>(list, usize::from(n))?;
+    let bytes = read_up_to::<INPUT, R>(list, usize::from(n))?;
+    if usize::from(n) > INPUT {
+        read_up_to::<SKIPPED, R>(list, usize::from(n) - INPUT)?;
+    }
     println!(rt; "{i}, bytes: {n}")?;
     print_text(rt, bytes.as_slice())?;
     Ok(true)
