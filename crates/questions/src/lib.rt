@@ -49,6 +49,16 @@ pub fn read_up_to<const ROOM: usize, R: Read>(
     Ok(front)
 }
 
+// Reads past n bytes, or as many as there are, of 4,096 at most.
+pub fn skip<R: Read>(input: &mut R, n: usize) -> io::Result<()>
+    ensures { Takes (min n 4096) (R.remaining input.old) (R.remaining input.new) result }
+{
+    let past = n.min(4096);
+    let mut bytes = [0; 4096];
+    fill(input, &mut bytes[..past])?;
+    Ok(())
+}
+
 // Reads N bytes, if there are so many.
 pub fn read_array<const N: usize, R: Read>(input: &mut R) -> io::Result<Option<[u8; N]>>
     ensures front { IfOk result (λ r. IfSome (R.remaining input.old) (λ s. r ≡ whole N s)) }

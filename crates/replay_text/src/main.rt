@@ -3,13 +3,10 @@
 // low byte first, and stdout, what this program must print: each input's number, length and text.
 #![tactic(auto)]
 
-use questions::{read_array, read_up_to};
+use questions::{read_array, read_up_to, skip};
 use std::io;
 use std::io::Read;
 use text::INPUT;
-
-// How many bytes behind those that are read are taken from the list at most.
-const SKIPPED: usize = 4096;
 
 // Prints the text of an input's first bytes.
 fn print_text(rt: &impl Print, bytes: &[u8]) -> io::Result<()> {
@@ -20,7 +17,8 @@ fn print_text(rt: &impl Print, bytes: &[u8]) -> io::Result<()> {
     rt.write_all(text.as_slice())
 }
 
-// The next input of the list, if there is one.
+// The next input of the list, if there is one. Of the bytes behind those that are read it takes as
+// many as `skip` does.
 fn next<R: Read>(rt: &impl Print, list: &mut R, i: usize) -> io::Result<bool> {
     let Some(length) = read_array(list)? else {
         return Ok(false);
@@ -28,7 +26,7 @@ fn next<R: Read>(rt: &impl Print, list: &mut R, i: usize) -> io::Result<bool> {
     let n = u16::from_le_bytes(length);
     let bytes = read_up_to::<INPUT, R>(list, usize::from(n))?;
     if usize::from(n) > INPUT {
-        read_up_to::<SKIPPED, R>(list, usize::from(n) - INPUT)?;
+        skip(list, usize::from(n) - INPUT)?;
     }
     println!(rt; "{i}, bytes: {n}")?;
     print_text(rt, bytes.as_slice())?;
