@@ -1,6 +1,7 @@
 -- What a question means, how bytes are printed, and the step of a digest.
 use Rattle.std.specs.Prelude.{ℕ, ◌+◌, ◌-◌, ◌*◌, ◌/◌, ◌%◌, ◌^◌, ◌&&◌, nat_le, if◌then◌else◌}
-use Rattle.std.specs.Prelude.{false, List, [], ◌∷◌, map, length, take, slice_index, bit_and, bit_xor}
+use Rattle.std.specs.Prelude.{false, List, [], ◌∷◌, map, length, take, slice_index}
+use Rattle.std.specs.Prelude.{bit_and, bit_xor}
 use Rattle.std.specs.Prelude.{Option, Some, None}
 use Rattle.std.specs.Fmt.{digit_glyph}
 use Rattle.std.specs.List.{flat_map, range_with_len}

@@ -2,15 +2,43 @@
 // printed, and the digest that stands for a long answer. Nothing here needs the heap.
 #![tactic(auto)]
 
-ghost use Rattle.std.specs.Prelude.{◌≡◌, ◌+◌, ◌*◌, ◌<◌, ◌≤◌, IfOk, IfSome, Some, length, min, take};
+ghost use Rattle.std.specs.Prelude.{◌≡◌, ◌≢◌, ◌+◌, ◌*◌, ◌<◌, ◌≤◌};
+ghost use Rattle.std.specs.Prelude.{IfOk, IfErr, OnErr, IfSome, Some, length, min, take};
+ghost use Rattle.std.specs.Io.{ReadsAtMost};
+ghost use Rattle.std.specs.Io.KnownBytes.{Consumes, IsAtEnd, Keeps};
+ghost use Rattle.std.specs.IoError.{error_kind};
 ghost use Rattle.std.specs.List.{fold};
-ghost use Rattle.questions.specs.Questions.{digit_value, byte_of, bytes_of, in_digits, joined, whole};
+ghost use Rattle.questions.specs.Questions.{digit_value, byte_of, bytes_of, in_digits};
+ghost use Rattle.questions.specs.Questions.{joined, whole};
 ghost use Rattle.questions.specs.Reading.{Takes};
 
 use arrayvec::ArrayVec;
 use std::hash::Hasher;
-use std::io::Read;
+use std::io::{ErrorKind, Read};
 use std::{fmt, io};
+
+// One read, which is tried again where a signal interrupts it.
+fn read_retried<R: Read>(input: &mut R, buffer: &mut [u8]) -> io::Result<usize>
+    ensures bound { ReadsAtMost result buffer.new }
+    ensures ok { IfOk result (λ n.
+        Consumes (R.remaining input.old) (R.remaining input.new) (take n buffer.new)) }
+    ensures end { IfOk result (λ n.
+        n ≡ 0 → 0 < length buffer.old → IsAtEnd (R.remaining input.new)) }
+    ensures err { OnErr result (Keeps (R.remaining input.old) (R.remaining input.new)) }
+    ensures retried { IfErr result (λ e. error_kind e ≢ ErrorKind.Interrupted) }
+{
+    for _ in 0..u64::MAX {
+        match input.read(buffer) {
+            Ok(n) => return Ok(n),
+            Err(error) => {
+                if error.kind() != ErrorKind::Interrupted {
+                    return Err(error);
+                }
+            }
+        }
+    }
+    Err(io::Error::from(ErrorKind::TimedOut))
+}
 
 // Fills a buffer from its front, as far as the input goes, and answers how many bytes there were.
 // Stays: `tonetable` has this loop too, with an edit of it, and stands on no crate of the replays;
@@ -23,7 +51,7 @@ fn fill<R: Read>(input: &mut R, buffer: &mut [u8]) -> io::Result<usize>
 {
     let mut filled: usize = 0;
     while filled < buffer.len() {
-        let more = input.read(&mut buffer[filled..])?;
+        let more = read_retried(input, &mut buffer[filled..])?;
         if more == 0 {
             return Ok(filled);
         }

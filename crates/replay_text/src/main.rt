@@ -25,8 +25,8 @@ fn next<R: Read>(rt: &impl Print, list: &mut R, i: usize) -> io::Result<bool> {
     };
     let n = u16::from_le_bytes(length);
     let bytes = read_up_to::<INPUT, R>(list, usize::from(n))?;
-    if usize::from(n) > INPUT {
-        skip(list, usize::from(n) - INPUT)?;
+    if bytes.len() < usize::from(n) {
+        skip(list, usize::from(n) - bytes.len())?;
     }
     println!(rt; "{i}, bytes: {n}")?;
     print_text(rt, bytes.as_slice())?;

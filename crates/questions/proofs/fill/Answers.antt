@@ -27,8 +27,8 @@ loop-filled-preserved g c =
     let xs = c.loop-filled.buffer in
     let before = c.loop-filled.invariant in
     let read = c.in_ok-more.ensures in
-    let joined = take_put a (length xs - a) c.in_ok-more.more xs c.read.new.buf before.1 read.bound.0 in (
+    let joined = take_put a (length xs - a) c.in_ok-more.more xs c.read_retried.new.buffer before.1 read.bound.0 in (
       search rules,
       search rules,
-      subst (Consumes _ _) joined (Consumes-trans _ _ _ _ _ before.2 read.bytes.0),
+      subst (Consumes _ _) joined (Consumes-trans _ _ _ _ _ before.2 read.ok),
     )
