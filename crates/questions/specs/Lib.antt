@@ -4,5 +4,5 @@ pub mod Questions
 pub mod Question
 -- what a read takes of an input
 pub mod Reading
--- digits there and back, computed
+-- computed cases
 pub mod Examples
