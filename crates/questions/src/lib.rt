@@ -1,5 +1,6 @@
 // What the programs that replay stored questions share: how a question is read, how bytes are
-// printed, and the digest that stands for a long answer. Nothing here needs the heap.
+// printed, and the digest that stands for a long answer. Nothing here needs the heap but
+// `read_up_to`, whose caller names the memory.
 #![tactic(auto)]
 
 ghost use Rattle.std.specs.Prelude.{◌≡◌, ◌≢◌, ◌+◌, ◌*◌, ◌<◌, ◌≤◌};
@@ -13,6 +14,7 @@ ghost use Rattle.questions.specs.Questions.{joined, whole};
 ghost use Rattle.questions.specs.Reading.{Takes};
 
 use arrayvec::ArrayVec;
+use std::alloc::Allocator;
 use std::hash::Hasher;
 use std::io::{ErrorKind, Read};
 use std::{fmt, io};
@@ -61,7 +63,7 @@ fn fill<R: Read>(input: &mut R, buffer: &mut [u8]) -> io::Result<usize>
 }
 
 // Reads n bytes, or as many as there are or as there is room for.
-pub fn read_up_to<const ROOM: usize, R: Read>(
+pub fn read_array_vec<const ROOM: usize, R: Read>(
     input: &mut R,
     n: usize,
 ) -> io::Result<ArrayVec<u8, ROOM>>
@@ -75,6 +77,23 @@ pub fn read_up_to<const ROOM: usize, R: Read>(
     let mut front = ArrayVec::from(bytes);
     front.truncate(filled);
     Ok(front)
+}
+
+// Reads n bytes, or as many as there are, into memory of the caller's.
+pub fn read_up_to<A: Allocator, R: Read>(alloc: A, input: &mut R, n: u64) -> io::Result<Vec<u8, A>>
+    ensures front { IfOk result (λ v. IfSome (R.remaining input.old) (λ s. v.items ≡ take n s)) }
+    ensures left { Takes n (R.remaining input.old) (R.remaining input.new) result }
+{
+    let mut bytes = Vec::new(alloc);
+    for at in (0..n).step_by(4096) {
+        let part = (n - at).min(4096);
+        let piece: ArrayVec<u8, 4096> = read_array_vec(input, part as usize)?;
+        bytes.extend_from_slice(piece.as_slice())?;
+        if piece.len() < part as usize {
+            return Ok(bytes);
+        }
+    }
+    Ok(bytes)
 }
 
 // Reads past n bytes, or as many as there are, of 4,096 at most.
@@ -240,10 +259,32 @@ mod tests {
         assert_eq!(rt; question.byte(1), 255);
         let two: Option<[u8; 2]> = read_array(&mut input)?;
         assert!(rt; two == Some([b'r', b'e']));
-        let more: ArrayVec<u8, 9> = read_up_to(&mut input, 9)?;
+        let more: ArrayVec<u8, 9> = read_array_vec(&mut input, 9)?;
         assert!(rt; more.as_slice() == b"st".as_slice());
         let none: Option<[u8; 1]> = read_array(&mut input)?;
         assert!(rt; none.is_none());
+        Ok(())
+    }
+
+    // Memory can run out in `read_up_to`, which no contract rules out: here it does not, for fewer
+    // bytes than a piece has, for none, for two whole pieces, and for more than there are.
+    #[test]
+    fn reads_into_memory(rt: HostRuntime) -> io::Result<()> {
+        let mut bytes = [0; 10000];
+        for i in 0..10000 {
+            bytes[i] = (i % 251) as u8;
+        }
+        let mut input: &[u8] = &bytes;
+        let few = read_up_to(rt.alloc(), &mut input, 9)?;
+        assert!(rt; few.as_slice() == &bytes[..9]);
+        let none = read_up_to(rt.alloc(), &mut input, 0)?;
+        assert!(rt; none.is_empty());
+        let pieces = read_up_to(rt.alloc(), &mut input, 8192)?;
+        assert!(rt; pieces.as_slice() == &bytes[9..8201]);
+        let rest = read_up_to(rt.alloc(), &mut input, u64::MAX)?;
+        assert!(rt; rest.as_slice() == &bytes[8201..]);
+        let end = read_up_to(rt.alloc(), &mut input, 1)?;
+        assert!(rt; end.is_empty());
         Ok(())
     }
 

@@ -7,7 +7,7 @@
 use answers::number_of;
 use arrayvec::ArrayVec;
 use points::Curve;
-use questions::{Fnv32, Hexadecimal, front, read_array, read_up_to};
+use questions::{Fnv32, Hexadecimal, front, read_array, read_array_vec};
 use sets::{Channel, Curves};
 use std::fmt::Write;
 use std::hash::Hasher;
@@ -155,7 +155,7 @@ fn next<R: Read>(input: &mut R) -> io::Result<Option<ArrayVec<u8, LONGEST>>> {
     if length > LONGEST {
         return Ok(None);
     }
-    let record = read_up_to(input, length)?;
+    let record = read_array_vec(input, length)?;
     Ok(Some(record).filter(|record| record.len() == length))
 }
 

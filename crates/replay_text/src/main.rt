@@ -3,7 +3,7 @@
 // low byte first, and stdout, what this program must print: each input's number, length and text.
 #![tactic(auto)]
 
-use questions::{read_array, read_up_to, skip};
+use questions::{read_array, read_array_vec, skip};
 use std::io;
 use std::io::Read;
 use text::INPUT;
@@ -24,7 +24,7 @@ fn next<R: Read>(rt: &impl Print, list: &mut R, i: usize) -> io::Result<bool> {
         return Ok(false);
     };
     let n = u16::from_le_bytes(length);
-    let bytes = read_up_to::<INPUT, R>(list, usize::from(n))?;
+    let bytes = read_array_vec::<INPUT, R>(list, usize::from(n))?;
     if bytes.len() < usize::from(n) {
         skip(list, usize::from(n) - bytes.len())?;
     }
