@@ -85,11 +85,11 @@ pub fn read_up_to<A: Allocator, R: Read>(alloc: A, input: &mut R, n: u64) -> io:
     ensures left { Takes n (R.remaining input.old) (R.remaining input.new) result }
 {
     let mut bytes = Vec::new(alloc);
-    for at in (0..n).step_by(4096) {
-        let part = (n - at).min(4096);
-        let piece: ArrayVec<u8, 4096> = read_array_vec(input, part as usize)?;
+    for at in (0..n).step_by(1024) {
+        let part = (n - at).min(1024) as usize;
+        let piece: ArrayVec<u8, 1024> = read_array_vec(input, part)?;
         bytes.extend_from_slice(piece.as_slice())?;
-        if piece.len() < part as usize {
+        if piece.len() < part {
             return Ok(bytes);
         }
     }
@@ -279,10 +279,10 @@ mod tests {
         assert!(rt; few.as_slice() == &bytes[..9]);
         let none = read_up_to(rt.alloc(), &mut input, 0)?;
         assert!(rt; none.is_empty());
-        let pieces = read_up_to(rt.alloc(), &mut input, 8192)?;
-        assert!(rt; pieces.as_slice() == &bytes[9..8201]);
+        let pieces = read_up_to(rt.alloc(), &mut input, 2048)?;
+        assert!(rt; pieces.as_slice() == &bytes[9..2057]);
         let rest = read_up_to(rt.alloc(), &mut input, u64::MAX)?;
-        assert!(rt; rest.as_slice() == &bytes[8201..]);
+        assert!(rt; rest.as_slice() == &bytes[2057..]);
         let end = read_up_to(rt.alloc(), &mut input, 1)?;
         assert!(rt; end.is_empty());
         Ok(())

@@ -1,5 +1,5 @@
 -- `read_up_to`: a piece goes behind the bytes that are there, and a short one is the last.
-use Rattle.std.proofs.Common.{arith, ◌≡◌, ℕ, ◌+◌, ◌<◌, ◌≤◌, List, ◌++◌, length, min, take, drop}
+use Rattle.std.proofs.Common.{arith, ◌≡◌, ℕ, ◌+◌, ◌<◌, ◌≤◌, List, ◌++◌, length, take, drop}
 use Rattle.std.proofs.Common.{Option, None, Some, IfSome, Result, Ok, Err, IsErr}
 use Rattle.std.proofs.Common.{refl, ap, sym, ◌∙◌, subst, take-add, drop-drop, take_all}
 use Rattle.std.proofs.lemmas.Bool.{false≢true}
@@ -8,7 +8,7 @@ use Rattle.questions.specs.Reading.{IsPast, Takes}
 use Rattle.questions.proofs.read_up_to.Goals as goal
 use Rattle.questions.proofs.read_up_to.Goals.{
   else-loop-at-test,
-  then-loop-at-test+in_ok-piece+in_ok-extend_from_slice+else-len-part+else-n-at-gt4096,
+  then-loop-at-test+in_ok-piece+in_ok-extend_from_slice+else-len-part+else-n-at-gt1024,
 }
 
 -- xs are the first n bytes, or all
@@ -59,27 +59,25 @@ pub returns-in_err-extend_from_slice-clause-left :
     goal.returns-in_err-extend_from_slice-clause-left
 returns-in_err-extend_from_slice-clause-left g c =
     failed _ _ _ _ _ c.from_residual-in_err-extend_from_slice.ensures.0 (omega arith)
-    (past_both _ (min c.min-part.result 4096) _ refl _ _ _
+    (past_both _ _ _ refl _ _ _
     c.loop-at.invariant.2 c.in_ok-piece.ensures.left)
 
 pub returns-then-len-part-clause-front : goal.returns-then-len-part-clause-front
 returns-then-len-part-clause-front g c =
-    let m = min c.min-part.result 4096 in
-    all_first _ m _ _ _ _ (omega arith) (omega arith) _
+    all_first _ _ _ _ _ _ (omega arith) (omega arith) _
     c.loop-at.invariant.2 c.in_ok-piece.ensures.front
-    (first_both _ m _ refl _ _ _ _
+    (first_both _ _ _ refl _ _ _ _
     (rw (c.in_ok-extend_from_slice.ensures.items, c.as_slice.ensures.value) refl) _
     c.loop-at.invariant.2 c.loop-at.invariant.1 c.in_ok-piece.ensures.front)
 
 pub loop-at-preserved : goal.loop-at-preserved
-loop-at-preserved g c =
-    let m = min c.min-part.result 4096 in (
-      omega arith,
-      first_both _ m _ (omega arith) _ _ _ _
-          (rw (c.in_ok-extend_from_slice.ensures.items, c.as_slice.ensures.value) refl) _
-          c.loop-at.invariant.2 c.loop-at.invariant.1 c.in_ok-piece.ensures.front,
-      past_both _ m _ (omega arith) _ _ _ c.loop-at.invariant.2 c.in_ok-piece.ensures.left,
-    )
+loop-at-preserved g c = (
+  omega arith,
+  first_both _ _ _ (omega arith) _ _ _ _
+      (rw (c.in_ok-extend_from_slice.ensures.items, c.as_slice.ensures.value) refl) _
+      c.loop-at.invariant.2 c.loop-at.invariant.1 c.in_ok-piece.ensures.front,
+  past_both _ _ _ (omega arith) _ _ _ c.loop-at.invariant.2 c.in_ok-piece.ensures.left,
+)
 
 pub returns-clause-front : goal.returns-clause-front
 returns-clause-front g c =
@@ -89,8 +87,8 @@ returns-clause-front g c =
           rw w.bytes-is
           (subst (λ k. AreFirst k (g.R.Read.remaining c.args.input.now) c.loop-at.bytes.items) all
           c.loop-at.invariant.1)
-      | then-loop-at-test+in_ok-piece+in_ok-extend_from_slice+else-len-part+else-n-at-gt4096 w ↦
-          first_both _ (min w.min-part.result 4096) _ (omega arith) _ _ _ _
+      | then-loop-at-test+in_ok-piece+in_ok-extend_from_slice+else-len-part+else-n-at-gt1024 w ↦
+          first_both _ _ _ (omega arith) _ _ _ _
           (rw (w.bytes-is, w.in_ok-extend_from_slice.ensures.items, w.as_slice.ensures.value) refl)
           _ c.loop-at.invariant.2 c.loop-at.invariant.1 w.in_ok-piece.ensures.front
     ]
